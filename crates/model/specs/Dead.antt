@@ -1,0 +1,36 @@
+-- Locally dead modes: "A mode is locally dead when, at some pair, Pre or Post is above K."
+use Prim.Native.Nat.{ℕ, _<_}
+use mathlib.Core.Bool.{Bool, true, false, _||_}
+use mathlib.Core.Option.{Option, none, some, Option·map}
+use mathlib.Core.Logic.{_⊎_}
+use Rattle.model.specs.declared.Pair.{Pair}
+use Rattle.model.specs.declared.Mode.{Mode}
+use Rattle.model.specs.First.{first, lowest}
+use Rattle.model.specs.Numbers.{ℕ∞, Above, above}
+use Rattle.model.specs.Rows.{Entry}
+use Rattle.model.specs.Nets.{PNet, pairs, modes, pairNo, modeNo, K, row}
+
+abbrev pub Kills : Entry → ℕ∞ → Type 0
+Kills e k = Above (e .pre) k ⊎ Above (e .post) k
+
+abbrev pub kills : Entry → ℕ∞ → Bool
+kills e k = above (e .pre) k || above (e .post) k
+
+-- the lowest pair that makes a mode locally dead
+unfoldable pub deadPair : PNet → Mode → Option ℕ
+deadPair net t = lowest (pairs net) (λ p. kills (row net t p) (K net p)) (λ p. p)
+
+abbrev pub found : Option ℕ → Bool
+found none = false
+found (some p) = true
+
+unfoldable pub isDead : PNet → Mode → Bool
+isDead net t = found (deadPair net t)
+
+pub record DeadMode : Type 0 where
+  pub mode : Mode
+  pub pair : Pair
+
+-- "its lowest locally dead mode with the lowest pair that makes it so, or none"
+unfoldable pub firstDead : PNet → Option DeadMode
+firstDead net = first (modes net) (λ t. Option·map (λ p. record { mode = modeNo t; pair = pairNo p }) (deadPair net (modeNo t)))

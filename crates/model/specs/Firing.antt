@@ -1,0 +1,63 @@
+-- Firing one mode: refusals 6 and 11 to 14, and the marking after (document 01, "Pairs, modes and the firing rule").
+use Prim.Native.Nat.{ℕ, zero, suc, _+_, _-_}
+use mathlib.Core.Bool.{Bool}
+use mathlib.Core.List.{List, [], _∷_, _++_}
+use mathlib.Core.Option.{Option}
+use lib.Dec.{leb}
+use Rattle.model.specs.declared.Mode.{Mode}
+use Rattle.model.specs.declared.Thing.{Thing}
+use Rattle.model.specs.declared.Why.{Why}
+use Rattle.model.specs.declared.Why.the-variants.{Lacking, OverCapacity, Inhibited, OverLimit}
+use Rattle.model.specs.declared.Fault.the-variants.{NotThere, Stopped}
+use Rattle.model.specs.declared.Refusal.{Refusal}
+use Rattle.model.specs.First.{_▸_, onlyIf, lowest}
+use Rattle.model.specs.Numbers.{ℕ∞, fin, Above, above, limit}
+use Rattle.model.specs.Rows.{Entry, Row, Capacities, Counts}
+use Rattle.model.specs.Nets.{PNet, pairs, modes, pairNo, K, count, row}
+
+-- "Firing gives M - Pre + Post."
+abbrev pub after : Entry → ℕ → ℕ
+after e m = m - e .pre + e .post
+
+-- What stops a mode at one pair, where it has e, the capacity is k and the count m: the refusal table's own words, and their test.
+abbrev pub Stops : Why → Entry → ℕ∞ → ℕ → Type 0
+Stops Lacking e k m = Above (e .pre) (fin m)
+Stops OverCapacity e k m = Above (m + e .post) k
+Stops Inhibited e k m = Above m (e .inhibitor)
+Stops OverLimit e k m = Above (after e m) (fin limit)
+
+abbrev pub stops : Why → Entry → ℕ∞ → ℕ → Bool
+stops Lacking e k m = above (e .pre) (fin m)
+stops OverCapacity e k m = above (m + e .post) k
+stops Inhibited e k m = above m (e .inhibitor)
+stops OverLimit e k m = above (after e m) (fin limit)
+
+abbrev pub stopped : Thing → Why → ℕ → Refusal
+stopped thing why p = record { thing = thing; fault = Stopped why (pairNo p) }
+
+module _ (thing : Thing) (n : ℕ) (K : Capacities) (row : Row) (M : Counts) where
+  -- each of 11 to 14 names its lowest pair
+  abbrev pub lowestStop : Why → Option Refusal
+  lowestStop why = lowest n (λ p. stops why (row p) (K p) (M p)) (stopped thing why)
+
+  -- the three conditions, source document 000's rule
+  unfoldable pub ruleRefusal : Option Refusal
+  ruleRefusal = lowestStop Lacking ▸ lowestStop OverCapacity ▸ lowestStop Inhibited
+
+  -- "only refusal 14 is a limit added here"
+  unfoldable pub rowRefusal : Option Refusal
+  rowRefusal = ruleRefusal ▸ lowestStop OverLimit
+
+-- "then the mode (6, 11 over all pairs, 12, 13, 14)"
+unfoldable pub modeRefusal : Thing → PNet → Mode → List ℕ → Option Refusal
+modeRefusal thing net t m =
+    onlyIf (leb (modes net) (t .0)) (record { thing = thing; fault = NotThere })
+    ▸ rowRefusal thing (pairs net) (K net) (row net t) (count m)
+
+-- f 0, f 1, .. up to f (n - 1)
+unfoldable pub table : {A : Type 0} → ℕ → (ℕ → A) → List A
+table zero f = []
+table (suc n) f = table n f ++ f n ∷ []
+
+unfoldable pub fired : PNet → Mode → List ℕ → List ℕ
+fired net t m = table (pairs net) (λ p. after (row net t p) (count m p))

@@ -1,0 +1,14 @@
+pub mod Promises
+pub mod Edges
+pub mod Billington
+pub mod Numbers
+pub mod First
+pub mod Refusals
+pub mod Rows
+pub mod Nets
+pub mod WellFormed
+pub mod Markings
+pub mod Firing
+pub mod Runs
+pub mod Figures
+pub mod Dead

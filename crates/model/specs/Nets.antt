@@ -1,0 +1,62 @@
+-- A P-net of document 01: places with colours, transitions with modes, K and the first marking of each pair, and the arcs.
+use Prim.Native.Nat.{ℕ, _+_, _≤_, _<_}
+use mathlib.Core.Path.{_≡_}
+use mathlib.Core.Bool.{Bool, cond, _&&_}
+use mathlib.Core.List.{List, [], _∷_}
+use mathlib.Core.Logic.{_⊎_, _≢_}
+use lib.Dec.{eqb}
+use lib.ListN.{length, getD}
+use Rattle.model.specs.declared.Pair.{Pair}
+use Rattle.model.specs.declared.Mode.{Mode}
+use Rattle.model.specs.Numbers.{ℕ∞, ∞, _≤∞_, limit}
+use Rattle.model.specs.Rows.{Entry, noArc, Row, Capacities, Counts}
+
+pub record NetArc : Type 0 where
+  pub mode : Mode
+  pub pair : Pair
+  pub entry : Entry
+
+pub record PNet : Type 0 where
+  pub colours : List ℕ
+  pub modesOf : List ℕ
+  pub capacity : List ℕ∞
+  pub start : List ℕ
+  pub arcs : List NetArc
+
+-- pairs and modes "are numbered from 0 across the whole net, place by place and transition by transition"
+abbrev pub total : List ℕ → ℕ
+total [] = 0
+total (c ∷ cs) = c + total cs
+
+abbrev pub pairs : PNet → ℕ
+pairs net = total (net .colours)
+
+abbrev pub modes : PNet → ℕ
+modes net = total (net .modesOf)
+
+abbrev pub pairNo : ℕ → Pair
+pairNo p = record { 0 = p }
+
+abbrev pub modeNo : ℕ → Mode
+modeNo t = record { 0 = t }
+
+abbrev pub K : PNet → Capacities
+K net p = getD (net .capacity) p ∞
+
+abbrev pub count : List ℕ → Counts
+count marking p = getD marking p 0
+
+-- the k-th arc
+abbrev pub arcNo : List NetArc → ℕ → NetArc
+arcNo arcs k = getD arcs k (record { mode = modeNo 0; pair = pairNo 0; entry = noArc })
+
+-- "At each mode and pair stand Pre, Post and an inhibitor I": what the arcs write there, or no arc
+abbrev pub stands : NetArc → Mode → ℕ → Bool
+stands a t p = eqb (a .mode .0) (t .0) && eqb (a .pair .0) p
+
+unfoldable pub entryAt : List NetArc → Mode → Row
+entryAt [] t p = noArc
+entryAt (a ∷ arcs) t p = cond (stands a t p) (a .entry) (entryAt arcs t p)
+
+abbrev pub row : PNet → Mode → Row
+row net t = entryAt (net .arcs) t

@@ -1,0 +1,110 @@
+-- What is promised of the model: open this file first. Each statement is a type; docs/ARCHITECTURE.md names the one term of proofs/ that has it.
+-- The definitions that a statement uses are in the file that its `use` line names, in the words of document 01 and source document 000.
+use Prim.Native.Nat.{ℕ, _+_, _≤_, _<_}
+use mathlib.Core.Path.{_≡_}
+use mathlib.Core.Bool.{true}
+use mathlib.Core.List.{List, [], _∷_}
+use mathlib.Core.Logic.{_↔_, _≢_}
+use mathlib.Core.Option.{Option, none, some}
+use lib.ListN.{length, take, getD}
+use lib.IntN.{ℤ, _+ℤ_}
+use Rattle.model.specs.declared.Mode.{Mode}
+use Rattle.model.specs.declared.Thing.{Thing}
+use Rattle.model.specs.declared.Thing.the-variants.{Movements}
+use Rattle.model.specs.declared.Why.{Why}
+use Rattle.model.specs.declared.Why.the-variants.{Lacking, OverCapacity, Inhibited, OverLimit}
+use Rattle.model.specs.declared.Answer.{Answer}
+use Rattle.model.specs.First.{Lowest, NoneBelow}
+use Rattle.model.specs.Refusals.{answer, number, thing, position, thingNumber}
+use Rattle.model.specs.Rows.{Row, Capacities, Counts}
+use Rattle.model.specs.Billington.{Enables, Follows}
+use Rattle.model.specs.Nets.{PNet, pairs, modes, pairNo, modeNo, K, count, row}
+use Rattle.model.specs.Markings.{Marking, markingRefusal}
+use Rattle.model.specs.Firing.{Stops, ruleRefusal, modeRefusal, fired}
+use Rattle.model.specs.Runs.{run, certificateRefusal}
+use Rattle.model.specs.Figures.{figure, change, changes}
+use Rattle.model.specs.Dead.{Kills, isDead, firstDead}
+
+-- 1. The refusal table of firing, row by row. `Says n p`: the answer has number n and position p.
+module _ (about : Thing) (net : PNet) (t : Mode) (m : List ℕ) where
+  abbrev firing : Answer
+  firing = answer (modeRefusal about net t m)
+
+  abbrev Says : ℕ → ℕ → Type 0
+  Says n p = (number firing ≡ n) × (position firing ≡ p)
+
+  abbrev StopsAt : Why → ℕ → Type 0
+  StopsAt why p = Stops why (row net t p) (K net p) (count m p)
+
+  abbrev NoPair : Why → Type 0
+  NoPair why = NoneBelow (pairs net) (StopsAt why)
+
+  abbrev LowestPair : Why → ℕ → Type 0
+  LowestPair why p = Lowest (pairs net) (StopsAt why) p
+
+  abbrev There : Type 0
+  There = t .0 < modes net
+
+  pub record FiringTable : Type 0 where
+    pub no0 : Says 0 0 ↔ (There × NoPair Lacking × NoPair OverCapacity × NoPair Inhibited × NoPair OverLimit)
+    pub no6 : Says 6 0 ↔ (¬ There)
+    pub no11 : (p : ℕ) → Says 11 p ↔ (There × LowestPair Lacking p)
+    pub no12 : (p : ℕ) → Says 12 p ↔ (There × NoPair Lacking × LowestPair OverCapacity p)
+    pub no13 : (p : ℕ) → Says 13 p ↔ (There × NoPair Lacking × NoPair OverCapacity × LowestPair Inhibited p)
+    pub no14 : (p : ℕ) → Says 14 p ↔ (There × NoPair Lacking × NoPair OverCapacity × NoPair Inhibited × LowestPair OverLimit p)
+    pub itsThing : number firing ≢ 0 → thing firing ≡ thingNumber about
+
+abbrev pub RefusalTable : Type 0
+RefusalTable = (about : Thing) (net : PNet) (t : Mode) (m : List ℕ) → FiringTable about net t m
+
+-- 2. The rule: 14 aside, a row is accepted exactly when source document 000 has it enabled, and a movement gives M - Pre + Post at every pair.
+abbrev pub Rule : Type 0
+Rule = (about : Thing) (n : ℕ) (k : Capacities) (r : Row) (M : Counts) → (ruleRefusal about n k r M ≡ none) ↔ Enables n k r M
+
+abbrev pub MarkingAfter : Type 0
+MarkingAfter = (net : PNet) (t : Mode) (m : List ℕ) → Follows (pairs net) (row net t) (count m) (count (fired net t m)) × (length (fired net t m) ≡ pairs net)
+
+-- 3. A marking is accepted exactly when it has one count for each pair, each in range and within K; an accepted movement leaves such a marking.
+abbrev pub MarkingTest : Type 0
+MarkingTest = (net : PNet) (m : List ℕ) → (markingRefusal net m ≡ none) ↔ Marking net m
+
+abbrev pub MarkingKept : Type 0
+MarkingKept = (about : Thing) (net : PNet) (t : Mode) (m : List ℕ) → Marking net m → modeRefusal about net t m ≡ none → Marking net (fired net t m)
+
+-- 4. Runs. `Leads net ts m m′`: the movements ts, each accepted where it stands, lead from m to m′.
+pub data Leads (net : PNet) : List Mode → List ℕ → List ℕ → Type 0 where
+  stays : {m : List ℕ} → Leads net [] m m
+  moves : {t : Mode} {ts : List Mode} {m m′ : List ℕ} → modeRefusal Movements net t m ≡ none → Leads net ts (fired net t m) m′ → Leads net (t ∷ ts) m m′
+
+-- a run accepts a first part of the list, which leads to the marking that it leaves; it is the whole list, or the next movement is the one refused
+pub record RunIs (net : PNet) (ts : List Mode) (m : List ℕ) : Type 0 where
+  pub part : run net ts m .accepted ≤ length ts
+  pub leads : Leads net (take (run net ts m .accepted) ts) m (run net ts m .marking)
+  pub whole : run net ts m .refusal ≡ none ↔ run net ts m .accepted ≡ length ts
+  pub refused : run net ts m .accepted < length ts
+      → run net ts m .refusal ≡ modeRefusal Movements net (getD ts (run net ts m .accepted) (modeNo 0)) (run net ts m .marking)
+
+abbrev pub Runs : Type 0
+Runs = (net : PNet) (ts : List Mode) (m : List ℕ) → RunIs net ts m
+
+-- "accepted exactly when the list runs whole from the first marking and ends at the claim"
+abbrev pub Certificates : Type 0
+Certificates = (net : PNet) (ts : List Mode) (claim : List ℕ) → length (net .start) ≡ pairs net
+    → (certificateRefusal net ts claim ≡ none) ↔ Leads net ts (net .start) claim
+
+-- 5. "The figure after a list is the starting figure plus the weight change of each accepted movement."
+abbrev pub FigureAfter : Type 0
+FigureAfter = (net : PNet) (weights : List ℤ) (ts : List Mode) (m : List ℕ)
+    → figure net weights (run net ts m .marking) ≡ figure net weights m +ℤ changes net weights (take (run net ts m .accepted) ts)
+
+-- 6. Locally dead: at some pair Pre or Post is above K; the first dead mode is the lowest, named with its lowest pair.
+abbrev pub KillsAt : PNet → Mode → ℕ → Type 0
+KillsAt net t p = Kills (row net t p) (K net p)
+
+abbrev pub DeadModes : Type 0
+DeadModes = (net : PNet) (t : Mode) → (isDead net t ≡ true) ↔ ((p : ℕ) × (p < pairs net) × KillsAt net t p)
+
+abbrev pub FirstDead : Type 0
+FirstDead = (net : PNet) (t p : ℕ)
+    → (firstDead net ≡ some (record { mode = modeNo t; pair = pairNo p }))
+    ↔ (Lowest (modes net) (λ u. isDead net (modeNo u) ≡ true) t × Lowest (pairs net) (KillsAt net (modeNo t)) p)

@@ -1,0 +1,72 @@
+-- Document 01, "Refusal numbers": the number, thing and position that each answer carries.
+use Prim.Native.Nat.{ℕ}
+use mathlib.Core.Bool.{Bool, cond, _||_}
+use mathlib.Core.Option.{Option, none, some}
+use lib.Dec.{eqb, ltb}
+use Rattle.model.specs.declared.Thing.{Thing}
+use Rattle.model.specs.declared.Thing.the-variants.{Net, Weights, Movements, Argument}
+use Rattle.model.specs.declared.Why.{Why}
+use Rattle.model.specs.declared.Why.the-variants.{Lacking, OverCapacity, Inhibited, OverLimit}
+use Rattle.model.specs.declared.Fault.{Fault}
+use Rattle.model.specs.declared.Fault.the-variants.{CutShort, WrongVersion, WrongLength, CountOutside, NumberOutside, MarkingOutside, NotThereAt, NotThere, NotRising, Blank, StartAboveCapacity, MarkingAboveCapacity, NoRoom, Stopped, InhibitedUnbounded, ComplementAbove, NotOneEach, EndsElsewhere}
+use Rattle.model.specs.declared.Refusal.{Refusal}
+use Rattle.model.specs.declared.Answer.{Answer}
+use Rattle.model.specs.declared.Answer.the-variants.{Accepted, Refused}
+
+-- the answer to a call: its first refusal, if there is one
+abbrev pub answer : Option Refusal → Answer
+answer none = Accepted
+answer (some r) = Refused r
+
+pub record Line : Type 0 where
+  pub number : ℕ
+  pub position : ℕ
+
+abbrev pub says : ℕ → ℕ → Line
+says number position = record { number = number; position = position }
+
+-- "The position of a field, an arc or a byte is the offset of its first byte ..; the position of a pair or a mode is its number", and 0 where none is named
+abbrev pub line : Fault → Line
+line CutShort = says 1 0
+line (WrongVersion at) = says 2 at
+line (WrongLength at) = says 3 at
+line (CountOutside at) = says 4 at
+line (NumberOutside at) = says 5 at
+line (MarkingOutside p) = says 5 (p .0)
+line (NotThereAt at) = says 6 at
+line NotThere = says 6 0
+line (NotRising at) = says 7 at
+line (Blank at) = says 8 at
+line (StartAboveCapacity at) = says 9 at
+line (MarkingAboveCapacity p) = says 9 (p .0)
+line NoRoom = says 10 0
+line (Stopped Lacking p) = says 11 (p .0)
+line (Stopped OverCapacity p) = says 12 (p .0)
+line (Stopped Inhibited p) = says 13 (p .0)
+line (Stopped OverLimit p) = says 14 (p .0)
+line (InhibitedUnbounded at) = says 15 at
+line (ComplementAbove at) = says 16 at
+line (NotOneEach at) = says 17 at
+line (EndsElsewhere p) = says 18 (p .0)
+
+abbrev pub number : Answer → ℕ
+number Accepted = 0
+number (Refused r) = line (r .fault) .number
+
+abbrev pub position : Answer → ℕ
+position Accepted = 0
+position (Refused r) = line (r .fault) .position
+
+abbrev pub thingNumber : Thing → ℕ
+thingNumber Net = 0
+thingNumber Weights = 1
+thingNumber Movements = 2
+thingNumber Argument = 3
+
+-- "0 net, also for numbers 0, 10, 15, 16 and any above 18"
+abbrev pub alwaysNet : ℕ → Bool
+alwaysNet n = eqb n 0 || eqb n 10 || eqb n 15 || eqb n 16 || ltb 18 n
+
+abbrev pub thing : Answer → ℕ
+thing Accepted = 0
+thing (Refused r) = cond (alwaysNet (line (r .fault) .number)) 0 (thingNumber (r .thing))
