@@ -145,3 +145,43 @@ module _ {A : Type 0} where
   pub only-if-some : (t : Bool) (a : A) {x : A} → onlyIf t a ≡ some x → (t ≡ true) × (a ≡ x)
   only-if-some true a e = (refl, cc)
   only-if-some false a e = let z : _≡_ {A = ℕ} 0 1 = cc in absurd (omega arith)
+
+-- The lowest number that passes a test, where the test says what P means.
+pub record Decides (test : ℕ → Bool) (P : ℕ → Type 0) : Type 0 where
+  pub sound : (i : ℕ) → test i ≡ true → P i
+  pub complete : (i : ℕ) → P i → test i ≡ true
+
+module _ {A : Type 0} {test : ℕ → Bool} {P : ℕ → Type 0} (decides : Decides test P) (name : ℕ → A) where
+  refuted : (i : ℕ) → ¬ P i → test i ≡ false
+  refuted i h = go (test i) refl
+    where
+      go : (b : Bool) → test i ≡ b → test i ≡ false
+      go true e = absurd (h (decides .sound i e))
+      go false e = e
+
+  pub lowest-none : (n : ℕ) → NoneBelow n P → lowest n test name ≡ none
+  lowest-none n h = first-all n (λ i. onlyIf (test i) (name i)) (λ i l. rw (refuted i (h i l)))
+
+  pub lowest-some : (n i : ℕ) → Lowest n P i → lowest n test name ≡ some (name i)
+  lowest-some n i h =
+      first-at n i (λ i. onlyIf (test i) (name i)) (name i) (h .below) (lowest-none i (λ j l. h .noneLower j l)) (rw (decides .complete i (h .holds)))
+
+  pub none-lowest : (n : ℕ) → lowest n test name ≡ none → NoneBelow n P
+  none-lowest n e i h p =
+      let f : test i ≡ false = only-if-none (test i) (name i) (first-each n (λ i. onlyIf (test i) (name i)) e i h) in
+      let z : true ≡ false = sym (decides .complete i p) ∙ f in
+      let y : _≡_ {A = ℕ} 0 1 = cc in
+      omega arith
+
+  pub some-lowest : (n : ℕ) (x : A) → lowest n test name ≡ some x → (i : ℕ) × Lowest n P i × (name i ≡ x)
+  some-lowest n x e =
+      let r = first-found n (λ i. onlyIf (test i) (name i)) x e in
+      let g = only-if-some (test (r .0)) (name (r .0)) (r .3) in
+      (r .0, record { below = r .1; holds = decides .sound (r .0) (g .0); noneLower = none-lowest (r .0) (r .2) }, g .1)
+
+  pub lowest-or-none : (n : ℕ) → ((i : ℕ) × Lowest n P i) ⊎ NoneBelow n P
+  lowest-or-none n = go (lowest n test name) refl
+    where
+      go : (o : Option A) → lowest n test name ≡ o → ((i : ℕ) × Lowest n P i) ⊎ NoneBelow n P
+      go none e = inr (none-lowest n e)
+      go (some x) e = let r = some-lowest n x e in inl (r .0, r .1)

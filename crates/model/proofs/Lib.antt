@@ -1,2 +1,5 @@
 pub mod First
 pub mod Numbers
+pub mod Tables
+pub mod Firing
+pub mod Markings

@@ -1,0 +1,211 @@
+-- The refusal table of firing, and Billington's rule.
+use Prim.Native.Nat.{ℕ, _+_, _-_, _≤_, _<_}
+use mathlib.Core.Path.{_≡_, refl, sym, _∙_, ap, subst⁻¹, subst₂}
+use mathlib.Core.Bool.{Bool, true, false, cond}
+use mathlib.Core.List.{List}
+use mathlib.Core.Logic.{_≢_, _⊎_, ⊎-elim}
+use mathlib.Core.Option.{Option, none, some}
+use lib.Dec.{eqb, leb}
+use native.Mathlib.Omega.{arith}
+use borrow.Author.Tests.{le-leb, lt-leb}
+use Rattle.model.specs.declared.Mode.{Mode}
+use Rattle.model.specs.declared.Thing.{Thing}
+use Rattle.model.specs.declared.Thing.the-variants.{Net, Weights, Movements, Argument}
+use Rattle.model.specs.declared.Why.{Why}
+use Rattle.model.specs.declared.Why.the-variants.{Lacking, OverCapacity, Inhibited, OverLimit}
+use Rattle.model.specs.declared.Fault.the-variants.{NotThere}
+use Rattle.model.specs.declared.Refusal.{Refusal}
+use Rattle.model.specs.First.{_▸_, Lowest, NoneBelow}
+use Rattle.model.specs.Refusals.{answer, number, thing, position, thingNumber}
+use Rattle.model.specs.Numbers.{ℕ∞, fin, limit}
+use Rattle.model.specs.Billington.{Enables}
+use Rattle.model.specs.Rows.{Entry, Row, Capacities, Counts}
+use Rattle.model.specs.Nets.{PNet, pairs, modes, K, count, row}
+use Rattle.model.specs.Firing.{after, Stops, stops, stopped, lowestStop, ruleRefusal, rowRefusal, modeRefusal}
+use Rattle.model.specs.Promises.{FiringTable, RefusalTable, Rule}
+use Rattle.model.proofs.First.{Decides, below-or, left-none, right-none, none-then, some-then, lowest-none, lowest-some, none-lowest, lowest-or-none}
+use Rattle.model.proofs.Numbers.{above-true, true-above, not-above, le-not-above, le-room, room-le}
+
+pub stops-true : (why : Why) (e : Entry) (k : ℕ∞) (m : ℕ) → stops why e k m ≡ true → Stops why e k m
+stops-true Lacking e k m h = above-true (e .pre) (fin m) h
+stops-true OverCapacity e k m h = above-true (m + e .post) k h
+stops-true Inhibited e k m h = above-true m (e .inhibitor) h
+stops-true OverLimit e k m h = above-true (after e m) (fin limit) h
+
+pub true-stops : (why : Why) (e : Entry) (k : ℕ∞) (m : ℕ) → Stops why e k m → stops why e k m ≡ true
+true-stops Lacking e k m h = true-above (e .pre) (fin m) h
+true-stops OverCapacity e k m h = true-above (m + e .post) k h
+true-stops Inhibited e k m h = true-above m (e .inhibitor) h
+true-stops OverLimit e k m h = true-above (after e m) (fin limit) h
+
+module _ (about : Thing) (n : ℕ) (k : Capacities) (r : Row) (M : Counts) where
+  abbrev At : Why → ℕ → Type 0
+  At why p = Stops why (r p) (k p) (M p)
+
+  decides-stop : (why : Why) → Decides (λ p. stops why (r p) (k p) (M p)) (At why)
+  decides-stop why = record { sound = λ p. stops-true why (r p) (k p) (M p); complete = λ p. true-stops why (r p) (k p) (M p) }
+
+  pub none-stop : (why : Why) → NoneBelow n (At why) → lowestStop about n k r M why ≡ none
+  none-stop why = lowest-none (decides-stop why) (stopped about why) n
+
+  pub lowest-stop : (why : Why) (p : ℕ) → Lowest n (At why) p → lowestStop about n k r M why ≡ some (stopped about why p)
+  lowest-stop why = lowest-some (decides-stop why) (stopped about why) n
+
+  pub stop-none : (why : Why) → lowestStop about n k r M why ≡ none → NoneBelow n (At why)
+  stop-none why = none-lowest (decides-stop why) (stopped about why) n
+
+  pub find-stop : (why : Why) → ((p : ℕ) × Lowest n (At why) p) ⊎ NoneBelow n (At why)
+  find-stop why = lowest-or-none (decides-stop why) (stopped about why) n
+
+  -- source document 000's rule, 14 aside
+  pub accepted-enables : ruleRefusal about n k r M ≡ none → Enables n k r M
+  unfolding ruleRefusal
+  accepted-enables e =
+      let over = right-none (lowestStop about n k r M Lacking) _ e in
+      record {
+        enough = λ p h. le-not-above (r p .pre) (fin (M p)) (stop-none Lacking (left-none _ _ e) p h);
+        room = λ p h. le-room (M p) (r p .post) (k p) (le-not-above (M p + r p .post) (k p) (stop-none OverCapacity (left-none _ _ over) p h));
+        uninhibited = λ p h. le-not-above (M p) (r p .inhibitor) (stop-none Inhibited (right-none _ _ over) p h)
+      }
+
+  pub enables-accepted : Enables n k r M → ruleRefusal about n k r M ≡ none
+  unfolding ruleRefusal
+  enables-accepted h =
+      none-then (none-stop Lacking (λ p l. not-above (r p .pre) (fin (M p)) (h .enough p l)))
+      (none-then (none-stop OverCapacity (λ p l. not-above (M p + r p .post) (k p) (room-le (M p) (r p .post) (k p) (h .room p l))))
+      (none-stop Inhibited (λ p l. not-above (M p) (r p .inhibitor) (h .uninhibited p l))))
+
+-- The rows of the table, for one call.
+module _ (about : Thing) (net : PNet) (t : Mode) (m : List ℕ) where
+  abbrev refusal : Option Refusal
+  refusal = modeRefusal about net t m
+
+  abbrev No : Why → Type 0
+  No why = NoneBelow (pairs net) (At about (pairs net) (K net) (row net t) (count m) why)
+
+  abbrev Low : Why → ℕ → Type 0
+  Low why p = Lowest (pairs net) (At about (pairs net) (K net) (row net t) (count m) why) p
+
+  abbrev Here : Type 0
+  Here = t .0 < modes net
+
+  no : (why : Why) → No why → lowestStop about (pairs net) (K net) (row net t) (count m) why ≡ none
+  no = none-stop about (pairs net) (K net) (row net t) (count m)
+
+  low : (why : Why) (p : ℕ) → Low why p → lowestStop about (pairs net) (K net) (row net t) (count m) why ≡ some (stopped about why p)
+  low = lowest-stop about (pairs net) (K net) (row net t) (count m)
+
+  here : {o : Option Refusal} → Here → rowRefusal about (pairs net) (K net) (row net t) (count m) ≡ o → refusal ≡ o
+  unfolding modeRefusal
+  here h e = none-then (rw (lt-leb (modes net) (t .0) h)) e
+
+  is6 : ¬ Here → refusal ≡ some (record { thing = about; fault = NotThere })
+  unfolding modeRefusal
+  is6 h = some-then _ (rw (le-leb (modes net) (t .0) (⊎-elim (λ (l : Here). absurd (h l)) (λ l. l) (below-or (t .0) (modes net)))))
+
+  is11 : (p : ℕ) → Here → Low Lacking p → refusal ≡ some (stopped about Lacking p)
+  unfolding rowRefusal ruleRefusal
+  is11 p h l = here h (some-then _ (some-then _ (low Lacking p l)))
+
+  is12 : (p : ℕ) → Here → No Lacking → Low OverCapacity p → refusal ≡ some (stopped about OverCapacity p)
+  unfolding rowRefusal ruleRefusal
+  is12 p h a l = here h (some-then _ (none-then (no Lacking a) (some-then _ (low OverCapacity p l))))
+
+  is13 : (p : ℕ) → Here → No Lacking → No OverCapacity → Low Inhibited p → refusal ≡ some (stopped about Inhibited p)
+  unfolding rowRefusal ruleRefusal
+  is13 p h a b l = here h (some-then _ (none-then (no Lacking a) (none-then (no OverCapacity b) (low Inhibited p l))))
+
+  allowed : No Lacking → No OverCapacity → No Inhibited → ruleRefusal about (pairs net) (K net) (row net t) (count m) ≡ none
+  unfolding ruleRefusal
+  allowed a b c = none-then (no Lacking a) (none-then (no OverCapacity b) (no Inhibited c))
+
+  is14 : (p : ℕ) → Here → No Lacking → No OverCapacity → No Inhibited → Low OverLimit p → refusal ≡ some (stopped about OverLimit p)
+  unfolding rowRefusal
+  is14 p h a b c l = here h (none-then (allowed a b c) (low OverLimit p l))
+
+  is0 : Here → No Lacking → No OverCapacity → No Inhibited → No OverLimit → refusal ≡ none
+  unfolding rowRefusal
+  is0 h a b c d = here h (none-then (allowed a b c) (no OverLimit d))
+
+  -- what the table says of number n and position p; one of its rows always holds
+  abbrev Holds : ℕ → ℕ → Type 0
+  Holds n p =
+      cond (eqb n 0) (Here × No Lacking × No OverCapacity × No Inhibited × No OverLimit)
+      (cond (eqb n 6) (¬ Here)
+      (cond (eqb n 11) (Here × Low Lacking p)
+      (cond (eqb n 12) (Here × No Lacking × Low OverCapacity p)
+      (cond (eqb n 13) (Here × No Lacking × No OverCapacity × Low Inhibited p)
+      (cond (eqb n 14) (Here × No Lacking × No OverCapacity × No Inhibited × Low OverLimit p) ⊥)))))
+
+  HoldsOf : Option Refusal → Type 0
+  HoldsOf o = Holds (number (answer o)) (position (answer o)) × (number (answer o) ≢ 0 → thing (answer o) ≡ thingNumber about)
+
+  find : (why : Why) → ((p : ℕ) × Low why p) ⊎ No why
+  find = find-stop about (pairs net) (K net) (row net t) (count m)
+
+  holds : HoldsOf refusal
+  unfolding HoldsOf
+  holds =
+      ⊎-elim
+      (λ (h : Here).
+        ⊎-elim (λ (r : (p : ℕ) × Low Lacking p). subst⁻¹ HoldsOf (is11 (r .0) h (r .1)) ((h, r .1), λ _. refl))
+        (λ (a : No Lacking).
+          ⊎-elim (λ (r : (p : ℕ) × Low OverCapacity p). subst⁻¹ HoldsOf (is12 (r .0) h a (r .1)) ((h, a, r .1), λ _. refl))
+          (λ (b : No OverCapacity).
+            ⊎-elim (λ (r : (p : ℕ) × Low Inhibited p). subst⁻¹ HoldsOf (is13 (r .0) h a b (r .1)) ((h, a, b, r .1), λ _. refl))
+            (λ (c : No Inhibited).
+              ⊎-elim (λ (r : (p : ℕ) × Low OverLimit p). subst⁻¹ HoldsOf (is14 (r .0) h a b c (r .1)) ((h, a, b, c, r .1), λ _. refl))
+              (λ (d : No OverLimit). subst⁻¹ HoldsOf (is0 h a b c d) ((h, a, b, c, d), λ z. absurd (z refl))) (find OverLimit))
+            (find Inhibited))
+          (find OverCapacity))
+        (find Lacking))
+      (λ (l : modes net ≤ t .0). subst⁻¹ HoldsOf (is6 (λ h. omega arith)) (λ h. omega arith, λ _. refl)) (below-or (t .0) (modes net))
+
+  Says : ℕ → ℕ → Type 0
+  Says n p = (number (answer refusal) ≡ n) × (position (answer refusal) ≡ p)
+
+  to : (n p : ℕ) → Says n p → Holds n p
+  unfolding Says HoldsOf
+  to n p says = subst₂ Holds (says .0) (says .1) (holds .0)
+
+  back : {o : Option Refusal} → refusal ≡ o → Says (number (answer o)) (position (answer o))
+  unfolding Says
+  back e = (ap (λ o. number (answer o)) e, ap (λ o. position (answer o)) e)
+
+  firing-table : FiringTable about net t m
+  unfolding Says HoldsOf
+  firing-table =
+      record {
+        no0 = (to 0 0, λ r. back (is0 (r .0) (r .1) (r .2) (r .3) (r .4)));
+        no6 = (to 6 0, λ h. back (is6 h));
+        no11 = λ p. (to 11 p, λ r. back (is11 p (r .0) (r .1)));
+        no12 = λ p. (to 12 p, λ r. back (is12 p (r .0) (r .1) (r .2)));
+        no13 = λ p. (to 13 p, λ r. back (is13 p (r .0) (r .1) (r .2) (r .3)));
+        no14 = λ p. (to 14 p, λ r. back (is14 p (r .0) (r .1) (r .2) (r .3) (r .4)));
+        itsThing = holds .1
+      }
+
+pub refusal-table : RefusalTable
+refusal-table = firing-table
+
+pub rule : Rule
+rule about n k r M = (accepted-enables about n k r M, enables-accepted about n k r M)
+
+-- what an accepted movement shows at each pair
+module _ (about : Thing) (net : PNet) (t : Mode) (m : List ℕ) (e : modeRefusal about net t m ≡ none) where
+  accepted-row : rowRefusal about (pairs net) (K net) (row net t) (count m) ≡ none
+  unfolding modeRefusal
+  accepted-row = right-none _ _ e
+
+  pub accepted-allows : Enables (pairs net) (K net) (row net t) (count m)
+  unfolding rowRefusal
+  accepted-allows = rule about (pairs net) (K net) (row net t) (count m) .0 (left-none _ _ accepted-row)
+
+  pub accepted-enough : (p : ℕ) → p < pairs net → row net t p .pre ≤ count m p
+  accepted-enough = accepted-allows .enough
+
+  pub accepted-limit : (p : ℕ) → p < pairs net → after (row net t p) (count m p) ≤ limit
+  unfolding rowRefusal
+  accepted-limit p h =
+      le-not-above (after (row net t p) (count m p)) (fin limit)
+      (stop-none about (pairs net) (K net) (row net t) (count m) OverLimit (right-none _ _ accepted-row) p h)
