@@ -39,7 +39,7 @@ true-stops Inhibited e k m h = true-above m (e .inhibitor) h
 true-stops OverLimit e k m h = true-above (after e m) (fin limit) h
 
 module _ (about : Thing) (n : ℕ) (k : Capacities) (r : Row) (M : Counts) where
-  abbrev At : Why → ℕ → Type 0
+  abbrev pub At : Why → ℕ → Type 0
   At why p = Stops why (r p) (k p) (M p)
 
   decides-stop : (why : Why) → Decides (λ p. stops why (r p) (k p) (M p)) (At why)
@@ -57,6 +57,37 @@ module _ (about : Thing) (n : ℕ) (k : Capacities) (r : Row) (M : Counts) where
   pub find-stop : (why : Why) → ((p : ℕ) × Lowest n (At why) p) ⊎ NoneBelow n (At why)
   find-stop why = lowest-or-none (decides-stop why) (stopped about why) n
 
+  -- which of 11 to 14 a row is refused by
+  abbrev pub No : Why → Type 0
+  No why = NoneBelow n (At why)
+
+  abbrev pub Low : Why → ℕ → Type 0
+  Low why p = Lowest n (At why) p
+
+  pub row11 : (p : ℕ) → Low Lacking p → rowRefusal about n k r M ≡ some (stopped about Lacking p)
+  unfolding rowRefusal ruleRefusal
+  row11 p l = some-then _ (some-then _ (lowest-stop Lacking p l))
+
+  pub row12 : (p : ℕ) → No Lacking → Low OverCapacity p → rowRefusal about n k r M ≡ some (stopped about OverCapacity p)
+  unfolding rowRefusal ruleRefusal
+  row12 p a l = some-then _ (none-then (none-stop Lacking a) (some-then _ (lowest-stop OverCapacity p l)))
+
+  pub row13 : (p : ℕ) → No Lacking → No OverCapacity → Low Inhibited p → rowRefusal about n k r M ≡ some (stopped about Inhibited p)
+  unfolding rowRefusal ruleRefusal
+  row13 p a b l = some-then _ (none-then (none-stop Lacking a) (none-then (none-stop OverCapacity b) (lowest-stop Inhibited p l)))
+
+  allowed : No Lacking → No OverCapacity → No Inhibited → ruleRefusal about n k r M ≡ none
+  unfolding ruleRefusal
+  allowed a b c = none-then (none-stop Lacking a) (none-then (none-stop OverCapacity b) (none-stop Inhibited c))
+
+  pub row14 : (p : ℕ) → No Lacking → No OverCapacity → No Inhibited → Low OverLimit p → rowRefusal about n k r M ≡ some (stopped about OverLimit p)
+  unfolding rowRefusal
+  row14 p a b c l = none-then (allowed a b c) (lowest-stop OverLimit p l)
+
+  pub row0 : No Lacking → No OverCapacity → No Inhibited → No OverLimit → rowRefusal about n k r M ≡ none
+  unfolding rowRefusal
+  row0 a b c d = none-then (allowed a b c) (none-stop OverLimit d)
+
   -- source document 000's rule, 14 aside
   pub accepted-enables : ruleRefusal about n k r M ≡ none → Enables n k r M
   unfolding ruleRefusal
@@ -69,31 +100,24 @@ module _ (about : Thing) (n : ℕ) (k : Capacities) (r : Row) (M : Counts) where
       }
 
   pub enables-accepted : Enables n k r M → ruleRefusal about n k r M ≡ none
-  unfolding ruleRefusal
   enables-accepted h =
-      none-then (none-stop Lacking (λ p l. not-above (r p .pre) (fin (M p)) (h .enough p l)))
-      (none-then (none-stop OverCapacity (λ p l. not-above (M p + r p .post) (k p) (room-le (M p) (r p .post) (k p) (h .room p l))))
-      (none-stop Inhibited (λ p l. not-above (M p) (r p .inhibitor) (h .uninhibited p l))))
+      allowed (λ p l. not-above (r p .pre) (fin (M p)) (h .enough p l))
+      (λ p l. not-above (M p + r p .post) (k p) (room-le (M p) (r p .post) (k p) (h .room p l)))
+      (λ p l. not-above (M p) (r p .inhibitor) (h .uninhibited p l))
 
 -- The rows of the table, for one call.
 module _ (about : Thing) (net : PNet) (t : Mode) (m : List ℕ) where
   abbrev refusal : Option Refusal
   refusal = modeRefusal about net t m
 
-  abbrev No : Why → Type 0
-  No why = NoneBelow (pairs net) (At about (pairs net) (K net) (row net t) (count m) why)
+  abbrev NoPair : Why → Type 0
+  NoPair = No about (pairs net) (K net) (row net t) (count m)
 
-  abbrev Low : Why → ℕ → Type 0
-  Low why p = Lowest (pairs net) (At about (pairs net) (K net) (row net t) (count m) why) p
+  abbrev LowPair : Why → ℕ → Type 0
+  LowPair = Low about (pairs net) (K net) (row net t) (count m)
 
   abbrev Here : Type 0
   Here = t .0 < modes net
-
-  no : (why : Why) → No why → lowestStop about (pairs net) (K net) (row net t) (count m) why ≡ none
-  no = none-stop about (pairs net) (K net) (row net t) (count m)
-
-  low : (why : Why) (p : ℕ) → Low why p → lowestStop about (pairs net) (K net) (row net t) (count m) why ≡ some (stopped about why p)
-  low = lowest-stop about (pairs net) (K net) (row net t) (count m)
 
   here : {o : Option Refusal} → Here → rowRefusal about (pairs net) (K net) (row net t) (count m) ≡ o → refusal ≡ o
   unfolding modeRefusal
@@ -103,44 +127,35 @@ module _ (about : Thing) (net : PNet) (t : Mode) (m : List ℕ) where
   unfolding modeRefusal
   is6 h = some-then _ (rw (le-leb (modes net) (t .0) (⊎-elim (λ (l : Here). absurd (h l)) (λ l. l) (below-or (t .0) (modes net)))))
 
-  is11 : (p : ℕ) → Here → Low Lacking p → refusal ≡ some (stopped about Lacking p)
-  unfolding rowRefusal ruleRefusal
-  is11 p h l = here h (some-then _ (some-then _ (low Lacking p l)))
+  is11 : (p : ℕ) → Here → LowPair Lacking p → refusal ≡ some (stopped about Lacking p)
+  is11 p h l = here h (row11 about (pairs net) (K net) (row net t) (count m) p l)
 
-  is12 : (p : ℕ) → Here → No Lacking → Low OverCapacity p → refusal ≡ some (stopped about OverCapacity p)
-  unfolding rowRefusal ruleRefusal
-  is12 p h a l = here h (some-then _ (none-then (no Lacking a) (some-then _ (low OverCapacity p l))))
+  is12 : (p : ℕ) → Here → NoPair Lacking → LowPair OverCapacity p → refusal ≡ some (stopped about OverCapacity p)
+  is12 p h a l = here h (row12 about (pairs net) (K net) (row net t) (count m) p a l)
 
-  is13 : (p : ℕ) → Here → No Lacking → No OverCapacity → Low Inhibited p → refusal ≡ some (stopped about Inhibited p)
-  unfolding rowRefusal ruleRefusal
-  is13 p h a b l = here h (some-then _ (none-then (no Lacking a) (none-then (no OverCapacity b) (low Inhibited p l))))
+  is13 : (p : ℕ) → Here → NoPair Lacking → NoPair OverCapacity → LowPair Inhibited p → refusal ≡ some (stopped about Inhibited p)
+  is13 p h a b l = here h (row13 about (pairs net) (K net) (row net t) (count m) p a b l)
 
-  allowed : No Lacking → No OverCapacity → No Inhibited → ruleRefusal about (pairs net) (K net) (row net t) (count m) ≡ none
-  unfolding ruleRefusal
-  allowed a b c = none-then (no Lacking a) (none-then (no OverCapacity b) (no Inhibited c))
+  is14 : (p : ℕ) → Here → NoPair Lacking → NoPair OverCapacity → NoPair Inhibited → LowPair OverLimit p → refusal ≡ some (stopped about OverLimit p)
+  is14 p h a b c l = here h (row14 about (pairs net) (K net) (row net t) (count m) p a b c l)
 
-  is14 : (p : ℕ) → Here → No Lacking → No OverCapacity → No Inhibited → Low OverLimit p → refusal ≡ some (stopped about OverLimit p)
-  unfolding rowRefusal
-  is14 p h a b c l = here h (none-then (allowed a b c) (low OverLimit p l))
-
-  is0 : Here → No Lacking → No OverCapacity → No Inhibited → No OverLimit → refusal ≡ none
-  unfolding rowRefusal
-  is0 h a b c d = here h (none-then (allowed a b c) (no OverLimit d))
+  is0 : Here → NoPair Lacking → NoPair OverCapacity → NoPair Inhibited → NoPair OverLimit → refusal ≡ none
+  is0 h a b c d = here h (row0 about (pairs net) (K net) (row net t) (count m) a b c d)
 
   -- what the table says of number n and position p; one of its rows always holds
   abbrev Holds : ℕ → ℕ → Type 0
   Holds n p =
-      cond (eqb n 0) (Here × No Lacking × No OverCapacity × No Inhibited × No OverLimit)
+      cond (eqb n 0) (Here × NoPair Lacking × NoPair OverCapacity × NoPair Inhibited × NoPair OverLimit)
       (cond (eqb n 6) (¬ Here)
-      (cond (eqb n 11) (Here × Low Lacking p)
-      (cond (eqb n 12) (Here × No Lacking × Low OverCapacity p)
-      (cond (eqb n 13) (Here × No Lacking × No OverCapacity × Low Inhibited p)
-      (cond (eqb n 14) (Here × No Lacking × No OverCapacity × No Inhibited × Low OverLimit p) ⊥)))))
+      (cond (eqb n 11) (Here × LowPair Lacking p)
+      (cond (eqb n 12) (Here × NoPair Lacking × LowPair OverCapacity p)
+      (cond (eqb n 13) (Here × NoPair Lacking × NoPair OverCapacity × LowPair Inhibited p)
+      (cond (eqb n 14) (Here × NoPair Lacking × NoPair OverCapacity × NoPair Inhibited × LowPair OverLimit p) ⊥)))))
 
   HoldsOf : Option Refusal → Type 0
   HoldsOf o = Holds (number (answer o)) (position (answer o)) × (number (answer o) ≢ 0 → thing (answer o) ≡ thingNumber about)
 
-  find : (why : Why) → ((p : ℕ) × Low why p) ⊎ No why
+  find : (why : Why) → ((p : ℕ) × LowPair why p) ⊎ NoPair why
   find = find-stop about (pairs net) (K net) (row net t) (count m)
 
   holds : HoldsOf refusal
@@ -148,14 +163,14 @@ module _ (about : Thing) (net : PNet) (t : Mode) (m : List ℕ) where
   holds =
       ⊎-elim
       (λ (h : Here).
-        ⊎-elim (λ (r : (p : ℕ) × Low Lacking p). subst⁻¹ HoldsOf (is11 (r .0) h (r .1)) ((h, r .1), λ _. refl))
-        (λ (a : No Lacking).
-          ⊎-elim (λ (r : (p : ℕ) × Low OverCapacity p). subst⁻¹ HoldsOf (is12 (r .0) h a (r .1)) ((h, a, r .1), λ _. refl))
-          (λ (b : No OverCapacity).
-            ⊎-elim (λ (r : (p : ℕ) × Low Inhibited p). subst⁻¹ HoldsOf (is13 (r .0) h a b (r .1)) ((h, a, b, r .1), λ _. refl))
-            (λ (c : No Inhibited).
-              ⊎-elim (λ (r : (p : ℕ) × Low OverLimit p). subst⁻¹ HoldsOf (is14 (r .0) h a b c (r .1)) ((h, a, b, c, r .1), λ _. refl))
-              (λ (d : No OverLimit). subst⁻¹ HoldsOf (is0 h a b c d) ((h, a, b, c, d), λ z. absurd (z refl))) (find OverLimit))
+        ⊎-elim (λ (r : (p : ℕ) × LowPair Lacking p). subst⁻¹ HoldsOf (is11 (r .0) h (r .1)) ((h, r .1), λ _. refl))
+        (λ (a : NoPair Lacking).
+          ⊎-elim (λ (r : (p : ℕ) × LowPair OverCapacity p). subst⁻¹ HoldsOf (is12 (r .0) h a (r .1)) ((h, a, r .1), λ _. refl))
+          (λ (b : NoPair OverCapacity).
+            ⊎-elim (λ (r : (p : ℕ) × LowPair Inhibited p). subst⁻¹ HoldsOf (is13 (r .0) h a b (r .1)) ((h, a, b, r .1), λ _. refl))
+            (λ (c : NoPair Inhibited).
+              ⊎-elim (λ (r : (p : ℕ) × LowPair OverLimit p). subst⁻¹ HoldsOf (is14 (r .0) h a b c (r .1)) ((h, a, b, c, r .1), λ _. refl))
+              (λ (d : NoPair OverLimit). subst⁻¹ HoldsOf (is0 h a b c d) ((h, a, b, c, d), λ z. absurd (z refl))) (find OverLimit))
             (find Inhibited))
           (find OverCapacity))
         (find Lacking))

@@ -1,0 +1,117 @@
+-- Locally dead modes: the searches name what the definitions mean.
+use Prim.Native.Nat.{ℕ, _<_}
+use mathlib.Core.Path.{_≡_, refl, sym, _∙_, ap}
+use mathlib.Core.Bool.{Bool, true, false, _||_, or-true}
+use mathlib.Core.Logic.{_⊎_, inl, inr, ⊎-elim}
+use mathlib.Core.Option.{Option, none, some, Option·map}
+use native.Mathlib.Omega.{arith}
+use Rattle.model.specs.declared.Mode.{Mode}
+use Rattle.model.specs.First.{first, lowest, Lowest}
+use Rattle.model.specs.Numbers.{ℕ∞, above}
+use Rattle.model.specs.Rows.{Entry}
+use Rattle.model.specs.Nets.{PNet, pairs, modes, pairNo, modeNo, K, row}
+use Rattle.model.specs.Dead.{Kills, kills, deadPair, found, isDead, DeadMode, firstDead}
+use Rattle.model.specs.Promises.{KillsAt, DeadModes, FirstDead}
+use Rattle.model.proofs.First.{Decides, lowest-or-none, lowest-none, lowest-some, some-lowest, first-each, first-all, first-at, first-found}
+use Rattle.model.proofs.Numbers.{above-true, true-above}
+
+either : (a b : Bool) → a || b ≡ true → (a ≡ true) ⊎ (b ≡ true)
+either true b e = inl refl
+either false b e = inr e
+
+kills-true : (e : Entry) (k : ℕ∞) → kills e k ≡ true → Kills e k
+kills-true e k h =
+    ⊎-elim (λ a. inl (above-true (e .pre) k a)) (λ a. inr (above-true (e .post) k a)) (either (above (e .pre) k) (above (e .post) k) h)
+
+true-kills : (e : Entry) (k : ℕ∞) → Kills e k → kills e k ≡ true
+true-kills e k (inl a) = rw (true-above (e .pre) k a)
+true-kills e k (inr a) = rw (true-above (e .post) k a) (or-true (above (e .pre) k))
+
+module _ (net : PNet) (t : Mode) where
+  decides-dead : Decides (λ p. kills (row net t p) (K net p)) (KillsAt net t)
+  decides-dead = record { sound = λ p. kills-true (row net t p) (K net p); complete = λ p. true-kills (row net t p) (K net p) }
+
+  lowest-dead : (p : ℕ) → Lowest (pairs net) (KillsAt net t) p → deadPair net t ≡ some p
+  unfolding deadPair
+  lowest-dead = lowest-some decides-dead (λ p. p) (pairs net)
+
+  dead-lowest : (p : ℕ) → deadPair net t ≡ some p → Lowest (pairs net) (KillsAt net t) p
+  unfolding deadPair
+  dead-lowest p e = let r = some-lowest decides-dead (λ p. p) (pairs net) p e in rw (r .2) at (r .1)
+
+  dead-pair : isDead net t ≡ true → (p : ℕ) × (deadPair net t ≡ some p)
+  unfolding isDead
+  dead-pair e = go (deadPair net t) refl
+    where
+      go : (o : Option ℕ) → deadPair net t ≡ o → (p : ℕ) × (deadPair net t ≡ some p)
+      go none d = let z : false ≡ true = rw d at e in let y : _≡_ {A = ℕ} 0 1 = cc in absurd (omega arith)
+      go (some p) d = (p, d)
+
+  pair-dead : (p : ℕ) → deadPair net t ≡ some p → isDead net t ≡ true
+  unfolding isDead
+  pair-dead p e = rw e
+
+  alive-dead : isDead net t ≡ true → (p : ℕ) × (p < pairs net) × KillsAt net t p
+  alive-dead e = let d = dead-pair e in let l = dead-lowest (d .0) (d .1) in (d .0, l .below, l .holds)
+
+  dead-alive : ((p : ℕ) × (p < pairs net) × KillsAt net t p) → isDead net t ≡ true
+  dead-alive r =
+      ⊎-elim (λ (l : (p : ℕ) × Lowest (pairs net) (KillsAt net t) p). pair-dead (l .0) (lowest-dead (l .0) (l .1)))
+      (λ nowhere. absurd (nowhere (r .0) (r .1) (r .2))) (lowest-or-none decides-dead (λ p. p) (pairs net))
+
+pub dead-modes : DeadModes
+dead-modes net t = (alive-dead net t, dead-alive net t)
+
+module _ (net : PNet) where
+  abbrev named : ℕ → ℕ → DeadMode
+  named t p = record { mode = modeNo t; pair = pairNo p }
+
+  abbrev deadAt : ℕ → Option DeadMode
+  deadAt t = Option·map (named t) (deadPair net (modeNo t))
+
+  named-dead : (t : ℕ) (d : DeadMode) → deadAt t ≡ some d → (p : ℕ) × (deadPair net (modeNo t) ≡ some p) × (named t p ≡ d)
+  named-dead t d e = go (deadPair net (modeNo t)) refl
+    where
+      go : (o : Option ℕ) → deadPair net (modeNo t) ≡ o → (p : ℕ) × (deadPair net (modeNo t) ≡ some p) × (named t p ≡ d)
+      go none g = let z : none ≡ some d = rw g at e in let y : _≡_ {A = ℕ} 0 1 = cc in absurd (omega arith)
+      go (some p) g = let z : some (named t p) ≡ some d = rw g at e in (p, g, cc)
+
+  alive : (t : ℕ) → deadAt t ≡ none → ¬ (isDead net (modeNo t) ≡ true)
+  alive t e d =
+      let p = dead-pair net (modeNo t) d in
+      let z : some (named t (p .0)) ≡ none = rw (p .1) at e in
+      let y : _≡_ {A = ℕ} 0 1 = cc in
+      omega arith
+
+  not-dead : (t : ℕ) → ¬ (isDead net (modeNo t) ≡ true) → deadAt t ≡ none
+  not-dead t h = go (deadPair net (modeNo t)) refl
+    where
+      go : (o : Option ℕ) → deadPair net (modeNo t) ≡ o → deadAt t ≡ none
+      go none g = rw g
+      go (some p) g = absurd (h (pair-dead net (modeNo t) p g))
+
+  first-lowest : (t p : ℕ) → firstDead net ≡ some (named t p)
+      → Lowest (modes net) (λ u. isDead net (modeNo u) ≡ true) t × Lowest (pairs net) (KillsAt net (modeNo t)) p
+  unfolding firstDead
+  first-lowest t p e =
+      let r = first-found (modes net) deadAt (named t p) e in
+      let d = named-dead (r .0) (named t p) (r .3) in
+      let i : r .0 ≡ t = ap (λ (d : DeadMode). d .mode .0) (d .2) in
+      let q : d .0 ≡ p = ap (λ (d : DeadMode). d .pair .0) (d .2) in
+      (rw (← i)
+      (record {
+        below = r .1;
+        holds = pair-dead net (modeNo (r .0)) (d .0) (d .1);
+        noneLower = λ j l. alive j (first-each (r .0) deadAt (r .2) j l)
+      }),
+      dead-lowest net (modeNo t) p (ap (λ (u : ℕ). deadPair net (modeNo u)) (sym i) ∙ d .1 ∙ ap {B = Option ℕ} some q))
+
+  lowest-first : (t p : ℕ) → Lowest (modes net) (λ u. isDead net (modeNo u) ≡ true) t → Lowest (pairs net) (KillsAt net (modeNo t)) p
+      → firstDead net ≡ some (named t p)
+  unfolding firstDead
+  lowest-first t p l k =
+      first-at (modes net) t deadAt (named t p) (l .below) (first-all t deadAt (λ j h. not-dead j (l .noneLower j h)))
+      (rw (lowest-dead net (modeNo t) p k))
+
+pub first-dead : FirstDead
+first-dead net t p = (first-lowest net t p, λ r. lowest-first net t p (r .0) (r .1))

@@ -1,0 +1,42 @@
+-- The starred cases of document 01: one table, one theorem.
+use Prim.Native.Nat.{ℕ, _+_, _≤_, _<_}
+use mathlib.Core.Path.{_≡_, refl, sym, _∙_, ap}
+use mathlib.Core.List.{[]}
+use mathlib.Core.Logic.{⊎-elim}
+use mathlib.Core.Option.{Option, some}
+use native.Mathlib.Omega.{arith}
+use Rattle.model.specs.declared.Thing.the-variants.{Argument}
+use Rattle.model.specs.declared.Why.the-variants.{Lacking, OverCapacity}
+use Rattle.model.specs.declared.Refusal.{Refusal}
+use Rattle.model.specs.First.{_▸_, first, Lowest}
+use Rattle.model.specs.Refusals.{answer, number}
+use Rattle.model.specs.Numbers.{ℕ∞, fin}
+use Rattle.model.specs.Rows.{Row, Capacities, Counts}
+use Rattle.model.specs.Firing.{stopped, ruleRefusal, rowRefusal}
+use Rattle.model.specs.Promises.{stays}
+use Rattle.model.specs.Edges.{edge, found, edges, Edges}
+use Rattle.model.proofs.Firing.{Low, No, row11, row12, find-stop}
+use Rattle.model.proofs.Runs.{certificates}
+
+-- Post above K is found at pair 0, unless the count is lacking there
+never : (i : ℕ∞) (pre m : ℕ) → ¬ (found (edge (fin 5) i pre 6 m 0) ≡ 0)
+unfolding found
+never i pre m e =
+    ⊎-elim (λ (r : (p : ℕ) × Low Argument 1 k six M Lacking p). clash 11 (row11 Argument 1 k six M (r .0) (r .1)) refl (omega arith))
+    (λ (a : No Argument 1 k six M Lacking).
+      clash 12 (row12 Argument 1 k six M 0 a (record { below = omega arith; holds = omega arith; noneLower = λ j l. absurd (omega arith) })) refl
+      (omega arith))
+    (find-stop Argument 1 k six M Lacking)
+  where
+    k : Capacities
+    k p = fin 5
+    six : Row
+    six p = record { pre = pre; post = 6; inhibitor = i }
+    M : Counts
+    M p = m
+    clash : (n : ℕ) {r : Refusal} → rowRefusal Argument 1 k six M ≡ some r → number (answer (some r)) ≡ n → 0 < n → ⊥
+    clash n f g h = let z : n ≡ 0 = sym g ∙ sym (ap (λ (o : Option Refusal). number (answer o)) f) ∙ e in omega arith
+
+pub starred : Edges
+unfolding found edges rowRefusal ruleRefusal _▸_ first
+starred = record { answers = refl; never = never; empty = λ net each. certificates net [] (net .start) each .1 stays }
