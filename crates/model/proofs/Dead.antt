@@ -97,14 +97,15 @@ module _ (net : PNet) where
       let r = first-found (modes net) deadAt (named t p) e in
       let d = named-dead (r .0) (named t p) (r .3) in
       let i : r .0 ≡ t = ap (λ (d : DeadMode). d .mode .0) (d .2) in
-      let q : d .0 ≡ p = ap (λ (d : DeadMode). d .pair .0) (d .2) in
-      (rw (← i)
-      (record {
-        below = r .1;
-        holds = pair-dead net (modeNo (r .0)) (d .0) (d .1);
-        noneLower = λ j l. alive j (first-each (r .0) deadAt (r .2) j l)
-      }),
-      dead-lowest net (modeNo t) p (ap (λ (u : ℕ). deadPair net (modeNo u)) (sym i) ∙ d .1 ∙ ap {B = Option ℕ} some q))
+      let q : d .0 ≡ p = ap (λ (d : DeadMode). d .pair .0) (d .2) in (
+        rw (← i)
+            (record {
+              below = r .1;
+              holds = pair-dead net (modeNo (r .0)) (d .0) (d .1);
+              noneLower = λ j l. alive j (first-each (r .0) deadAt (r .2) j l);
+            }),
+        dead-lowest net (modeNo t) p (ap (λ (u : ℕ). deadPair net (modeNo u)) (sym i) ∙ d .1 ∙ ap {B = Option ℕ} some q),
+      )
 
   lowest-first : (t p : ℕ) → Lowest (modes net) (λ u. isDead net (modeNo u) ≡ true) t → Lowest (pairs net) (KillsAt net (modeNo t)) p
       → firstDead net ≡ some (named t p)

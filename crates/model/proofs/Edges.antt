@@ -24,16 +24,19 @@ unfolding found
 never i pre m e =
     ⊎-elim (λ (r : (p : ℕ) × Low Argument 1 k six M Lacking p). clash 11 (row11 Argument 1 k six M (r .0) (r .1)) refl (omega arith))
     (λ (a : No Argument 1 k six M Lacking).
-      clash 12 (row12 Argument 1 k six M 0 a (record { below = omega arith; holds = omega arith; noneLower = λ j l. absurd (omega arith) })) refl
-      (omega arith))
+    clash 12 (row12 Argument 1 k six M 0 a (record { below = omega arith; holds = omega arith; noneLower = λ j l. absurd (omega arith) })) refl
+    (omega arith))
     (find-stop Argument 1 k six M Lacking)
   where
     k : Capacities
     k p = fin 5
+
     six : Row
     six p = record { pre = pre; post = 6; inhibitor = i }
+
     M : Counts
     M p = m
+
     clash : (n : ℕ) {r : Refusal} → rowRefusal Argument 1 k six M ≡ some r → number (answer (some r)) ≡ n → 0 < n → ⊥
     clash n f g h = let z : n ≡ 0 = sym g ∙ sym (ap (λ (o : Option Refusal). number (answer o)) f) ∙ e in omega arith
 

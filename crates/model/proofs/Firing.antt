@@ -17,33 +17,25 @@ use Rattle.model.specs.declared.Fault.the-variants.{NotThere}
 use Rattle.model.specs.declared.Refusal.{Refusal}
 use Rattle.model.specs.First.{_▸_, Lowest, NoneBelow}
 use Rattle.model.specs.Refusals.{answer, number, thing, position, thingNumber}
-use Rattle.model.specs.Numbers.{ℕ∞, fin, limit}
+use Rattle.model.specs.Numbers.{fin, limit}
 use Rattle.model.specs.Billington.{Enables}
-use Rattle.model.specs.Rows.{Entry, Row, Capacities, Counts}
+use Rattle.model.specs.Rows.{Row, Capacities, Counts}
 use Rattle.model.specs.Nets.{PNet, pairs, modes, K, count, row}
-use Rattle.model.specs.Firing.{after, Stops, stops, stopped, lowestStop, ruleRefusal, rowRefusal, modeRefusal}
+use Rattle.model.specs.Firing.{after, compared, Stops, stops, stopped, lowestStop, ruleRefusal, rowRefusal, modeRefusal}
 use Rattle.model.specs.Promises.{FiringTable, RefusalTable, Rule}
 use Rattle.model.proofs.First.{Decides, below-or, left-none, right-none, none-then, some-then, lowest-none, lowest-some, none-lowest, lowest-or-none}
 use Rattle.model.proofs.Numbers.{above-true, true-above, not-above, le-not-above, le-room, room-le}
-
-pub stops-true : (why : Why) (e : Entry) (k : ℕ∞) (m : ℕ) → stops why e k m ≡ true → Stops why e k m
-stops-true Lacking e k m h = above-true (e .pre) (fin m) h
-stops-true OverCapacity e k m h = above-true (m + e .post) k h
-stops-true Inhibited e k m h = above-true m (e .inhibitor) h
-stops-true OverLimit e k m h = above-true (after e m) (fin limit) h
-
-pub true-stops : (why : Why) (e : Entry) (k : ℕ∞) (m : ℕ) → Stops why e k m → stops why e k m ≡ true
-true-stops Lacking e k m h = true-above (e .pre) (fin m) h
-true-stops OverCapacity e k m h = true-above (m + e .post) k h
-true-stops Inhibited e k m h = true-above m (e .inhibitor) h
-true-stops OverLimit e k m h = true-above (after e m) (fin limit) h
 
 module _ (about : Thing) (n : ℕ) (k : Capacities) (r : Row) (M : Counts) where
   abbrev pub At : Why → ℕ → Type 0
   At why p = Stops why (r p) (k p) (M p)
 
   decides-stop : (why : Why) → Decides (λ p. stops why (r p) (k p) (M p)) (At why)
-  decides-stop why = record { sound = λ p. stops-true why (r p) (k p) (M p); complete = λ p. true-stops why (r p) (k p) (M p) }
+  decides-stop why =
+      record {
+        sound = λ p. above-true (compared why (r p) (k p) (M p) .number) (compared why (r p) (k p) (M p) .bound);
+        complete = λ p. true-above (compared why (r p) (k p) (M p) .number) (compared why (r p) (k p) (M p) .bound);
+      }
 
   pub none-stop : (why : Why) → NoneBelow n (At why) → lowestStop about n k r M why ≡ none
   none-stop why = lowest-none (decides-stop why) (stopped about why) n
@@ -96,7 +88,7 @@ module _ (about : Thing) (n : ℕ) (k : Capacities) (r : Row) (M : Counts) where
       record {
         enough = λ p h. le-not-above (r p .pre) (fin (M p)) (stop-none Lacking (left-none _ _ e) p h);
         room = λ p h. le-room (M p) (r p .post) (k p) (le-not-above (M p + r p .post) (k p) (stop-none OverCapacity (left-none _ _ over) p h));
-        uninhibited = λ p h. le-not-above (M p) (r p .inhibitor) (stop-none Inhibited (right-none _ _ over) p h)
+        uninhibited = λ p h. le-not-above (M p) (r p .inhibitor) (stop-none Inhibited (right-none _ _ over) p h);
       }
 
   pub enables-accepted : Enables n k r M → ruleRefusal about n k r M ≡ none
@@ -163,17 +155,17 @@ module _ (about : Thing) (net : PNet) (t : Mode) (m : List ℕ) where
   holds =
       ⊎-elim
       (λ (h : Here).
-        ⊎-elim (λ (r : (p : ℕ) × LowPair Lacking p). subst⁻¹ HoldsOf (is11 (r .0) h (r .1)) ((h, r .1), λ _. refl))
-        (λ (a : NoPair Lacking).
-          ⊎-elim (λ (r : (p : ℕ) × LowPair OverCapacity p). subst⁻¹ HoldsOf (is12 (r .0) h a (r .1)) ((h, a, r .1), λ _. refl))
-          (λ (b : NoPair OverCapacity).
-            ⊎-elim (λ (r : (p : ℕ) × LowPair Inhibited p). subst⁻¹ HoldsOf (is13 (r .0) h a b (r .1)) ((h, a, b, r .1), λ _. refl))
-            (λ (c : NoPair Inhibited).
-              ⊎-elim (λ (r : (p : ℕ) × LowPair OverLimit p). subst⁻¹ HoldsOf (is14 (r .0) h a b c (r .1)) ((h, a, b, c, r .1), λ _. refl))
-              (λ (d : NoPair OverLimit). subst⁻¹ HoldsOf (is0 h a b c d) ((h, a, b, c, d), λ z. absurd (z refl))) (find OverLimit))
-            (find Inhibited))
-          (find OverCapacity))
-        (find Lacking))
+      ⊎-elim (λ (r : (p : ℕ) × LowPair Lacking p). subst⁻¹ HoldsOf (is11 (r .0) h (r .1)) ((h, r .1), λ _. refl))
+      (λ (a : NoPair Lacking).
+      ⊎-elim (λ (r : (p : ℕ) × LowPair OverCapacity p). subst⁻¹ HoldsOf (is12 (r .0) h a (r .1)) ((h, a, r .1), λ _. refl))
+      (λ (b : NoPair OverCapacity).
+      ⊎-elim (λ (r : (p : ℕ) × LowPair Inhibited p). subst⁻¹ HoldsOf (is13 (r .0) h a b (r .1)) ((h, a, b, r .1), λ _. refl))
+      (λ (c : NoPair Inhibited).
+      ⊎-elim (λ (r : (p : ℕ) × LowPair OverLimit p). subst⁻¹ HoldsOf (is14 (r .0) h a b c (r .1)) ((h, a, b, c, r .1), λ _. refl))
+      (λ (d : NoPair OverLimit). subst⁻¹ HoldsOf (is0 h a b c d) ((h, a, b, c, d), λ z. absurd (z refl))) (find OverLimit))
+      (find Inhibited))
+      (find OverCapacity))
+      (find Lacking))
       (λ (l : modes net ≤ t .0). subst⁻¹ HoldsOf (is6 (λ h. omega arith)) (λ h. omega arith, λ _. refl)) (below-or (t .0) (modes net))
 
   Says : ℕ → ℕ → Type 0
@@ -197,7 +189,7 @@ module _ (about : Thing) (net : PNet) (t : Mode) (m : List ℕ) where
         no12 = λ p. (to 12 p, λ r. back (is12 p (r .0) (r .1) (r .2)));
         no13 = λ p. (to 13 p, λ r. back (is13 p (r .0) (r .1) (r .2) (r .3)));
         no14 = λ p. (to 14 p, λ r. back (is14 p (r .0) (r .1) (r .2) (r .3) (r .4)));
-        itsThing = holds .1
+        itsThing = holds .1;
       }
 
 pub refusal-table : RefusalTable

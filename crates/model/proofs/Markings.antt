@@ -27,7 +27,7 @@ accepted-marking net m e =
     record {
       oneEach = eqb-true (length m) (pairs net) (not-false _ (only-if-none _ _ (left-none _ _ e)));
       inRange = λ p h. above-false (count m p) (fin limit) (only-if-none _ _ (left-none _ _ (each p h)));
-      within = λ p h. above-false (count m p) (K net p) (only-if-none _ _ (right-none _ _ (each p h)))
+      within = λ p h. above-false (count m p) (K net p) (only-if-none _ _ (right-none _ _ (each p h)));
     }
 
 marking-accepted : (net : PNet) (m : List ℕ) → Marking net m → markingRefusal net m ≡ none
@@ -50,7 +50,7 @@ marking-kept about net t m h e =
       oneEach = marking-after net t m .1;
       inRange = λ p l. rw (marking-after net t m .0 p l) (accepted-limit about net t m e p l);
       within = λ p l.
-        rw (marking-after net t m .0 p l)
-        (le-le∞ (after (row net t p) (count m p)) (count m p + row net t p .post) (K net p) (omega arith)
-        (room-le (count m p) (row net t p .post) (K net p) (accepted-allows about net t m e .room p l)))
+          rw (marking-after net t m .0 p l)
+          (le-le∞ (after (row net t p) (count m p)) (count m p + row net t p .post) (K net p) (omega arith)
+          (room-le (count m p) (row net t p .post) (K net p) (accepted-allows about net t m e .room p l)));
     }

@@ -27,7 +27,7 @@ record From (net : PNet) (k : ℕ) (ts : List Mode) (m : List ℕ) (o : Outcome)
   counted : o .accepted ≡ k + steps
   leads : Leads net (take steps ts) m (o .marking)
   ends : ((o .refusal ≡ none) × (steps ≡ length ts))
-    ⊎ ((r : Refusal) × (steps < length ts) × (o .refusal ≡ some r) × (modeRefusal Movements net (getD ts steps (modeNo 0)) (o .marking) ≡ some r))
+      ⊎ ((r : Refusal) × (steps < length ts) × (o .refusal ≡ some r) × (modeRefusal Movements net (getD ts steps (modeNo 0)) (o .marking) ≡ some r))
 
 from-run : (net : PNet) (k : ℕ) (ts : List Mode) (m : List ℕ) → From net k ts m (runFrom net k ts m)
 unfolding runFrom
@@ -36,15 +36,16 @@ from-run net k (t ∷ ts) m = go (modeRefusal Movements net t m) refl (from-run 
   where
     next : Outcome
     next = runFrom net (k + 1) ts (fired net t m)
+
     go : (o : Option Refusal) → modeRefusal Movements net t m ≡ o → From net (k + 1) ts (fired net t m) next
-      → From net k (t ∷ ts) m (goOn (modeRefusal Movements net t m) k m next)
+        → From net k (t ∷ ts) m (goOn (modeRefusal Movements net t m) k m next)
     go none e f =
         rw e
         (record {
           steps = suc (f .steps);
           counted = omega (arith, f .counted);
           leads = moves e (f .leads);
-          ends = ⊎-elim (λ g. inl (g .0, ap suc (g .1))) (λ g. inr (g .0, omega (arith, g .1), g .2, g .3)) (f .ends)
+          ends = ⊎-elim (λ g. inl (g .0, ap suc (g .1))) (λ g. inr (g .0, omega (arith, g .1), g .2, g .3)) (f .ends);
         })
     go (some r) e f = rw e (record { steps = 0; counted = omega arith; leads = stays; ends = inr (r, omega arith, refl, e) })
 
@@ -55,10 +56,10 @@ runs-as net ts m f =
       part = rw is (⊎-elim (λ g. omega (arith, g .1)) (λ g. omega (arith, g .1)) (f .ends));
       leads = rw is (f .leads);
       whole =
-        ⊎-elim {C = (run net ts m .refusal ≡ none) ↔ (run net ts m .accepted ≡ length ts)} (λ g. (λ _. is ∙ g .1, λ _. g .0))
-        (λ g. (λ e. let z : _≡_ {A = ℕ} 0 1 = cc (g .2) in absurd (omega arith), λ e. absurd (omega (arith, g .1))))
-        (f .ends);
-      refused = λ l. rw is (⊎-elim (λ g. absurd (omega (arith, g .1))) (λ g. g .2 ∙ sym (g .3)) (f .ends))
+          ⊎-elim {C = (run net ts m .refusal ≡ none) ↔ (run net ts m .accepted ≡ length ts)} (λ g. (λ _. is ∙ g .1, λ _. g .0))
+          (λ g. (λ e. let z : _≡_ {A = ℕ} 0 1 = cc (g .2) in absurd (omega arith), λ e. absurd (omega (arith, g .1))))
+          (f .ends);
+      refused = λ l. rw is (⊎-elim (λ g. absurd (omega (arith, g .1))) (λ g. g .2 ∙ sym (g .3)) (f .ends));
     }
 
 pub runs : Runs
@@ -90,11 +91,11 @@ module _ (net : PNet) (ts : List Mode) (claim : List ℕ) (each : length (net .s
       let whole : Leads net ts (net .start) last = rw (all, take-length) at (r .leads) in
       let counts : length claim ≡ pairs net = eqb-true (length claim) (pairs net) (not-false _ (only-if-none _ _ (left-none _ _ e))) in
       let same : last ≡ claim =
-        ext-getD 0 last claim (leads-length whole each ∙ sym counts)
-        (λ p h.
-          eqb-true (count last p) (count claim p)
-          (not-false _ (only-if-none _ _ (first-each (pairs net) _ (right-none _ _ then) p (rw (← leads-length whole each) h)))))
-        in
+      ext-getD 0 last claim (leads-length whole each ∙ sym counts)
+      (λ p h.
+      eqb-true (count last p) (count claim p)
+      (not-false _ (only-if-none _ _ (first-each (pairs net) _ (right-none _ _ then) p (rw (← leads-length whole each) h)))))
+      in
       rw same at whole
 
   leads-certificate : Leads net ts (net .start) claim → certificateRefusal net ts claim ≡ none

@@ -19,18 +19,27 @@ use Rattle.model.specs.Nets.{PNet, pairs, modes, pairNo, K, count, row}
 abbrev pub after : Entry → ℕ → ℕ
 after e m = m - e .pre + e .post
 
--- What stops a mode at one pair, where it has e, the capacity is k and the count m: the refusal table's own words, and their test.
+-- What each of 11 to 14 compares at one pair, where the mode has e, the capacity is k and the count m: a number, and the bound that it may not be above.
+pub record Against : Type 0 where
+  pub number : ℕ
+  pub bound : ℕ∞
+
+infix 3 _against_
+abbrev pub _against_ : ℕ → ℕ∞ → Against
+number against bound = record { number = number; bound = bound }
+
+abbrev pub compared : Why → Entry → ℕ∞ → ℕ → Against
+compared Lacking e k m = e .pre against fin m
+compared OverCapacity e k m = m + e .post against k
+compared Inhibited e k m = m against e .inhibitor
+compared OverLimit e k m = after e m against fin limit
+
+-- the number is above the bound: the proposition, and its test
 abbrev pub Stops : Why → Entry → ℕ∞ → ℕ → Type 0
-Stops Lacking e k m = Above (e .pre) (fin m)
-Stops OverCapacity e k m = Above (m + e .post) k
-Stops Inhibited e k m = Above m (e .inhibitor)
-Stops OverLimit e k m = Above (after e m) (fin limit)
+Stops why e k m = Above (compared why e k m .number) (compared why e k m .bound)
 
 abbrev pub stops : Why → Entry → ℕ∞ → ℕ → Bool
-stops Lacking e k m = above (e .pre) (fin m)
-stops OverCapacity e k m = above (m + e .post) k
-stops Inhibited e k m = above m (e .inhibitor)
-stops OverLimit e k m = above (after e m) (fin limit)
+stops why e k m = above (compared why e k m .number) (compared why e k m .bound)
 
 abbrev pub stopped : Thing → Why → ℕ → Refusal
 stopped thing why p = record { thing = thing; fault = Stopped why (pairNo p) }
