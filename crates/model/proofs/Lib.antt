@@ -6,3 +6,6 @@ pub mod Markings
 pub mod Runs
 pub mod Dead
 pub mod Edges
+pub mod Nets
+pub mod PassBelow
+pub mod ByArcs

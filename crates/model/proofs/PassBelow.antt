@@ -1,0 +1,81 @@
+-- One number for an arc: the counts below it, from Pre on, are those at which nothing of 11 to 14 stops the mode there.
+use Prim.Native.Nat.{ℕ, _+_, _-_, _≤_, _<_, min}
+use mathlib.Core.Path.{_≡_, refl}
+use mathlib.Core.Bool.{Bool, true, false, cond}
+use mathlib.Core.Logic.{_↔_}
+use native.Mathlib.Omega.{arith}
+use Rattle.model.specs.declared.Why.{Why}
+use Rattle.model.specs.declared.Why.the-variants.{Lacking, OverCapacity, Inhibited, OverLimit}
+use Rattle.model.specs.Numbers.{ℕ∞, fin, ∞, _≤∞_, above, limit}
+use Rattle.model.specs.Rows.{Entry}
+use Rattle.model.specs.Firing.{after, stops}
+use Rattle.model.proofs.Numbers.{above-true, above-false, false-above, not-above, le-le∞}
+
+-- the smaller of the two
+abbrev pub least : ℕ∞ → ℕ → ℕ
+least (fin a) n = min a n
+least ∞ n = n
+
+-- K - Post, where K is finite
+abbrev pub room : ℕ∞ → ℕ → ℕ∞
+room (fin k) n = fin (k - n)
+room ∞ n = ∞
+
+-- the least of K - Post, I and 1,000,000 + Pre - Post
+abbrev pub highest : Entry → ℕ∞ → ℕ
+highest e k = least (room k (e .post)) (least (e .inhibitor) (limit + e .pre - e .post))
+
+-- 0 where Post is above K, else one more than the highest count that passes
+unfoldable pub passBelow : Entry → ℕ∞ → ℕ
+passBelow e k = cond (above (e .post) k) 0 (highest e k + 1)
+
+below-least : (m : ℕ) (b : ℕ∞) (n : ℕ) → (m ≤ least b n) ↔ ((m ≤∞ b) × (m ≤ n))
+below-least m (fin a) n = (λ h. omega arith, λ h. omega arith)
+below-least m ∞ n = (λ h. (tt, h), λ h. h .1)
+
+fits-room : (m : ℕ) (k : ℕ∞) (n : ℕ) → n ≤∞ k → (m ≤∞ room k n) ↔ (m + n ≤∞ k)
+fits-room m (fin k) n h = (λ l. omega arith, λ l. omega arith)
+fits-room m ∞ n h = (λ l. tt, λ l. tt)
+
+module _ (e : Entry) (k : ℕ∞) (m : ℕ) where
+  -- nothing of 11 to 14 stops the mode there
+  abbrev Unstopped : Type 0
+  Unstopped = (why : Why) → stops why e k m ≡ false
+
+  highest-is : e .post ≤∞ k → (m ≤ highest e k) ↔ ((m + e .post ≤∞ k) × (m ≤∞ e .inhibitor) × (m ≤ limit + e .pre - e .post))
+  highest-is fits = (
+    λ l.
+        let all = below-least m (room k (e .post)) _ .0 l in
+        let low = below-least m (e .inhibitor) _ .0 (all .1) in
+        (fits-room m k _ fits .0 (all .0), low .0, low .1),
+    λ l. below-least m (room k (e .post)) _ .1 (fits-room m k _ fits .1 (l .0), below-least m (e .inhibitor) _ .1 (l .1, l .2)),
+  )
+
+  -- Post alone above K: the mode never passes
+  never : above (e .post) k ≡ true → ¬ Unstopped
+  never q free = not-above _ k (le-le∞ _ (m + e .post) k (omega arith) (above-false _ k (free OverCapacity))) (above-true _ k q)
+
+  passes : e .post ≤ limit → e .post ≤∞ k → Unstopped ↔ ((e .pre ≤ m) × (m ≤ highest e k))
+  passes h fits = (
+    λ free.
+        let enough : e .pre ≤ m = above-false (e .pre) (fin m) (free Lacking) in
+        let kept : after e m ≤ limit = above-false (after e m) (fin limit) (free OverLimit) in
+        (enough, highest-is fits .1 (above-false _ k (free OverCapacity), above-false m (e .inhibitor) (free Inhibited), omega arith)),
+    λ l.
+        let all = highest-is fits .0 (l .1) in
+        elim [
+          | Lacking ↦ false-above (e .pre) (fin m) (l .0)
+          | OverCapacity ↦ false-above _ k (all .0)
+          | Inhibited ↦ false-above m (e .inhibitor) (all .1)
+          | OverLimit ↦ false-above (after e m) (fin limit) (omega arith)
+        ],
+  )
+
+  -- a count passes all four tests exactly when it is at least Pre and below the arc's number
+  pub pass-is : e .post ≤ limit → Unstopped ↔ ((e .pre ≤ m) × (m < passBelow e k))
+  unfolding passBelow
+  pass-is h = go (above (e .post) k) refl
+    where
+      go : (b : Bool) → above (e .post) k ≡ b → Unstopped ↔ ((e .pre ≤ m) × (m < passBelow e k))
+      go true q = rw q (λ free. absurd (never q free), λ l. absurd (omega arith))
+      go false q = let p = passes h (above-false _ k q) in rw q (λ free. omega (arith, p .0 free), λ l. p .1 (omega arith))
