@@ -9,3 +9,4 @@ pub mod Edges
 pub mod Nets
 pub mod PassBelow
 pub mod ByArcs
+pub mod Integers
