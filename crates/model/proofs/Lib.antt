@@ -10,3 +10,4 @@ pub mod Nets
 pub mod PassBelow
 pub mod ByArcs
 pub mod Integers
+pub mod Figures
