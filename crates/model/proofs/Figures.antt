@@ -2,23 +2,19 @@
 use Prim.Native.Nat.{ℕ, zero, suc, _+_, _*_, _≤_, _<_}
 use mathlib.Core.Path.{_≡_, refl, sym, _∙_, ap}
 use mathlib.Core.List.{List}
-use mathlib.Core.Option.{none}
 use lib.IntN.{ℤ, pos, _+ℤ_, _-ℤ_, _*ℤ_, natAbs, +ℤ-assoc, +ℤ-idr}
 use native.Mathlib.Nat.{suc-mul, zero-mul}
 use native.Mathlib.Numerals.{add-one}
 use native.Mathlib.Omega.{arith}
 use Rattle.model.specs.declared.Mode.{Mode}
-use Rattle.model.specs.declared.Thing.{Thing}
 use Rattle.model.specs.declared.Thing.the-variants.{Movements}
-use Rattle.model.specs.declared.Why.the-variants.{Lacking}
-use Rattle.model.specs.Numbers.{fin}
-use Rattle.model.specs.Nets.{PNet, pairs, K, count, row}
-use Rattle.model.specs.Firing.{lowestStop, ruleRefusal, rowRefusal, modeRefusal, fired}
+use Rattle.model.specs.Nets.{PNet, pairs, count, row}
+use Rattle.model.specs.Firing.{fired}
 use Rattle.model.specs.Figures.{sum, weight, figure, change, changes}
-use Rattle.model.specs.Promises.{Leads, stays, moves}
-use Rattle.model.proofs.First.{left-none, right-none, first-each, only-if-none}
+use Rattle.model.specs.Promises.{Leads, stays, moves, FigureAfter}
+use Rattle.model.proofs.Firing.{accepted-enough}
 use Rattle.model.proofs.Integers.{exchange, times-sum, pos-after, size-add}
-use Rattle.model.proofs.Numbers.{above-false}
+use Rattle.model.proofs.Runs.{runs}
 use Rattle.model.proofs.Tables.{table-at}
 
 pub sum-more : (n : ℕ) (f : ℕ → ℤ) → sum (n + 1) f ≡ sum n f +ℤ f n
@@ -60,14 +56,6 @@ figure-fired net weights t m enough = sum-ext (pairs net) _ (λ p. before p +ℤ
     each : (p : ℕ) → p < pairs net → weight weights p *ℤ pos (count (fired net t m) p) ≡ before p +ℤ gain p
     each p h = rw (table-at, pos-after, enough p h) (times-sum (weight weights p) (pos (count m p)) (postLessPre p))
 
--- an accepted movement's Pre is at most the count at every pair
-accepted-enough : (about : Thing) (net : PNet) (t : Mode) (m : List ℕ) → modeRefusal about net t m ≡ none
-    → (p : ℕ) → p < pairs net → row net t p .pre ≤ count m p
-unfolding modeRefusal rowRefusal ruleRefusal
-accepted-enough about net t m e p h =
-    let lacking : lowestStop about (pairs net) (K net) (row net t) (count m) Lacking ≡ none = left-none _ _ (left-none _ _ (right-none _ _ e)) in
-    above-false (row net t p .pre) (fin (count m p)) (only-if-none _ _ (first-each (pairs net) _ lacking p h))
-
 pub figure-leads : (net : PNet) (weights : List ℤ) {ts : List Mode} {m m′ : List ℕ} → Leads net ts m m′
     → figure net weights m′ ≡ figure net weights m +ℤ changes net weights ts
 unfolding changes
@@ -75,3 +63,6 @@ figure-leads net weights (stays {m}) = sym (+ℤ-idr (figure net weights m))
 figure-leads net weights (moves {t} {ts} {m} {m′} e leads) =
     figure-leads net weights leads ∙ ap (λ z. z +ℤ changes net weights ts) (figure-fired net weights t m (accepted-enough Movements net t m e))
     ∙ +ℤ-assoc (figure net weights m) (change net weights t) (changes net weights ts)
+
+pub figure-after : FigureAfter
+figure-after net weights ts m = figure-leads net weights (runs net ts m .leads)
