@@ -9,3 +9,5 @@ pub mod Edges
 pub mod Nets
 pub mod PassBelow
 pub mod ByArcs
+pub mod Integers
+pub mod Figures
