@@ -6,13 +6,13 @@ use mathlib.Core.Logic.{_⊎_, inl, inr, ⊎-elim}
 use mathlib.Core.Option.{Option, none, some, Option·map}
 use native.Mathlib.Omega.{arith}
 use Rattle.model.specs.declared.Mode.{Mode}
-use Rattle.model.specs.First.{first, lowest, Lowest}
+use Rattle.model.specs.First.{Lowest}
 use Rattle.model.specs.Numbers.{ℕ∞, above}
 use Rattle.model.specs.Rows.{Entry}
 use Rattle.model.specs.Nets.{PNet, pairs, modes, pairNo, modeNo, K, row}
-use Rattle.model.specs.Dead.{Kills, kills, deadPair, found, isDead, DeadMode, firstDead}
+use Rattle.model.specs.Dead.{Kills, kills, deadPair, isDead, DeadMode, firstDead}
 use Rattle.model.specs.Promises.{KillsAt, DeadModes, FirstDead}
-use Rattle.model.proofs.First.{Decides, lowest-or-none, lowest-none, lowest-some, some-lowest, first-each, first-all, first-at, first-found}
+use Rattle.model.proofs.First.{Decides, lowest-or-none, lowest-some, some-lowest, first-each, first-all, first-at, first-found}
 use Rattle.model.proofs.Numbers.{above-true, true-above}
 
 either : (a b : Bool) → a || b ≡ true → (a ≡ true) ⊎ (b ≡ true)

@@ -1,18 +1,18 @@
 -- The starred cases of document 01: one table, one theorem.
-use Prim.Native.Nat.{ℕ, _+_, _≤_, _<_}
+use Prim.Native.Nat.{ℕ, _<_}
 use mathlib.Core.Path.{_≡_, refl, sym, _∙_, ap}
 use mathlib.Core.List.{[]}
 use mathlib.Core.Logic.{⊎-elim}
 use mathlib.Core.Option.{Option, some}
 use native.Mathlib.Omega.{arith}
 use Rattle.model.specs.declared.Thing.the-variants.{Argument}
-use Rattle.model.specs.declared.Why.the-variants.{Lacking, OverCapacity}
+use Rattle.model.specs.declared.Why.the-variants.{Lacking}
 use Rattle.model.specs.declared.Refusal.{Refusal}
-use Rattle.model.specs.First.{_▸_, first, Lowest}
+use Rattle.model.specs.First.{_▸_, first}
 use Rattle.model.specs.Refusals.{answer, number}
 use Rattle.model.specs.Numbers.{ℕ∞, fin}
 use Rattle.model.specs.Rows.{Row, Capacities, Counts}
-use Rattle.model.specs.Firing.{stopped, ruleRefusal, rowRefusal}
+use Rattle.model.specs.Firing.{ruleRefusal, rowRefusal}
 use Rattle.model.specs.Promises.{stays}
 use Rattle.model.specs.Edges.{edge, found, edges, Edges}
 use Rattle.model.proofs.Firing.{Low, No, row11, row12, find-stop}

@@ -1,21 +1,20 @@
 -- The refusal table of firing, and Billington's rule.
-use Prim.Native.Nat.{ℕ, _+_, _-_, _≤_, _<_}
-use mathlib.Core.Path.{_≡_, refl, sym, _∙_, ap, subst⁻¹, subst₂}
-use mathlib.Core.Bool.{Bool, true, false, cond}
+use Prim.Native.Nat.{ℕ, _+_, _≤_, _<_}
+use mathlib.Core.Path.{_≡_, refl, ap, subst⁻¹, subst₂}
+use mathlib.Core.Bool.{cond}
 use mathlib.Core.List.{List}
 use mathlib.Core.Logic.{_≢_, _⊎_, ⊎-elim}
 use mathlib.Core.Option.{Option, none, some}
-use lib.Dec.{eqb, leb}
+use lib.Dec.{eqb}
 use native.Mathlib.Omega.{arith}
 use borrow.Author.Tests.{le-leb, lt-leb}
 use Rattle.model.specs.declared.Mode.{Mode}
 use Rattle.model.specs.declared.Thing.{Thing}
-use Rattle.model.specs.declared.Thing.the-variants.{Net, Weights, Movements, Argument}
 use Rattle.model.specs.declared.Why.{Why}
 use Rattle.model.specs.declared.Why.the-variants.{Lacking, OverCapacity, Inhibited, OverLimit}
 use Rattle.model.specs.declared.Fault.the-variants.{NotThere}
 use Rattle.model.specs.declared.Refusal.{Refusal}
-use Rattle.model.specs.First.{_▸_, Lowest, NoneBelow}
+use Rattle.model.specs.First.{Lowest, NoneBelow}
 use Rattle.model.specs.Refusals.{answer, number, thing, position, thingNumber}
 use Rattle.model.specs.Numbers.{fin, limit}
 use Rattle.model.specs.Billington.{Enables}

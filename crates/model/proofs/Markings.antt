@@ -1,16 +1,12 @@
 -- What the test of a marking accepts, and that a movement keeps it.
-use Prim.Native.Nat.{ℕ, _+_, _-_, _≤_, _<_}
-use mathlib.Core.Path.{_≡_, refl, sym, _∙_, ap}
-use mathlib.Core.Bool.{Bool, true, false, not}
+use Prim.Native.Nat.{ℕ, _+_}
+use mathlib.Core.Path.{_≡_}
 use mathlib.Core.List.{List}
-use mathlib.Core.Option.{Option, none, some}
-use lib.Dec.{eqb}
+use mathlib.Core.Option.{none}
 use lib.ListN.{length}
 use native.Mathlib.Omega.{arith}
 use borrow.Author.Tests.{eqb-true, eq-eqb, not-false}
-use Rattle.model.specs.declared.Refusal.{Refusal}
-use Rattle.model.specs.First.{_▸_, first, onlyIf}
-use Rattle.model.specs.Numbers.{fin, above, limit, _≤∞_}
+use Rattle.model.specs.Numbers.{fin, limit}
 use Rattle.model.specs.Nets.{PNet, pairs, K, count, row}
 use Rattle.model.specs.Markings.{markingRefusal, Marking}
 use Rattle.model.specs.Firing.{after, fired}

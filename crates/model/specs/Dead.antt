@@ -1,5 +1,5 @@
 -- Locally dead modes: "A mode is locally dead when, at some pair, Pre or Post is above K."
-use Prim.Native.Nat.{ℕ, _<_}
+use Prim.Native.Nat.{ℕ}
 use mathlib.Core.Bool.{Bool, true, false, _||_}
 use mathlib.Core.Option.{Option, none, some, Option·map}
 use mathlib.Core.Logic.{_⊎_}

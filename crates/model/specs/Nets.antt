@@ -1,14 +1,12 @@
 -- A P-net of document 01: places with colours, transitions with modes, K and the first marking of each pair, and the arcs.
-use Prim.Native.Nat.{ℕ, _+_, _≤_, _<_}
-use mathlib.Core.Path.{_≡_}
+use Prim.Native.Nat.{ℕ, _+_}
 use mathlib.Core.Bool.{Bool, cond, _&&_}
 use mathlib.Core.List.{List, [], _∷_}
-use mathlib.Core.Logic.{_⊎_, _≢_}
 use lib.Dec.{eqb}
-use lib.ListN.{length, getD}
+use lib.ListN.{getD}
 use Rattle.model.specs.declared.Pair.{Pair}
 use Rattle.model.specs.declared.Mode.{Mode}
-use Rattle.model.specs.Numbers.{ℕ∞, ∞, _≤∞_, limit}
+use Rattle.model.specs.Numbers.{ℕ∞, ∞}
 use Rattle.model.specs.Rows.{Entry, noArc, Row, Capacities, Counts}
 
 pub record NetArc : Type 0 where

@@ -1,11 +1,11 @@
 -- What is promised of the model: open this file first. Each statement is a type; docs/ARCHITECTURE.md names the one term of proofs/ that has it.
 -- The definitions that a statement uses are in the file that its `use` line names, in the words of document 01 and source document 000.
-use Prim.Native.Nat.{ℕ, _+_, _≤_, _<_}
+use Prim.Native.Nat.{ℕ, _≤_, _<_}
 use mathlib.Core.Path.{_≡_}
 use mathlib.Core.Bool.{true}
 use mathlib.Core.List.{List, [], _∷_}
 use mathlib.Core.Logic.{_↔_, _≢_}
-use mathlib.Core.Option.{Option, none, some}
+use mathlib.Core.Option.{none, some}
 use lib.ListN.{length, take, getD}
 use lib.IntN.{ℤ, _+ℤ_}
 use Rattle.model.specs.declared.Mode.{Mode}
@@ -22,7 +22,7 @@ use Rattle.model.specs.Nets.{PNet, pairs, modes, pairNo, modeNo, K, coun
 use Rattle.model.specs.Markings.{Marking, markingRefusal}
 use Rattle.model.specs.Firing.{Stops, ruleRefusal, modeRefusal, fired}
 use Rattle.model.specs.Runs.{run, certificateRefusal}
-use Rattle.model.specs.Figures.{figure, change, changes}
+use Rattle.model.specs.Figures.{figure, changes}
 use Rattle.model.specs.Dead.{Kills, isDead, firstDead}
 
 -- 1. The refusal table of firing, row by row. `Says n p`: the answer has number n and position p.
