@@ -1,4 +1,6 @@
 pub mod First
+pub mod Joined
+pub mod Bounded
 pub mod Numbers
 pub mod Tables
 pub mod Firing

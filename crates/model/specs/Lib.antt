@@ -12,3 +12,5 @@ pub mod Firing
 pub mod Runs
 pub mod Figures
 pub mod Dead
+pub mod Complement
+pub mod DemandThree

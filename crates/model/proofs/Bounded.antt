@@ -1,0 +1,69 @@
+-- The bounded pairs: the pair p of finite K is the one that as many bounded pairs as stand below p come before.
+use Prim.Native.Nat.{ℕ, zero, suc, _+_, _-_, _≤_, _<_}
+use mathlib.Core.Path.{_≡_, refl, sym, _∙_, ap}
+use mathlib.Core.Bool.{Bool, true, false, cond}
+use mathlib.Core.List.{List, [], _∷_, _++_}
+use mathlib.Core.Logic.{⊎-elim}
+use lib.ListN.{length, getD, length-append, List·getD-append}
+use lib.Seq.{getD-append-seam}
+use native.Mathlib.Omega.{arith}
+use native.Mathlib.Nat.{eq-or-lt-of-le, le-of-suc-le-suc, not-suc-le-zero, add-zero, add-suc}
+use Rattle.model.specs.Numbers.{ℕ∞, fin, ∞}
+use Rattle.model.specs.Rows.{Capacities}
+use Rattle.model.specs.Complement.{joined, listIf, finite, bounded, boundedBelow}
+
+-- the bounded pair that j others stand below
+pub record BoundedPair (K : Capacities) (n j : ℕ) : Type 0 where
+  pub pair : ℕ
+  pub below : pair < n
+  pub capacity : ℕ
+  pub isBounded : K pair ≡ fin capacity
+  pub number : boundedBelow K pair ≡ j
+
+pub below-next : (K : Capacities) (n : ℕ) → boundedBelow K (suc n) ≡ boundedBelow K n + cond (finite (K n)) 1 0
+unfolding bounded joined
+below-next K n = length-append (bounded K n) (listIf (finite (K n)) n) ∙ ap (λ c. boundedBelow K n + c) (one (finite (K n)))
+  where
+    one : (b : Bool) → length (listIf b n) ≡ cond b 1 0
+    one true = refl
+    one false = refl
+
+pub below-split : (K : Capacities) (m c : ℕ) → boundedBelow K (m + c) ≡ boundedBelow K m + boundedBelow (λ p. K (m + p)) c
+unfolding bounded joined
+below-split K m zero = rw (add-zero m) (omega arith)
+below-split K m (suc c) = rw add-suc (below-next K (m + c) ∙ omega (arith, below-split K m c, below-next (λ p. K (m + p)) c))
+
+module _ (K : Capacities) where
+  pub below-rises : (m n : ℕ) → m ≤ n → boundedBelow K m ≤ boundedBelow K n
+  below-rises m n h = let e : n ≡ m + (n - m) = omega arith in rw e (omega (arith, below-split K m (n - m)))
+
+  below-counts : (p : ℕ) {b : ℕ∞} → K p ≡ b → boundedBelow K (suc p) ≡ boundedBelow K p + cond (finite b) 1 0
+  below-counts p e = rw e at (below-next K p)
+
+  pub bounded-number : (n p k : ℕ) → p < n → K p ≡ fin k → boundedBelow K p < boundedBelow K n
+  bounded-number n p k h e = omega (arith, below-counts p e, below-rises (suc p) n h)
+
+  -- a bounded pair stands where its number among the bounded pairs says
+  pub bounded-at : (n p k : ℕ) → p < n → K p ≡ fin k → getD (bounded K n) (boundedBelow K p) 0 ≡ p
+  unfolding bounded joined
+  bounded-at zero p k h e = absurd (not-suc-le-zero h)
+  bounded-at (suc n) p k h e =
+      ⊎-elim (λ (q : p ≡ n). rw (q, rw q at e) (getD-append-seam (bounded K n) n [] 0))
+      (λ (l : p < n).
+      List·getD-append (bounded K n) (listIf (finite (K n)) n) 0 (boundedBelow K p) (bounded-number n p k l e) ∙ bounded-at n p k l e)
+      (eq-or-lt-of-le (le-of-suc-le-suc h))
+
+  pub bounded-pair : (n j : ℕ) → j < boundedBelow K n → BoundedPair K n j
+  unfolding bounded joined
+  bounded-pair zero j h = absurd (not-suc-le-zero h)
+  bounded-pair (suc n) j h = go (K n) refl (bounded-pair n j)
+    where
+      more : BoundedPair K n j → BoundedPair K (suc n) j
+      more r = record { pair = r .pair; below = omega (arith, r .below); capacity = r .capacity; isBounded = r .isBounded; number = r .number }
+
+      go : (b : ℕ∞) → K n ≡ b → (j < boundedBelow K n → BoundedPair K n j) → BoundedPair K (suc n) j
+      go (fin k) e ih =
+          ⊎-elim (λ (q : j ≡ boundedBelow K n). record { pair = n; below = omega arith; capacity = k; isBounded = e; number = sym q })
+          (λ (l : j < boundedBelow K n). more (ih l))
+          (eq-or-lt-of-le (omega (arith, below-counts n e)))
+      go ∞ e ih = more (ih (omega (arith, below-counts n e)))

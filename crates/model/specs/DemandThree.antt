@@ -1,0 +1,70 @@
+-- Demand 3: "For any net that complementing accepts and any list of mode numbers from its first marking: the complement as written
+-- reads back as a net; both accept the same movements and stop at the same one; at the start and after each accepted movement they agree
+-- on every original pair, and each bounded pair and its complement add up to its capacity."
+use Prim.Native.Nat.{ℕ, _≤_}
+use mathlib.Core.Path.{_≡_}
+use mathlib.Core.Bool.{Bool, cond, _||_}
+use mathlib.Core.List.{List}
+use mathlib.Core.Option.{Option, none}
+use lib.Dec.{eqb}
+use lib.ListN.{take, getD}
+use Rattle.model.specs.declared.Mode.{Mode}
+use Rattle.model.specs.declared.Thing.{Thing}
+use Rattle.model.specs.declared.Thing.the-variants.{Movements}
+use Rattle.model.specs.declared.Why.the-variants.{Lacking, OverCapacity, Inhibited}
+use Rattle.model.specs.declared.Refusal.{Refusal}
+use Rattle.model.specs.First.{lowest}
+use Rattle.model.specs.Refusals.{answer, number}
+use Rattle.model.specs.Numbers.{ℕ∞}
+use Rattle.model.specs.Rows.{Entry}
+use Rattle.model.specs.Nets.{PNet, pairs, modeNo, K, count, row}
+use Rattle.model.specs.WellFormed.{WellFormed}
+use Rattle.model.specs.Firing.{stops, stopped}
+use Rattle.model.specs.Runs.{Outcome, run}
+use Rattle.model.specs.Complement.{complementPair, complement, complementRefusal, Corresponds}
+
+-- "any net that complementing accepts"; the arcs' offsets only name the arc in a refusal
+pub record Complementable (net : PNet) : Type 0 where
+  pub wellFormed : WellFormed net
+  pub offset : ℕ → ℕ
+  pub accepted : complementRefusal offset net ≡ none
+
+-- what 12 or 13 stops at one pair
+abbrev pub crowded : Entry → ℕ∞ → ℕ → Bool
+crowded e k m = stops OverCapacity e k m || stops Inhibited e k m
+
+abbrev pub is12or13 : Option Refusal → Bool
+is12or13 r = eqb (number (answer r)) 12 || eqb (number (answer r)) 13
+
+-- "Refusals correspond: 11, 12 and 13 in the net become 11 in its complement; 6 and 14 stay." What the net's refusal of t at m becomes: 12 and 13
+-- become 11 at the complement of the lowest pair that breaks either; no refusal, 6, 11 and 14 stay, with their positions.
+unfoldable pub becomes : Thing → PNet → Mode → List ℕ → Option Refusal → Option Refusal
+becomes thing net t m r =
+    cond (is12or13 r)
+    (lowest (pairs net) (λ p. crowded (row net t p) (K net p) (count m p)) (λ p. stopped thing Lacking (complementPair (pairs net) (K net) p)))
+    r
+
+module _ (net : PNet) (ts : List Mode) where
+  abbrev inNet : List Mode → Outcome
+  inNet us = run net us (net .start)
+
+  abbrev inComplement : List Mode → Outcome
+  inComplement us = run (complement net) us (complement net .start)
+
+  abbrev stopsAt : Mode
+  stopsAt = getD ts (inNet ts .accepted) (modeNo 0)
+
+  pub record Agreement : Type 0 where
+    -- "both accept the same movements and stop at the same one"
+    pub accepted : inComplement ts .accepted ≡ inNet ts .accepted
+    pub refusal : inComplement ts .refusal ≡ becomes Movements net stopsAt (inNet ts .marking) (inNet ts .refusal)
+    -- "at the start and after each accepted movement": after the first j movements
+    pub agree : (j : ℕ) → j ≤ inNet ts .accepted → Corresponds net (inNet (take j ts) .marking) (inComplement (take j ts) .marking)
+
+pub record DemandThree (net : PNet) : Type 0 where
+  -- "the complement as written reads back as a net"
+  pub readsBack : WellFormed (complement net)
+  pub runs : (ts : List Mode) → Agreement net ts
+
+abbrev pub Demand3 : Type 0
+Demand3 = (net : PNet) → Complementable net → DemandThree net
