@@ -11,14 +11,14 @@ use native.Mathlib.Nat.{eq-or-lt-of-le, le-of-suc-le-suc, not-suc-le-zero, add-z
 use Rattle.model.specs.Numbers.{ℕ∞, fin, ∞}
 use Rattle.model.specs.Rows.{Capacities}
 use Rattle.model.specs.Complement.{joined, listIf, finite, bounded, boundedBelow}
+use Rattle.model.proofs.First.{below-or}
 
--- the bounded pair that j others stand below
-pub record BoundedPair (K : Capacities) (n j : ℕ) : Type 0 where
-  pub pair : ℕ
-  pub below : pair < n
+-- p is the bounded pair below n that j others stand below
+pub record BoundedPair (K : Capacities) (n j p : ℕ) : Type 0 where
+  pub below : p < n
   pub capacity : ℕ
-  pub isBounded : K pair ≡ fin capacity
-  pub number : boundedBelow K pair ≡ j
+  pub isBounded : K p ≡ fin capacity
+  pub number : boundedBelow K p ≡ j
 
 pub below-next : (K : Capacities) (n : ℕ) → boundedBelow K (suc n) ≡ boundedBelow K n + cond (finite (K n)) 1 0
 unfolding bounded joined
@@ -53,17 +53,34 @@ module _ (K : Capacities) where
       List·getD-append (bounded K n) (listIf (finite (K n)) n) 0 (boundedBelow K p) (bounded-number n p k l e) ∙ bounded-at n p k l e)
       (eq-or-lt-of-le (le-of-suc-le-suc h))
 
-  pub bounded-pair : (n j : ℕ) → j < boundedBelow K n → BoundedPair K n j
+  found : (n j : ℕ) → j < boundedBelow K n → (p : ℕ) × BoundedPair K n j p
   unfolding bounded joined
-  bounded-pair zero j h = absurd (not-suc-le-zero h)
-  bounded-pair (suc n) j h = go (K n) refl (bounded-pair n j)
+  found zero j h = absurd (not-suc-le-zero h)
+  found (suc n) j h = go (K n) refl (found n j)
     where
-      more : BoundedPair K n j → BoundedPair K (suc n) j
-      more r = record { pair = r .pair; below = omega (arith, r .below); capacity = r .capacity; isBounded = r .isBounded; number = r .number }
+      Found : ℕ → Type 0
+      Found m = (p : ℕ) × BoundedPair K m j p
 
-      go : (b : ℕ∞) → K n ≡ b → (j < boundedBelow K n → BoundedPair K n j) → BoundedPair K (suc n) j
+      more : Found n → Found (suc n)
+      more r =
+          (r .0, record { below = omega (arith, r .1 .below); capacity = r .1 .capacity; isBounded = r .1 .isBounded; number = r .1 .number })
+
+      go : (b : ℕ∞) → K n ≡ b → (j < boundedBelow K n → Found n) → Found (suc n)
       go (fin k) e ih =
-          ⊎-elim (λ (q : j ≡ boundedBelow K n). record { pair = n; below = omega arith; capacity = k; isBounded = e; number = sym q })
+          ⊎-elim (λ (q : j ≡ boundedBelow K n). (n, record { below = omega arith; capacity = k; isBounded = e; number = sym q }))
           (λ (l : j < boundedBelow K n). more (ih l))
           (eq-or-lt-of-le (omega (arith, below-counts n e)))
       go ∞ e ih = more (ih (omega (arith, below-counts n e)))
+
+  pub bounded-pair : (n j : ℕ) → j < boundedBelow K n → BoundedPair K n j (getD (bounded K n) j 0)
+  bounded-pair n j h =
+      let r = found n j h in
+      let e : getD (bounded K n) j 0 ≡ r .0 = rw (r .1 .number) at (bounded-at n (r .0) (r .1 .capacity) (r .1 .below) (r .1 .isBounded)) in
+      rw e (r .1)
+
+  pub bounded-rises : (n i j : ℕ) → i < j → j < boundedBelow K n → getD (bounded K n) i 0 < getD (bounded K n) j 0
+  bounded-rises n i j h l =
+      ⊎-elim (λ (b : getD (bounded K n) i 0 < getD (bounded K n) j 0). b)
+      (λ (b : getD (bounded K n) j 0 ≤ getD (bounded K n) i 0).
+      absurd (omega (arith, below-rises _ _ b, bounded-pair n i (omega arith) .number, bounded-pair n j l .number)))
+      (below-or (getD (bounded K n) i 0) (getD (bounded K n) j 0))

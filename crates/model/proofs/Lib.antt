@@ -1,6 +1,8 @@
 pub mod First
 pub mod Joined
 pub mod Bounded
+pub mod ComplementRow
+pub mod ComplementStep
 pub mod Numbers
 pub mod Tables
 pub mod Firing

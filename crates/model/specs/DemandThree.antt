@@ -16,7 +16,7 @@ use Rattle.model.specs.declared.Refusal.{Refusal}
 use Rattle.model.specs.First.{lowest}
 use Rattle.model.specs.Refusals.{answer, number}
 use Rattle.model.specs.Numbers.{ℕ∞}
-use Rattle.model.specs.Rows.{Entry}
+use Rattle.model.specs.Rows.{Entry, Row, Capacities, Counts}
 use Rattle.model.specs.Nets.{PNet, pairs, modeNo, K, count, row}
 use Rattle.model.specs.WellFormed.{WellFormed}
 use Rattle.model.specs.Firing.{stops, stopped}
@@ -33,16 +33,17 @@ pub record Complementable (net : PNet) : Type 0 where
 abbrev pub crowded : Entry → ℕ∞ → ℕ → Bool
 crowded e k m = stops OverCapacity e k m || stops Inhibited e k m
 
+-- 11 at the complement of the lowest pair that breaks 12 or 13
+abbrev pub lowestCrowded : Thing → ℕ → Capacities → Row → Counts → Option Refusal
+lowestCrowded thing n K row M = lowest n (λ p. crowded (row p) (K p) (M p)) (λ p. stopped thing Lacking (complementPair n K p))
+
 abbrev pub is12or13 : Option Refusal → Bool
 is12or13 r = eqb (number (answer r)) 12 || eqb (number (answer r)) 13
 
--- "Refusals correspond: 11, 12 and 13 in the net become 11 in its complement; 6 and 14 stay." What the net's refusal of t at m becomes: 12 and 13
--- become 11 at the complement of the lowest pair that breaks either; no refusal, 6, 11 and 14 stay, with their positions.
+-- "Refusals correspond: 11, 12 and 13 in the net become 11 in its complement; 6 and 14 stay." What the net's refusal r of t at m becomes: no refusal,
+-- 6, 11 and 14 keep their positions, and of 12 and 13 the lowest pair counts that breaks either.
 unfoldable pub becomes : Thing → PNet → Mode → List ℕ → Option Refusal → Option Refusal
-becomes thing net t m r =
-    cond (is12or13 r)
-    (lowest (pairs net) (λ p. crowded (row net t p) (K net p) (count m p)) (λ p. stopped thing Lacking (complementPair (pairs net) (K net) p)))
-    r
+becomes thing net t m r = cond (is12or13 r) (lowestCrowded thing (pairs net) (K net) (row net t) (count m)) r
 
 module _ (net : PNet) (ts : List Mode) where
   abbrev inNet : List Mode → Outcome
