@@ -20,6 +20,10 @@ pub record BoundedPair (K : Capacities) (n j p : ℕ) : Type 0 where
   pub isBounded : K p ≡ fin capacity
   pub number : boundedBelow K p ≡ j
 
+pub below-none : (K : Capacities) → boundedBelow K 0 ≡ 0
+unfolding bounded joined
+below-none K = refl
+
 pub below-next : (K : Capacities) (n : ℕ) → boundedBelow K (suc n) ≡ boundedBelow K n + cond (finite (K n)) 1 0
 unfolding bounded joined
 below-next K n = length-append (bounded K n) (listIf (finite (K n)) n) ∙ ap (λ c. boundedBelow K n + c) (one (finite (K n)))
@@ -54,8 +58,7 @@ module _ (K : Capacities) where
       (eq-or-lt-of-le (le-of-suc-le-suc h))
 
   found : (n j : ℕ) → j < boundedBelow K n → (p : ℕ) × BoundedPair K n j p
-  unfolding bounded joined
-  found zero j h = absurd (not-suc-le-zero h)
+  found zero j h = absurd (omega (arith, below-none K))
   found (suc n) j h = go (K n) refl (found n j)
     where
       Found : ℕ → Type 0

@@ -3,6 +3,8 @@ pub mod Joined
 pub mod Bounded
 pub mod ComplementRow
 pub mod ComplementStep
+pub mod WrittenRows
+pub mod ComplementNet
 pub mod Numbers
 pub mod Tables
 pub mod Firing

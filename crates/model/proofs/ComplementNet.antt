@@ -1,0 +1,113 @@
+-- The complement of a net: its pairs, modes, capacities, rows and first marking.
+use Prim.Native.Nat.{ℕ, zero, suc, _+_, _-_, _≤_, _<_}
+use mathlib.Core.Path.{_≡_, refl, sym, _∙_, ap}
+use mathlib.Core.Bool.{Bool, true, false, cond, not, _&&_, true≢false}
+use mathlib.Core.List.{List, [], _∷_, _++_, map}
+use mathlib.Core.Logic.{_⊎_, ⊎-elim}
+use mathlib.Core.Option.{Option, none}
+use lib.Dec.{eqb, ltb}
+use lib.ListN.{length, getD, replicate, length-append, length-replicate, getD-replicate, length-map, List·getD-map, List·getD-append, List·getD-eq-default}
+use lib.Seq.{getD-append-add}
+use borrow.Author.Tests.{eqb-true, ltb-false}
+use native.Mathlib.Omega.{arith}
+use native.Mathlib.Nat.{le-of-suc-le-suc, not-suc-le-zero}
+use Rattle.model.specs.declared.Mode.{Mode}
+use Rattle.model.specs.Numbers.{ℕ∞, fin, ∞, _≤∞_}
+use Rattle.model.specs.Rows.{Entry, noArc, Row, Capacities}
+use Rattle.model.specs.Nets.{NetArc, PNet, total, pairs, modes, K, count, arcNo, entryAt, row}
+use Rattle.model.specs.WellFormed.{WellFormed}
+use Rattle.model.specs.Complement.{joined, listIf, finite, bounded, boundedBelow, complementPair, complementRow, newPlaces, less, boundedPairs, allPairs, complement, inhibitsUnbounded, refusal15, Corresponds}
+use Rattle.model.proofs.First.{below-or, first-each, only-if-none}
+use Rattle.model.proofs.Bounded.{below-none, below-split, bounded-at, bounded-number}
+use Rattle.model.proofs.WrittenRows.{written-row}
+
+total-append : (xs ys : List ℕ) → total (xs ++ ys) ≡ total xs + total ys
+total-append [] ys = omega arith
+total-append (x ∷ xs) ys = omega (arith, total-append xs ys)
+
+total-new : (K : Capacities) (cs : List ℕ) → total (newPlaces K cs) ≡ boundedBelow K (total cs)
+unfolding newPlaces
+total-new K [] = sym (below-none K)
+total-new K (c ∷ cs) =
+    total-append (listIf (ltb 0 (boundedBelow K c)) (boundedBelow K c)) (newPlaces (λ p. K (c + p)) cs)
+    ∙ omega (arith, one (ltb 0 (boundedBelow K c)) refl, total-new (λ p. K (c + p)) cs, below-split K c (total cs))
+  where
+    one : (b : Bool) → ltb 0 (boundedBelow K c) ≡ b → total (listIf b (boundedBelow K c)) ≡ boundedBelow K c
+    one true e = omega arith
+    one false e = omega (arith, ltb-false 0 (boundedBelow K c) e)
+
+map-at : {A B : Type 0} (f : A → B) (l : List A) (n : ℕ) (d : B) (c : A) → n < length l → getD (map f l) n d ≡ f (getD l n c)
+map-at f [] n d c h = absurd (not-suc-le-zero h)
+map-at f (x ∷ l) zero d c h = refl
+map-at f (x ∷ l) (suc n) d c h = map-at f l n d c (le-of-suc-le-suc h)
+
+module _ (net : PNet) where
+  pub modes-complement : modes (complement net) ≡ modes net
+  unfolding complement
+  modes-complement = refl
+
+  pub pairs-complement : pairs (complement net) ≡ allPairs net
+  unfolding complement
+  pairs-complement = total-append (net .colours) (newPlaces (K net) (net .colours)) ∙ ap (λ b. pairs net + b) (total-new (K net) (net .colours))
+
+  pub capacity-complement : (p : ℕ) → K (complement net) p ≡ ∞
+  unfolding complement
+  capacity-complement p =
+      ⊎-elim (λ (l : p < allPairs net). getD-replicate (allPairs net) p ∞ ∞ l)
+      (λ (l : allPairs net ≤ p). List·getD-eq-default (replicate (allPairs net) ∞) ∞ (rw length-replicate l)) (below-or p (allPairs net))
+
+  pub rows-complement : (t : Mode) (p : ℕ) → t .0 < modes net → p < allPairs net → row (complement net) t p ≡ complementRow (pairs net) (K net) (row net t) p
+  unfolding complement
+  rows-complement = written-row (modes net) (allPairs net) (λ t. complementRow (pairs net) (K net) (row net t))
+
+-- what holds of no arc, and of each arc at p, holds of what stands at p
+pub entry-holds : (P : Entry → Type 0) (t : Mode) (p : ℕ) → P noArc → (arcs : List NetArc) → ((k : ℕ) → k < length arcs → arcNo arcs k .pair .0 ≡ p → P (arcNo arcs k .entry)) → P (entryAt arcs t p)
+unfolding entryAt
+entry-holds P t p n [] each = n
+entry-holds P t p n (a ∷ arcs) each =
+    go (eqb (a .mode .0) (t .0)) (eqb (a .pair .0) p) refl (entry-holds P t p n arcs (λ k l. each (suc k) (omega arith)))
+  where
+    go : (x y : Bool) → eqb (a .pair .0) p ≡ y → P (entryAt arcs t p) → P (cond (x && y) (a .entry) (entryAt arcs t p))
+    go true true e later = each 0 (omega arith) (eqb-true (a .pair .0) p e)
+    go true false e later = later
+    go false y e later = later
+
+-- 15 was not given: no inhibitor stands at an unbounded pair
+pub uninhibited : (net : PNet) (offset : ℕ → ℕ) → refusal15 offset net ≡ none → (t : Mode) (p : ℕ) → K net p ≡ ∞ → row net t p .inhibitor ≡ ∞
+unfolding refusal15
+uninhibited net offset e t p u = entry-holds (λ e. e .inhibitor ≡ ∞) t p refl (net .arcs) each
+  where
+    each : (k : ℕ) → k < length (net .arcs) → arcNo (net .arcs) k .pair .0 ≡ p → arcNo (net .arcs) k .entry .inhibitor ≡ ∞
+    each k h s =
+        go (arcNo (net .arcs) k .entry .inhibitor) refl
+        (rw (s, u) at (only-if-none (inhibitsUnbounded net (arcNo (net .arcs) k)) _ (first-each (length (net .arcs)) _ e k h)))
+      where
+        go : (i : ℕ∞) → arcNo (net .arcs) k .entry .inhibitor ≡ i → (finite (arcNo (net .arcs) k .entry .inhibitor) && true) ≡ false → arcNo (net .arcs) k .entry .inhibitor ≡ ∞
+        go (fin i) f d = absurd (true≢false (rw f at d))
+        go ∞ f d = f
+
+-- the first markings correspond
+pub start-corresponds : (net : PNet) → WellFormed net → Corresponds net (net .start) (complement net .start)
+unfolding complement
+start-corresponds net wf =
+    record {
+      oneEach = wf .start .oneEach;
+      oneEach′ = length-append (net .start) _ ∙ rw (wf .start .oneEach, length-map) (sym (pairs-complement net));
+      equal = λ p h. List·getD-append (net .start) _ 0 p (rw (wf .start .oneEach) h);
+      addUp = addUp;
+    }
+  where
+    rest : ℕ → ℕ
+    rest p = less (K net p) (count (net .start) p)
+
+    addUp : (p k : ℕ) → p < pairs net → K net p ≡ fin k
+        → count (net .start) p + count (net .start ++ map rest (boundedPairs net)) (complementPair (pairs net) (K net) p) ≡ k
+    addUp p k h e =
+        let less : count (net .start) p ≤ k = rw e at (wf .start .within p h) in
+        let is : count (net .start ++ map rest (boundedPairs net)) (complementPair (pairs net) (K net) p) ≡ k - count (net .start) p =
+        ap (λ n. count (net .start ++ map rest (boundedPairs net)) (n + boundedBelow (K net) p)) (sym (wf .start .oneEach))
+        ∙ getD-append-add (net .start) (map rest (boundedPairs net)) (boundedBelow (K net) p) 0
+        ∙ map-at rest (boundedPairs net) (boundedBelow (K net) p) 0 0 (bounded-number (K net) (pairs net) p k h e)
+        ∙ rw (bounded-at (K net) (pairs net) p k h e, e)
+        in
+        omega arith

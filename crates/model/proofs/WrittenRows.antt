@@ -1,0 +1,79 @@
+-- Arcs that are written from rows, blanks left out, read back as these rows.
+use Prim.Native.Nat.{ℕ, zero, suc, _+_, _≤_, _<_}
+use mathlib.Core.Path.{_≡_, refl, sym, _∙_, ap}
+use mathlib.Core.Bool.{Bool, true, false, cond, not, _&&_, and-false, false≢true}
+use mathlib.Core.List.{List, [], _∷_, _++_, append-assoc, append-nil}
+use mathlib.Core.Logic.{_⊎_, inl, inr, ⊎-elim, _≢_}
+use lib.Dec.{eqb}
+use borrow.Author.Tests.{eqb-true, ne-eqb, eq-eqb}
+use native.Mathlib.Omega.{arith}
+use native.Mathlib.Nat.{eq-or-lt-of-le, le-of-suc-le-suc, not-suc-le-zero}
+use Rattle.model.specs.declared.Mode.{Mode}
+use Rattle.model.specs.Numbers.{ℕ∞, fin, ∞}
+use Rattle.model.specs.Rows.{Entry, noArc, Row}
+use Rattle.model.specs.Nets.{NetArc, pairNo, modeNo, entryAt}
+use Rattle.model.specs.Complement.{joined, listIf, finite, blank, written, arcsOf}
+
+pub blank-is : (e : Entry) → blank e ≡ true → e ≡ noArc
+blank-is e d = go (eqb (e .pre) 0) (eqb (e .post) 0) (e .inhibitor) refl refl refl d
+  where
+    go : (x y : Bool) (i : ℕ∞) → eqb (e .pre) 0 ≡ x → eqb (e .post) 0 ≡ y → e .inhibitor ≡ i → (x && y && not (finite i)) ≡ true → e ≡ noArc
+    go true true ∞ a b c d = λ j. record { pre = eqb-true (e .pre) 0 a j; post = eqb-true (e .post) 0 b j; inhibitor = c j }
+    go true true (fin i) a b c d = absurd (false≢true d)
+    go true false i a b c d = absurd (false≢true d)
+    go false y i a b c d = absurd (false≢true d)
+
+-- nothing of xs stands at t and p
+abbrev Elsewhere : List NetArc → Mode → ℕ → Type 0
+Elsewhere xs t p = (ys : List NetArc) → entryAt (xs ++ ys) t p ≡ entryAt ys t p
+
+module _ (t : Mode) (p : ℕ) where
+  entry-under : (xs ys zs : List NetArc) → entryAt ys t p ≡ entryAt zs t p → entryAt (xs ++ ys) t p ≡ entryAt (xs ++ zs) t p
+  unfolding entryAt
+  entry-under [] ys zs e = e
+  entry-under (a ∷ xs) ys zs e = rw (entry-under xs ys zs e)
+
+  elsewhere-joined : (n : ℕ) (f : ℕ → List NetArc) → ((i : ℕ) → i < n → Elsewhere (f i) t p) → Elsewhere (joined n f) t p
+  unfolding joined
+  elsewhere-joined zero f h ys = refl
+  elsewhere-joined (suc n) f h ys =
+      rw append-assoc (elsewhere-joined n f (λ i l. h i (omega arith)) (f n ++ ys) ∙ h n (omega arith) ys)
+
+  -- the one part that may stand at t and p is looked up
+  entry-joined : (n i : ℕ) (f : ℕ → List NetArc) → i < n → ((j : ℕ) → j < n → j ≢ i → Elsewhere (f j) t p) → (ys : List NetArc) → entryAt (joined n f ++ ys) t p ≡ entryAt (f i ++ ys) t p
+  unfolding joined
+  entry-joined zero i f h out ys = absurd (not-suc-le-zero h)
+  entry-joined (suc n) i f h out ys =
+      rw append-assoc
+      (⊎-elim (λ (q : i ≡ n). elsewhere-joined n f (λ j l. out j (omega arith) (omega arith)) (f n ++ ys) ∙ rw q)
+      (λ (l : i < n).
+      entry-joined n i f l (λ j b d. out j (omega arith) d) (f n ++ ys)
+      ∙ entry-under (f i) (f n ++ ys) ys (out n (omega arith) (omega arith) ys))
+      (eq-or-lt-of-le (le-of-suc-le-suc h)))
+
+  elsewhere-written : (u : Mode) (q : ℕ) (e : Entry) → (eqb (u .0) (t .0) && eqb q p) ≡ false → Elsewhere (written u q e) t p
+  unfolding entryAt
+  elsewhere-written u q e d ys = go (not (blank e))
+    where
+      go : (b : Bool) → entryAt (listIf b (record { mode = u; pair = pairNo q; entry = e }) ++ ys) t p ≡ entryAt ys t p
+      go true = rw d
+      go false = refl
+
+  written-here : (e : Entry) → entryAt (written t p e) t p ≡ e
+  unfolding entryAt
+  written-here e = go (blank e) refl
+    where
+      go : (b : Bool) → blank e ≡ b → entryAt (listIf (not b) (record { mode = t; pair = pairNo p; entry = e })) t p ≡ e
+      go true d = sym (blank-is e d)
+      go false d = rw (eq-eqb (t .0) (t .0) refl, eq-eqb p p refl)
+
+pub written-row : (m n : ℕ) (rows : Mode → Row) (t : Mode) (p : ℕ) → t .0 < m → p < n → entryAt (arcsOf m n rows) t p ≡ rows t p
+unfolding arcsOf
+written-row m n rows t p h l =
+    sym (ap (λ xs. entryAt xs t p) (append-nil (joined m (λ u. joined n (λ q. written (modeNo u) q (rows (modeNo u) q))))))
+    ∙ entry-joined t p m (t .0) (λ u. joined n (λ q. written (modeNo u) q (rows (modeNo u) q))) h
+    (λ u b d. elsewhere-joined t p n _ (λ q c. elsewhere-written t p (modeNo u) q (rows (modeNo u) q) (rw (ne-eqb u (t .0) d)))) []
+    ∙ entry-joined t p n p (λ q. written t q (rows t q)) l
+    (λ q b d. elsewhere-written t p t q (rows t q) (rw (ne-eqb q p d) (and-false (eqb (t .0) (t .0))))) []
+    ∙ ap (λ xs. entryAt xs t p) (append-nil (written t p (rows t p)))
+    ∙ written-here t p (rows t p)
