@@ -3,6 +3,7 @@ pub mod Joined
 pub mod Bounded
 pub mod ComplementRow
 pub mod ComplementStep
+pub mod RefusalsCorrespond
 pub mod WrittenRows
 pub mod ComplementNet
 pub mod Numbers
