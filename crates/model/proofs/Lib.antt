@@ -6,6 +6,8 @@ pub mod ComplementStep
 pub mod RefusalsCorrespond
 pub mod WrittenRows
 pub mod ComplementNet
+pub mod CorrespondingMoves
+pub mod Demand3
 pub mod Numbers
 pub mod Tables
 pub mod Firing

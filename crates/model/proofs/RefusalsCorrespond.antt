@@ -14,12 +14,16 @@ use Rattle.model.specs.declared.Refusal.{Refusal}
 use Rattle.model.specs.First.{_▸_}
 use Rattle.model.specs.Rows.{Row, Counts}
 use Rattle.model.specs.Nets.{PNet, pairs, K, count, row}
-use Rattle.model.specs.Firing.{compared, stops, rowRefusal}
+use Rattle.model.specs.Firing.{compared, stops, lowestStop, ruleRefusal, rowRefusal}
 use Rattle.model.specs.DemandThree.{crowded, lowestCrowded, becomes}
-use Rattle.model.proofs.First.{none-then, some-then, first-each, first-all, only-if-none}
+use Rattle.model.proofs.First.{left-none, right-none, none-then, some-then, first-each, first-all, only-if-none}
 use Rattle.model.proofs.Numbers.{false-above, le-not-above, true-above}
 use Rattle.model.proofs.Firing.{No, Low, row0, row11, row12, row13, row14, none-stop, lowest-stop, find-stop}
 use Rattle.model.proofs.ComplementStep.{answerInComplement}
+
+or-none : (a b : Bool) → (a || b) ≡ false → (a ≡ false) × (b ≡ false)
+or-none true b e = absurd (true≢false e)
+or-none false b e = (refl, e)
 
 module _ (thing : Thing) (net : PNet) (t : Mode) (m : List ℕ) where
   abbrev n : ℕ
@@ -86,3 +90,16 @@ module _ (thing : Thing) (net : PNet) (t : Mode) (m : List ℕ) where
       (find-stop thing n (K net) r M Inhibited))
       (find-stop thing n (K net) r M OverCapacity))
       (find-stop thing n (K net) r M Lacking)
+
+  -- what the complement accepts, the net accepts
+  pub none-becomes : answerInComplement thing n (K net) r M ≡ none → rowRefusal thing n (K net) r M ≡ none
+  unfolding rowRefusal ruleRefusal
+  none-becomes e =
+      let rest = right-none (lowestStop thing n (K net) r M Lacking) _ e in
+      none-then
+      (none-then (left-none _ _ e)
+      (none-then (first-all n _ (λ p h. rw (passed (left-none crowd _ rest) p h .0))) (first-all n _ (λ p h. rw (passed (left-none crowd _ rest) p h .1)))))
+      (right-none crowd _ rest)
+    where
+      passed : crowd ≡ none → (p : ℕ) → p < n → (stops OverCapacity (r p) (K net p) (M p) ≡ false) × (stops Inhibited (r p) (K net p) (M p) ≡ false)
+      passed c p h = or-none (stops OverCapacity (r p) (K net p) (M p)) _ (only-if-none _ _ (first-each n _ c p h))

@@ -1,0 +1,119 @@
+-- One movement of a net and of its complement at corresponding markings: the refusals correspond, and so do the markings after.
+use Prim.Native.Nat.{ℕ, _+_, _≤_, _<_}
+use mathlib.Core.Path.{_≡_, refl, sym, _∙_, ap}
+use mathlib.Core.Bool.{Bool, true, false, not}
+use mathlib.Core.List.{List, [], _∷_}
+use mathlib.Core.Logic.{_⊎_, ⊎-elim}
+use mathlib.Core.Option.{Option, none, some}
+use lib.Dec.{leb}
+use lib.ListN.{length, take, getD}
+use borrow.Author.Tests.{lt-leb, le-leb, leb-false}
+use native.Mathlib.Omega.{arith}
+use Rattle.model.specs.declared.Mode.{Mode}
+use Rattle.model.specs.declared.Thing.{Thing}
+use Rattle.model.specs.declared.Thing.the-variants.{Movements}
+use Rattle.model.specs.declared.Why.{Why}
+use Rattle.model.specs.declared.Why.the-variants.{Lacking, OverCapacity, Inhibited, OverLimit}
+use Rattle.model.specs.declared.Fault.the-variants.{NotThere}
+use Rattle.model.specs.declared.Refusal.{Refusal}
+use Rattle.model.specs.First.{_▸_, onlyIf, first}
+use Rattle.model.specs.Numbers.{ℕ∞, fin, ∞, limit}
+use Rattle.model.specs.Rows.{Entry, Row, Capacities, Counts}
+use Rattle.model.specs.Nets.{PNet, pairs, modes, modeNo, K, count, row}
+use Rattle.model.specs.WellFormed.{WellFormed, InRange}
+use Rattle.model.specs.Firing.{after, lowestStop, ruleRefusal, rowRefusal, modeRefusal, fired}
+use Rattle.model.specs.Runs.{Outcome, goOn, runFrom, run}
+use Rattle.model.specs.Complement.{boundedBelow, complementPair, complementRow, allPairs, complement, refusal15, complementRefusal, Corresponds}
+use Rattle.model.specs.DemandThree.{Complementable, becomes, Agreement, DemandThree, Demand3}
+use Rattle.model.proofs.First.{below-or, left-none, right-none, none-then, some-then, first-ext, only-if-none}
+use Rattle.model.proofs.Firing.{accepted-enough}
+use Rattle.model.proofs.Markings.{marking-after}
+use Rattle.model.proofs.Runs.{runs}
+use Rattle.model.proofs.Bounded.{bounded-number}
+use Rattle.model.proofs.ComplementRow.{sum-kept, row-original, row-complement}
+use Rattle.model.proofs.ComplementStep.{answerInComplement, row-step}
+use Rattle.model.proofs.ComplementNet.{modes-complement, pairs-complement, capacity-complement, rows-complement, uninhibited, start-corresponds}
+use Rattle.model.proofs.RefusalsCorrespond.{row-becomes, none-becomes}
+
+-- a row's refusal depends on what stands at its pairs alone
+row-ext : (thing : Thing) (n : ℕ) (K K′ : Capacities) (r r′ : Row) (M : Counts)
+    → ((p : ℕ) → p < n → K p ≡ K′ p) → ((p : ℕ) → p < n → r p ≡ r′ p) → rowRefusal thing n K r M ≡ rowRefusal thing n K′ r′ M
+unfolding rowRefusal ruleRefusal
+row-ext thing n K K′ r r′ M f g = rw (stop-ext Lacking, stop-ext OverCapacity, stop-ext Inhibited, stop-ext OverLimit)
+  where
+    stop-ext : (why : Why) → lowestStop thing n K r M why ≡ lowestStop thing n K′ r′ M why
+    stop-ext why = first-ext n _ _ (λ p h. rw (f p h, g p h))
+
+there : (thing : Thing) (net : PNet) (t : Mode) (m : List ℕ) → t .0 < modes net → modeRefusal thing net t m ≡ rowRefusal thing (pairs net) (K net) (row net t) (count m)
+unfolding modeRefusal
+there thing net t m h = none-then (rw (lt-leb (modes net) (t .0) h)) refl
+
+missing : (thing : Thing) (net : PNet) (t : Mode) (m : List ℕ) → modes net ≤ t .0 → modeRefusal thing net t m ≡ some (record { thing = thing; fault = NotThere })
+unfolding modeRefusal
+missing thing net t m h = some-then _ (rw (le-leb (modes net) (t .0) h))
+
+accepted-there : (thing : Thing) (net : PNet) (t : Mode) (m : List ℕ) → modeRefusal thing net t m ≡ none → t .0 < modes net
+unfolding modeRefusal
+accepted-there thing net t m e = leb-false (modes net) (t .0) (only-if-none _ _ (left-none _ _ e))
+
+-- of a net that 15 was not given to
+module _ (net : PNet) (wf : WellFormed net) (offset : ℕ → ℕ) (no15 : refusal15 offset net ≡ none) where
+  capacity-limit : (p k : ℕ) → p < pairs net → K net p ≡ fin k → k ≤ limit
+  capacity-limit p k h e = rw e at (wf .capacityInRange p h)
+
+  module _ (thing : Thing) (t : Mode) (m m′ : List ℕ) (c : Corresponds net m m′) where
+    step-there : t .0 < modes net → modeRefusal thing (complement net) t m′ ≡ answerInComplement thing (pairs net) (K net) (row net t) (count m)
+    step-there h =
+        there thing (complement net) t m′ (rw modes-complement h)
+        ∙ rw pairs-complement
+        (row-ext thing (allPairs net) (K (complement net)) (λ p. ∞) (row (complement net) t) (complementRow (pairs net) (K net) (row net t)) (count m′)
+        (λ p l. capacity-complement net p) (λ p l. rows-complement net t p h l))
+        ∙ row-step thing (pairs net) (K net) (row net t) (count m) (count m′) (c .equal) (c .addUp) (λ p l. uninhibited net offset no15 t p) capacity-limit
+
+    pub step : modeRefusal thing (complement net) t m′ ≡ becomes thing net t m (modeRefusal thing net t m)
+    unfolding becomes
+    step =
+        ⊎-elim (λ (h : t .0 < modes net). step-there h ∙ sym (ap (becomes thing net t m) (there thing net t m h) ∙ row-becomes thing net t m))
+        (λ (h : modes net ≤ t .0).
+        missing thing (complement net) t m′ (rw modes-complement h) ∙ sym (ap (becomes thing net t m) (missing thing net t m h)))
+        (below-or (t .0) (modes net))
+
+    -- what the complement accepts, the net accepts
+    pub accepts-back : modeRefusal thing (complement net) t m′ ≡ none → modeRefusal thing net t m ≡ none
+    accepts-back e =
+        let h : t .0 < modes net = rw modes-complement at (accepted-there thing (complement net) t m′ e) in
+        there thing net t m h ∙ none-becomes thing net t m (sym (step-there h) ∙ e)
+
+    module _ (e : modeRefusal thing net t m ≡ none) where
+      pub accepts : modeRefusal thing (complement net) t m′ ≡ none
+      unfolding becomes
+      accepts = step ∙ ap (becomes thing net t m) e
+
+      inside : {p : ℕ} → p < allPairs net → p < pairs (complement net)
+      inside h = rw pairs-complement h
+
+      reads : {p : ℕ} {x : Entry} → p < allPairs net → complementRow (pairs net) (K net) (row net t) p ≡ x → row (complement net) t p ≡ x
+      reads {p} h f = rows-complement net t p (accepted-there thing net t m e) h ∙ f
+
+      count-after : (p : ℕ) {x : Entry} → p < allPairs net → complementRow (pairs net) (K net) (row net t) p ≡ x
+          → count (fired (complement net) t m′) p ≡ after x (count m′ p)
+      count-after p h f = rw (reads h f) at (marking-after (complement net) t m′ .0 p (inside h))
+
+      moves-equal : (p : ℕ) → p < pairs net → count (fired (complement net) t m′) p ≡ count (fired net t m) p
+      moves-equal p h =
+          count-after p (omega arith) (row-original (pairs net) (K net) (row net t) p h)
+          ∙ rw (c .equal p h) (sym (marking-after net t m .0 p h))
+
+      moves-addUp : (p k : ℕ) → p < pairs net → K net p ≡ fin k
+          → count (fired net t m) p + count (fired (complement net) t m′) (complementPair (pairs net) (K net) p) ≡ k
+      moves-addUp p k h f =
+          let q = complementPair (pairs net) (K net) p in
+          let l : q < allPairs net = omega (arith, bounded-number (K net) (pairs net) p k h f) in
+          let g = row-complement (pairs net) (K net) (row net t) p k h f in
+          rw (marking-after net t m .0 p h, count-after q l g)
+          (sum-kept k (count m p) (count m′ q) (row net t p) (c .addUp p k h f) (accepted-enough thing net t m e p h)
+          (rw (reads l g) at (accepted-enough thing (complement net) t m′ accepts q (inside l))))
+
+      pub move-corresponds : Corresponds net (fired net t m) (fired (complement net) t m′)
+      move-corresponds =
+          record { oneEach = marking-after net t m .1; oneEach′ = marking-after (complement net) t m′ .1; equal = moves-equal; addUp = moves-addUp }

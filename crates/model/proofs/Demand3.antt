@@ -1,0 +1,71 @@
+-- Demand 3: a net and its complement run alike.
+use Prim.Native.Nat.{ℕ, _+_, _≤_, _<_}
+use mathlib.Core.Path.{_≡_, refl, sym, _∙_, ap}
+use mathlib.Core.List.{List, [], _∷_}
+use mathlib.Core.Logic.{_⊎_, ⊎-elim}
+use mathlib.Core.Option.{Option, none, some, Option·none-ne-some}
+use lib.ListN.{length, take, getD}
+use native.Mathlib.Omega.{arith}
+use Rattle.model.specs.declared.Mode.{Mode}
+use Rattle.model.specs.declared.Thing.the-variants.{Movements}
+use Rattle.model.specs.declared.Refusal.{Refusal}
+use Rattle.model.specs.Nets.{PNet, modeNo}
+use Rattle.model.specs.WellFormed.{WellFormed}
+use Rattle.model.specs.Firing.{modeRefusal, fired}
+use Rattle.model.specs.Runs.{Outcome, goOn, runFrom, run}
+use Rattle.model.specs.Complement.{complement, refusal15, refusal16, complementRefusal, Corresponds}
+use Rattle.model.specs.DemandThree.{Complementable, becomes, Agreement, DemandThree, Demand3}
+use Rattle.model.proofs.First.{below-or, left-none, right-none}
+use Rattle.model.proofs.Runs.{runs}
+use Rattle.model.proofs.ComplementNet.{start-corresponds}
+use Rattle.model.proofs.CorrespondingMoves.{step, accepts, accepts-back, move-corresponds}
+
+-- two runs from corresponding markings: as many are accepted, and the markings left correspond
+pub record Alike (net : PNet) (o o′ : Outcome) : Type 0 where
+  pub accepted : o′ .accepted ≡ o .accepted
+  pub marking : Corresponds net (o .marking) (o′ .marking)
+
+module _ (net : PNet) (wf : WellFormed net) (offset : ℕ → ℕ) (no15 : refusal15 offset net ≡ none) where
+  pub alike : (k : ℕ) (ts : List Mode) (m m′ : List ℕ) → Corresponds net m m′ → Alike net (runFrom net k ts m) (runFrom (complement net) k ts m′)
+  unfolding runFrom
+  alike k [] m m′ c = record { accepted = refl; marking = c }
+  alike k (t ∷ ts) m m′ c = go (modeRefusal Movements net t m) (modeRefusal Movements (complement net) t m′) refl refl (alike (k + 1) ts (fired net t m) (fired (complement net) t m′))
+    where
+      go : (o o′ : Option Refusal) → modeRefusal Movements net t m ≡ o → modeRefusal Movements (complement net) t m′ ≡ o′
+          → (Corresponds net (fired net t m) (fired (complement net) t m′)
+          → Alike net (runFrom net (k + 1) ts (fired net t m)) (runFrom (complement net) (k + 1) ts (fired (complement net) t m′)))
+          → Alike net (goOn o k m (runFrom net (k + 1) ts (fired net t m))) (goOn o′ k m′ (runFrom (complement net) (k + 1) ts (fired (complement net) t m′)))
+      go none none e e′ next = next (move-corresponds net wf offset no15 Movements t m m′ c e)
+      go none (some r) e e′ next = absurd (Option·none-ne-some r (sym (accepts net wf offset no15 Movements t m m′ c e) ∙ e′))
+      go (some r) none e e′ next = absurd (Option·none-ne-some r (sym (accepts-back net wf offset no15 Movements t m m′ c e′) ∙ e))
+      go (some r) (some s) e e′ next = record { accepted = refl; marking = c }
+
+  alike-start : (ts : List Mode) → Alike net (run net ts (net .start)) (run (complement net) ts (complement net .start))
+  alike-start ts = alike 0 ts (net .start) (complement net .start) (start-corresponds net wf)
+
+  module _ (ts : List Mode) where
+    abbrev o : Outcome
+    o = run net ts (net .start)
+
+    abbrev o′ : Outcome
+    o′ = run (complement net) ts (complement net .start)
+
+    refusals : o′ .refusal ≡ becomes Movements net (getD ts (o .accepted) (modeNo 0)) (o .marking) (o .refusal)
+    unfolding becomes
+    refusals =
+        let both = alike-start ts in
+        let r = runs net ts (net .start) in
+        let r′ = runs (complement net) ts (complement net .start) in
+        ⊎-elim
+        (λ (h : o .accepted < length ts).
+        let t = getD ts (o .accepted) (modeNo 0) in
+        r′ .refused (rw (both .accepted) h)
+        ∙ rw (both .accepted) (step net wf offset no15 Movements t (o .marking) (o′ .marking) (both .marking))
+        ∙ ap (becomes Movements net t (o .marking)) (sym (r .refused h)))
+        (λ (h : length ts ≤ o .accepted).
+        let end : o .accepted ≡ length ts = omega (arith, r .part) in
+        r′ .whole .1 (both .accepted ∙ end) ∙ rw (r .whole .1 end))
+        (below-or (o .accepted) (length ts))
+
+    pub agreement : Agreement net ts
+    agreement = record { accepted = alike-start ts .accepted; refusal = refusals; agree = λ j h. alike-start (take j ts) .marking }
