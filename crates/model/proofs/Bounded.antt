@@ -3,14 +3,14 @@ use Prim.Native.Nat.{ℕ, zero, suc, _+_, _-_, _≤_, _<_}
 use mathlib.Core.Path.{_≡_, refl, sym, _∙_, ap}
 use mathlib.Core.Bool.{Bool, true, false, cond}
 use mathlib.Core.List.{List, [], _∷_, _++_}
-use mathlib.Core.Logic.{⊎-elim}
+use mathlib.Core.Logic.{_⊎_, inl, inr, ⊎-elim}
 use lib.ListN.{length, getD, length-append, List·getD-append}
 use lib.Seq.{getD-append-seam}
 use native.Mathlib.Omega.{arith}
 use native.Mathlib.Nat.{eq-or-lt-of-le, le-of-suc-le-suc, not-suc-le-zero, add-zero, add-suc}
 use Rattle.model.specs.Numbers.{ℕ∞, fin, ∞}
 use Rattle.model.specs.Rows.{Capacities}
-use Rattle.model.specs.Complement.{joined, listIf, finite, bounded, boundedBelow}
+use Rattle.model.specs.Complement.{joined, listIf, finite, bounded, boundedBelow, complementPair}
 use Rattle.model.proofs.First.{below-or}
 
 -- p is the bounded pair below n that j others stand below
@@ -31,6 +31,14 @@ below-next K n = length-append (bounded K n) (listIf (finite (K n)) n) ∙ ap (�
     one : (b : Bool) → length (listIf b n) ≡ cond b 1 0
     one true = refl
     one false = refl
+
+pub below-at-most : (K : Capacities) (n : ℕ) → boundedBelow K n ≤ n
+below-at-most K zero = omega (arith, below-none K)
+below-at-most K (suc n) = omega (arith, below-next K n, below-at-most K n, one (finite (K n)))
+  where
+    one : (b : Bool) → cond b 1 0 ≤ 1
+    one true = omega arith
+    one false = omega arith
 
 pub below-split : (K : Capacities) (m c : ℕ) → boundedBelow K (m + c) ≡ boundedBelow K m + boundedBelow (λ p. K (m + p)) c
 unfolding bounded joined
@@ -87,3 +95,12 @@ module _ (K : Capacities) where
       (λ (b : getD (bounded K n) j 0 ≤ getD (bounded K n) i 0).
       absurd (omega (arith, below-rises _ _ b, bounded-pair n i (omega arith) .number, bounded-pair n j l .number)))
       (below-or (getD (bounded K n) i 0) (getD (bounded K n) j 0))
+
+  -- a pair of the complement is an original, or the complement of a bounded pair
+  pub original-or : (n p : ℕ) → p < n + boundedBelow K n → (p < n) ⊎ ((q k : ℕ) × (q < n) × (K q ≡ fin k) × (complementPair n K q ≡ p))
+  original-or n p h =
+      ⊎-elim (λ (l : p < n). inl l)
+      (λ (l : n ≤ p).
+      let r = bounded-pair n (p - n) (omega arith) in
+      inr (getD (bounded K n) (p - n) 0, r .capacity, r .below, r .isBounded, omega (arith, r .number)))
+      (below-or p n)

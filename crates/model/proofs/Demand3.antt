@@ -5,6 +5,7 @@ use mathlib.Core.List.{List, [], _∷_}
 use mathlib.Core.Logic.{_⊎_, ⊎-elim}
 use mathlib.Core.Option.{Option, none, some, Option·none-ne-some}
 use lib.ListN.{length, take, getD}
+use borrow.Author.Tests.{not-false}
 use native.Mathlib.Omega.{arith}
 use Rattle.model.specs.declared.Mode.{Mode}
 use Rattle.model.specs.declared.Thing.the-variants.{Movements}
@@ -13,11 +14,12 @@ use Rattle.model.specs.Nets.{PNet, modeNo}
 use Rattle.model.specs.WellFormed.{WellFormed}
 use Rattle.model.specs.Firing.{modeRefusal, fired}
 use Rattle.model.specs.Runs.{Outcome, goOn, runFrom, run}
-use Rattle.model.specs.Complement.{complement, refusal15, refusal16, complementRefusal, Corresponds}
+use Rattle.model.specs.Complement.{complement, refusal15, refusal16, sheetLimits, complementRefusal, Corresponds}
 use Rattle.model.specs.DemandThree.{Complementable, becomes, Agreement, DemandThree, Demand3}
-use Rattle.model.proofs.First.{below-or, left-none, right-none}
+use Rattle.model.proofs.First.{below-or, left-none, right-none, only-if-none}
 use Rattle.model.proofs.Runs.{runs}
 use Rattle.model.proofs.ComplementNet.{start-corresponds}
+use Rattle.model.proofs.ComplementWellFormed.{complement-well-formed}
 use Rattle.model.proofs.CorrespondingMoves.{step, accepts, accepts-back, move-corresponds}
 
 -- two runs from corresponding markings: as many are accepted, and the markings left correspond
@@ -69,3 +71,14 @@ module _ (net : PNet) (wf : WellFormed net) (offset : ℕ → ℕ) (no15 : refus
 
     pub agreement : Agreement net ts
     agreement = record { accepted = alike-start ts .accepted; refusal = refusals; agree = λ j h. alike-start (take j ts) .marking }
+
+pub demand3 : Demand3
+unfolding complementRefusal
+demand3 net c =
+    let later = right-none (refusal15 (c .offset) net) _ (c .accepted) in
+    record {
+      readsBack =
+          complement-well-formed net (c .wellFormed) (c .offset) (left-none (refusal16 (c .offset) net) _ later)
+          (not-false (sheetLimits net) (only-if-none _ _ (right-none (refusal16 (c .offset) net) _ later)));
+      runs = agreement net (c .wellFormed) (c .offset) (left-none (refusal15 (c .offset) net) _ (c .accepted));
+    }

@@ -1,12 +1,15 @@
 pub mod First
+pub mod Both
 pub mod Joined
 pub mod Bounded
 pub mod ComplementRow
 pub mod ComplementStep
 pub mod RefusalsCorrespond
+pub mod Each
 pub mod WrittenRows
 pub mod ComplementNet
 pub mod CorrespondingMoves
+pub mod ComplementWellFormed
 pub mod Demand3
 pub mod Numbers
 pub mod Tables

@@ -16,14 +16,11 @@ use Rattle.model.specs.Rows.{Row, Counts}
 use Rattle.model.specs.Nets.{PNet, pairs, K, count, row}
 use Rattle.model.specs.Firing.{compared, stops, lowestStop, ruleRefusal, rowRefusal}
 use Rattle.model.specs.DemandThree.{crowded, lowestCrowded, becomes}
+use Rattle.model.proofs.Both.{or-neither}
 use Rattle.model.proofs.First.{left-none, right-none, none-then, some-then, first-each, first-all, only-if-none}
 use Rattle.model.proofs.Numbers.{false-above, le-not-above, true-above}
 use Rattle.model.proofs.Firing.{No, Low, row0, row11, row12, row13, row14, none-stop, lowest-stop, find-stop}
 use Rattle.model.proofs.ComplementStep.{answerInComplement}
-
-or-none : (a b : Bool) → (a || b) ≡ false → (a ≡ false) × (b ≡ false)
-or-none true b e = absurd (true≢false e)
-or-none false b e = (refl, e)
 
 module _ (thing : Thing) (net : PNet) (t : Mode) (m : List ℕ) where
   abbrev n : ℕ
@@ -102,4 +99,4 @@ module _ (thing : Thing) (net : PNet) (t : Mode) (m : List ℕ) where
       (right-none crowd _ rest)
     where
       passed : crowd ≡ none → (p : ℕ) → p < n → (stops OverCapacity (r p) (K net p) (M p) ≡ false) × (stops Inhibited (r p) (K net p) (M p) ≡ false)
-      passed c p h = or-none (stops OverCapacity (r p) (K net p) (M p)) _ (only-if-none _ _ (first-each n _ c p h))
+      passed c p h = or-neither (stops OverCapacity (r p) (K net p) (M p)) _ (only-if-none _ _ (first-each n _ c p h))

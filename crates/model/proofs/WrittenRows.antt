@@ -1,7 +1,7 @@
--- Arcs that are written from rows, blanks left out, read back as these rows.
+-- Arcs that are written from rows, blanks left out: they read back as these rows, and rise.
 use Prim.Native.Nat.{ℕ, zero, suc, _+_, _≤_, _<_}
 use mathlib.Core.Path.{_≡_, refl, sym, _∙_, ap}
-use mathlib.Core.Bool.{Bool, true, false, cond, not, _&&_, and-false, false≢true}
+use mathlib.Core.Bool.{Bool, true, false, cond, not, _&&_, and-false, true≢false, false≢true}
 use mathlib.Core.List.{List, [], _∷_, _++_, append-assoc, append-nil}
 use mathlib.Core.Logic.{_⊎_, inl, inr, ⊎-elim, _≢_}
 use lib.Dec.{eqb}
@@ -12,16 +12,24 @@ use Rattle.model.specs.declared.Mode.{Mode}
 use Rattle.model.specs.Numbers.{ℕ∞, fin, ∞}
 use Rattle.model.specs.Rows.{Entry, noArc, Row}
 use Rattle.model.specs.Nets.{NetArc, pairNo, modeNo, entryAt}
+use Rattle.model.specs.WellFormed.{Blank}
 use Rattle.model.specs.Complement.{joined, listIf, finite, blank, written, arcsOf}
+use Rattle.model.proofs.Both.{and-both}
+use Rattle.model.proofs.Each.{Each, each-joined, Sorted, sorted-joined}
 
 pub blank-is : (e : Entry) → blank e ≡ true → e ≡ noArc
-blank-is e d = go (eqb (e .pre) 0) (eqb (e .post) 0) (e .inhibitor) refl refl refl d
+blank-is e d =
+    let both = and-both (eqb (e .pre) 0 && eqb (e .post) 0) (not (finite (e .inhibitor))) d in
+    let numbers = and-both (eqb (e .pre) 0) (eqb (e .post) 0) (both .0) in
+    λ j.
+    record { pre = eqb-true (e .pre) 0 (numbers .0) j; post = eqb-true (e .post) 0 (numbers .1) j; inhibitor = unbounded (e .inhibitor) (both .1) j }
   where
-    go : (x y : Bool) (i : ℕ∞) → eqb (e .pre) 0 ≡ x → eqb (e .post) 0 ≡ y → e .inhibitor ≡ i → (x && y && not (finite i)) ≡ true → e ≡ noArc
-    go true true ∞ a b c d = λ j. record { pre = eqb-true (e .pre) 0 a j; post = eqb-true (e .post) 0 b j; inhibitor = c j }
-    go true true (fin i) a b c d = absurd (false≢true d)
-    go true false i a b c d = absurd (false≢true d)
-    go false y i a b c d = absurd (false≢true d)
+    unbounded : (i : ℕ∞) → not (finite i) ≡ true → i ≡ ∞
+    unbounded (fin i) h = absurd (false≢true h)
+    unbounded ∞ h = refl
+
+pub not-blank : (e : Entry) → blank e ≡ false → ¬ Blank e
+not-blank e d b = true≢false (rw (b .pre, b .post, b .inhibitor) at d)
 
 -- nothing of xs stands at t and p
 abbrev Elsewhere : List NetArc → Mode → ℕ → Type 0
@@ -77,3 +85,36 @@ written-row m n rows t p h l =
     (λ q b d. elsewhere-written t p t q (rows t q) (rw (ne-eqb q p d) (and-false (eqb (t .0) (t .0))))) []
     ∙ ap (λ xs. entryAt xs t p) (append-nil (written t p (rows t p)))
     ∙ written-here t p (rows t p)
+
+each-written : (P : NetArc → Type 0) (t : Mode) (p : ℕ) (e : Entry) → (blank e ≡ false → P (record { mode = t; pair = pairNo p; entry = e }))
+    → Each P (written t p e)
+each-written P t p e h = go (blank e) refl
+  where
+    go : (b : Bool) → blank e ≡ b → Each P (listIf (not b) (record { mode = t; pair = pairNo p; entry = e }))
+    go true d = tt
+    go false d = (h d, tt)
+
+-- what holds of each arc that is written, blanks aside
+pub each-row : (P : NetArc → Type 0) (m n : ℕ) (rows : Mode → Row)
+    → ((t p : ℕ) → t < m → p < n → blank (rows (modeNo t) p) ≡ false → P (record { mode = modeNo t; pair = pairNo p; entry = rows (modeNo t) p }))
+    → Each P (arcsOf m n rows)
+unfolding arcsOf
+each-row P m n rows h =
+    each-joined P m _ (λ t l. each-joined P n _ (λ p g. each-written P (modeNo t) p (rows (modeNo t) p) (h t p l g)))
+
+pub sorted-rows : (m n : ℕ) (rows : Mode → Row) → Sorted (arcsOf m n rows)
+unfolding arcsOf
+sorted-rows m n rows =
+    sorted-joined m (λ t. joined n (at t))
+    (λ t h. sorted-joined n (at t) (λ p l. one (not (blank (rows (modeNo t) p))) _) (λ p q l g. each-at _ t p (λ _. each-at _ t q (λ _. inr (refl, l)))))
+    (λ t u l g. each-joined _ n (at t) (λ p h. each-at _ t p (λ _. each-joined _ n (at u) (λ q b. each-at _ u q (λ _. inl l)))))
+  where
+    at : ℕ → ℕ → List NetArc
+    at t p = written (modeNo t) p (rows (modeNo t) p)
+
+    each-at : (P : NetArc → Type 0) (t p : ℕ) → (blank (rows (modeNo t) p) ≡ false → P (record { mode = modeNo t; pair = pairNo p; entry = rows (modeNo t) p })) → Each P (at t p)
+    each-at P t p = each-written P (modeNo t) p (rows (modeNo t) p)
+
+    one : (b : Bool) (a : NetArc) → Sorted (listIf b a)
+    one true a = (tt, tt)
+    one false a = tt
