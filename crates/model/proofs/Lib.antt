@@ -11,6 +11,7 @@ pub mod ComplementNet
 pub mod CorrespondingMoves
 pub mod ComplementWellFormed
 pub mod Demand3
+pub mod WorkedExamples
 pub mod Numbers
 pub mod Tables
 pub mod Firing

@@ -14,3 +14,4 @@ pub mod Figures
 pub mod Dead
 pub mod Complement
 pub mod DemandThree
+pub mod WorkedExamples

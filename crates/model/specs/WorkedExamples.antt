@@ -1,0 +1,92 @@
+-- The complements that the sources print. Pairs have document 01's numbers: the originals s1, s2 are 0 and 1, their complements come after both,
+-- where source document 000 prints s1, ŝ1, s2. What it prints as 0, 0 at a pair is no arc.
+use Prim.Native.Nat.{ℕ}
+use mathlib.Core.Path.{_≡_}
+use mathlib.Core.List.{List, [], _∷_, map}
+use Rattle.model.specs.Numbers.{ℕ∞, fin, ∞}
+use Rattle.model.specs.Nets.{NetArc, PNet, pairNo, modeNo}
+use Rattle.model.specs.Complement.{complement}
+
+pub record Worked : Type 0 where
+  pub net : PNet
+  pub printed : PNet
+
+-- mode, pair, Pre, Post, I
+abbrev arc : ℕ → ℕ → ℕ → ℕ → ℕ∞ → NetArc
+arc t p pre post i = record { mode = modeNo t; pair = pairNo p; entry = record { pre = pre; post = post; inhibitor = i } }
+
+-- Source document 000, section 6.3, figures 6.5 and 6.6: one place of capacity 5, marked with 3.
+abbrev inhibitorExample : Worked
+inhibitorExample =
+    record {
+      net = record { colours = 1 ∷ []; modesOf = 1 ∷ []; capacity = fin 5 ∷ []; start = 3 ∷ []; arcs = arc 0 0 1 0 (fin 4) ∷ [] };
+      printed =
+          record { colours = 1 ∷ 1 ∷ []; modesOf = 1 ∷ []; capacity = ∞ ∷ ∞ ∷ []; start = 3 ∷ 2 ∷ []; arcs = arc 0 0 1 0 ∞ ∷ arc 0 1 1 2 ∞ ∷ [] };
+    }
+
+-- Section 6.5, nets P1 to P5: s1 has capacity 5 and s2 none, t1 and t2 have one mode each. The first markings and the arcs differ.
+abbrev billington : List ℕ → List NetArc → List ℕ → List NetArc → Worked
+billington start arcs start′ arcs′ =
+    record {
+      net = record { colours = 1 ∷ 1 ∷ []; modesOf = 1 ∷ 1 ∷ []; capacity = fin 5 ∷ ∞ ∷ []; start = start; arcs = arcs };
+      printed =
+          record { colours = 1 ∷ 1 ∷ 1 ∷ []; modesOf = 1 ∷ 1 ∷ []; capacity = ∞ ∷ ∞ ∷ ∞ ∷ []; start = start′; arcs = arcs′ };
+    }
+
+-- figures 6.7 and 6.9
+abbrev P1 : Worked
+P1 =
+    billington (3 ∷ 1 ∷ []) (arc 0 0 1 0 (fin 3) ∷ arc 1 0 1 0 ∞ ∷ arc 1 1 1 0 ∞ ∷ []) (3 ∷ 1 ∷ 2 ∷ [])
+    (arc 0 0 1 0 ∞ ∷ arc 0 2 2 3 ∞ ∷ arc 1 0 1 0 ∞ ∷ arc 1 1 1 0 ∞ ∷ arc 1 2 0 1 ∞ ∷ [])
+
+-- figures 6.11 and 6.12
+abbrev P2 : Worked
+P2 =
+    billington (3 ∷ 1 ∷ []) (arc 0 0 2 0 (fin 3) ∷ arc 1 0 1 0 ∞ ∷ arc 1 1 1 0 ∞ ∷ []) (3 ∷ 1 ∷ 2 ∷ [])
+    (arc 0 0 2 0 ∞ ∷ arc 0 2 2 4 ∞ ∷ arc 1 0 1 0 ∞ ∷ arc 1 1 1 0 ∞ ∷ arc 1 2 0 1 ∞ ∷ [])
+
+-- figures 6.14 and 6.16
+abbrev P3 : Worked
+P3 =
+    billington (3 ∷ 1 ∷ []) (arc 0 0 2 0 (fin 3) ∷ arc 1 0 0 1 ∞ ∷ arc 1 1 1 0 ∞ ∷ []) (3 ∷ 1 ∷ 2 ∷ [])
+    (arc 0 0 2 0 ∞ ∷ arc 0 2 2 4 ∞ ∷ arc 1 0 0 1 ∞ ∷ arc 1 1 1 0 ∞ ∷ arc 1 2 1 0 ∞ ∷ [])
+
+-- figures 6.18 and 6.19
+abbrev P4 : Worked
+P4 =
+    billington (2 ∷ 1 ∷ []) (arc 0 0 2 0 (fin 3) ∷ arc 1 0 0 0 (fin 2) ∷ arc 1 1 1 0 ∞ ∷ []) (2 ∷ 1 ∷ 3 ∷ [])
+    (arc 0 0 2 0 ∞ ∷ arc 0 2 2 4 ∞ ∷ arc 1 1 1 0 ∞ ∷ arc 1 2 3 3 ∞ ∷ [])
+
+-- figures 6.21 and 6.22
+abbrev P5 : Worked
+P5 =
+    billington (2 ∷ 1 ∷ []) (arc 0 0 2 0 (fin 3) ∷ arc 1 0 2 0 (fin 2) ∷ arc 1 1 1 0 ∞ ∷ []) (2 ∷ 1 ∷ 3 ∷ [])
+    (arc 0 0 2 0 ∞ ∷ arc 0 2 2 4 ∞ ∷ arc 1 0 2 0 ∞ ∷ arc 1 1 1 0 ∞ ∷ arc 1 2 3 5 ∞ ∷ [])
+
+-- Document 01's own example, aboard and ashore: "first marking 3, 0, 2, and a third arc 0,2 with Pre 1, Post 2"
+abbrev ownExample : Worked
+ownExample =
+    record {
+      net =
+          record {
+            colours = 1 ∷ 1 ∷ [];
+            modesOf = 1 ∷ [];
+            capacity = fin 5 ∷ ∞ ∷ [];
+            start = 3 ∷ 0 ∷ [];
+            arcs = arc 0 0 1 0 (fin 4) ∷ arc 0 1 0 1 ∞ ∷ [];
+          };
+      printed =
+          record {
+            colours = 1 ∷ 1 ∷ 1 ∷ [];
+            modesOf = 1 ∷ [];
+            capacity = ∞ ∷ ∞ ∷ ∞ ∷ [];
+            start = 3 ∷ 0 ∷ 2 ∷ [];
+            arcs = arc 0 0 1 0 ∞ ∷ arc 0 1 0 1 ∞ ∷ arc 0 2 1 2 ∞ ∷ [];
+          };
+    }
+
+abbrev worked : List Worked
+worked = inhibitorExample ∷ P1 ∷ P2 ∷ P3 ∷ P4 ∷ P5 ∷ ownExample ∷ []
+
+abbrev pub WorkedExamples : Type 0
+WorkedExamples = map (λ w. complement (w .net)) worked ≡ map (λ w. w .printed) worked
