@@ -89,12 +89,23 @@ module _ (K : Capacities) where
       let e : getD (bounded K n) j 0 ≡ r .0 = rw (r .1 .number) at (bounded-at n (r .0) (r .1 .capacity) (r .1 .below) (r .1 .isBounded)) in
       rw e (r .1)
 
+  pub complement-is : (n j : ℕ) → j < boundedBelow K n → n + j ≡ complementPair n K (getD (bounded K n) j 0)
+  complement-is n j h = omega (arith, bounded-pair n j h .number)
+
   pub bounded-rises : (n i j : ℕ) → i < j → j < boundedBelow K n → getD (bounded K n) i 0 < getD (bounded K n) j 0
   bounded-rises n i j h l =
       ⊎-elim (λ (b : getD (bounded K n) i 0 < getD (bounded K n) j 0). b)
       (λ (b : getD (bounded K n) j 0 ≤ getD (bounded K n) i 0).
       absurd (omega (arith, below-rises _ _ b, bounded-pair n i (omega arith) .number, bounded-pair n j l .number)))
       (below-or (getD (bounded K n) i 0) (getD (bounded K n) j 0))
+
+  -- a pair that is not among the bounded ones is unbounded
+  pub unbounded : (n p : ℕ) → p < n → ((j : ℕ) → j < boundedBelow K n → ¬ (getD (bounded K n) j 0 ≡ p)) → K p ≡ ∞
+  unbounded n p h out = go (K p) refl
+    where
+      go : (k : ℕ∞) → K p ≡ k → K p ≡ ∞
+      go (fin k) e = absurd (out (boundedBelow K p) (bounded-number n p k h e) (bounded-at n p k h e))
+      go ∞ e = e
 
   -- a pair of the complement is an original, or the complement of a bounded pair
   pub original-or : (n p : ℕ) → p < n + boundedBelow K n → (p < n) ⊎ ((q k : ℕ) × (q < n) × (K q ≡ fin k) × (complementPair n K q ≡ p))

@@ -18,7 +18,7 @@ use Rattle.model.specs.Complement.{bounded, boundedBelow, complementPair
 use Rattle.model.specs.DemandThree.{crowded, lowestCrowded}
 use Rattle.model.proofs.First.{then-none, then-assoc, first-all, first-ext, first-sparse, first-each, left-none, right-none, only-if-none}
 use Rattle.model.proofs.Numbers.{above-false, false-above}
-use Rattle.model.proofs.Bounded.{BoundedPair, bounded-number, bounded-at, bounded-pair, bounded-rises}
+use Rattle.model.proofs.Bounded.{bounded-number, bounded-pair, complement-is, bounded-rises, unbounded}
 use Rattle.model.proofs.ComplementRow.{lacks-crowded, sum-kept, row-original, row-complement, row-uninhibited}
 
 module _ {A : Type 0} where
@@ -60,11 +60,7 @@ module _ (thing : Thing) (n : ℕ) (K : Capacities) (row : Row) (M M′ : Counts
 
   -- 15 was not given: an unbounded pair is never crowded
   elsewhere : (p : ℕ) → p < n → ((j : ℕ) → j < boundedBelow K n → ¬ (at j ≡ p)) → crowdedAt p ≡ none
-  elsewhere p h out = go (K p) refl
-    where
-      go : (k : ℕ∞) → K p ≡ k → onlyIf (crowded (row p) k (M p)) (stopped thing Lacking (complementPair n K p)) ≡ none
-      go (fin k) e = absurd (out (boundedBelow K p) (bounded-number K n p k h e) (bounded-at K n p k h e))
-      go ∞ e = rw (uninhibited p h e)
+  elsewhere p h out = let u = unbounded K n p h out in rw (u, uninhibited p h u)
 
   module _ (p k : ℕ) (h : p < n) (e : K p ≡ fin k) where
     lacks-at : lacksAt (complementPair n K p) ≡ crowdedAt p
@@ -87,16 +83,13 @@ module _ (thing : Thing) (n : ℕ) (K : Capacities) (row : Row) (M M′ : Counts
         (false-above (after (R (complementPair n K p)) (M′ (complementPair n K p))) (fin limit)
         (omega (arith, kept-at l, inRange p k h e)))
 
-  complement-is : (j : ℕ) → j < boundedBelow K n → n + j ≡ complementPair n K (at j)
-  complement-is j h = omega (arith, bounded-pair K n j h .number)
-
   lacking : first (n + boundedBelow K n) lacksAt ≡ lowestStop thing n K row M Lacking ▸ lowestCrowded thing n K row M
   lacking =
       first-split n (boundedBelow K n) lacksAt
       ∙ rw (
         first-ext n lacksAt (λ p. onlyIf (stops Lacking (row p) (K p) (M p)) (stopped thing Lacking p)) (λ p h. rw (row-original n K row p h, equal p h)),
         first-ext (boundedBelow K n) (λ j. lacksAt (n + j)) (λ j. crowdedAt (at j))
-            (λ j h. let r = bounded-pair K n j h in ap lacksAt (complement-is j h) ∙ lacks-at (at j) (r .capacity) (r .below) (r .isBounded)),
+            (λ j h. let r = bounded-pair K n j h in ap lacksAt (complement-is K n j h) ∙ lacks-at (at j) (r .capacity) (r .below) (r .isBounded)),
         ← first-sparse n (boundedBelow K n) crowdedAt at (λ j h. bounded-pair K n j h .below) (bounded-rises K n) elsewhere,
       )
 
@@ -106,7 +99,7 @@ module _ (thing : Thing) (n : ℕ) (K : Capacities) (row : Row) (M M′ : Counts
       ∙ rw (
         first-ext n exceedsAt (λ p. onlyIf (stops OverLimit (row p) (K p) (M p)) (stopped thing OverLimit p)) (λ p h. rw (row-original n K row p h, equal p h)),
         first-all (boundedBelow K n) (λ j. exceedsAt (n + j))
-            (λ j h. let r = bounded-pair K n j h in ap exceedsAt (complement-is j h) ∙ exceeds-at (at j) (r .capacity) (r .below) (r .isBounded) l),
+            (λ j h. let r = bounded-pair K n j h in ap exceedsAt (complement-is K n j h) ∙ exceeds-at (at j) (r .capacity) (r .below) (r .isBounded) l),
       )
       (then-none (lowestStop thing n K row M OverLimit))
 

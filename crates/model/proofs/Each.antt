@@ -7,7 +7,7 @@ use native.Mathlib.Nat.{le-of-suc-le-suc, not-suc-le-zero, suc-add}
 use Rattle.model.specs.Nets.{NetArc, arcNo}
 use Rattle.model.specs.WellFormed.{Rises}
 use Rattle.model.specs.Complement.{joined}
-use Rattle.model.proofs.Nets.{Rising}
+use Rattle.model.proofs.Nets.{Rising, rises-all}
 
 module _ {A : Type 0} (P : A → Type 0) where
   abbrev pub Each : List A → Type 0
@@ -55,3 +55,11 @@ pub sorted-rising : (xs : List NetArc) → Sorted xs → Rising xs
 sorted-rising [] h k l = absurd (not-suc-le-zero l)
 sorted-rising (a ∷ xs) h zero l = each-at (Rises a) _ xs (h .0) 0 (omega arith)
 sorted-rising (a ∷ xs) h (suc k) l = rw (suc-add k 1) (sorted-rising xs (h .1) k (omega arith))
+
+all-sorted : (xs : List NetArc) → ((j k : ℕ) → j < k → k < length xs → Rises (arcNo xs j) (arcNo xs k)) → Sorted xs
+all-sorted [] h = tt
+all-sorted (a ∷ xs) h =
+    (at-each (Rises a) _ xs (λ k l. h 0 (suc k) (omega arith) (omega arith)), all-sorted xs (λ j k l g. h (suc j) (suc k) (omega arith) (omega arith)))
+
+pub rising-sorted : (xs : List NetArc) → Rising xs → Sorted xs
+rising-sorted xs rising = all-sorted xs (rises-all xs rising)

@@ -3,7 +3,8 @@ use Prim.Native.Nat.{ℕ, zero, suc, _+_, _≤_, _<_}
 use mathlib.Core.Path.{_≡_, refl, sym, _∙_, ap}
 use mathlib.Core.List.{List, [], _∷_, _++_, append-assoc, append-nil}
 use native.Mathlib.Omega.{arith}
-use native.Mathlib.Nat.{add-zero, add-suc}
+use native.Mathlib.Nat.{eq-or-lt-of-le, le-of-suc-le-suc, not-suc-le-zero, add-zero, add-suc}
+use mathlib.Core.Logic.{⊎-elim}
 use Rattle.model.specs.Complement.{joined}
 
 module _ {A : Type 0} where
@@ -16,3 +17,31 @@ module _ {A : Type 0} where
   unfolding joined
   joined-split n zero f = rw (add-zero, append-nil)
   joined-split n (suc c) f = rw (add-suc, joined-split n c f, append-assoc)
+
+  joined-none : (n : ℕ) (f : ℕ → List A) → ((i : ℕ) → i < n → f i ≡ []) → joined n f ≡ []
+  unfolding joined
+  joined-none zero f h = refl
+  joined-none (suc n) f h = rw (joined-none n f (λ i l. h i (omega arith)), h n (omega arith))
+
+  -- of n parts only those that a rising `at` names are not empty
+  pub joined-sparse : (n c : ℕ) (f : ℕ → List A) (at : ℕ → ℕ) → ((k : ℕ) → k < c → at k < n) → ((j k : ℕ) → j < k → k < c → at j < at k)
+      → ((p : ℕ) → p < n → ((k : ℕ) → k < c → ¬ (at k ≡ p)) → f p ≡ []) → joined n f ≡ joined c (λ k. f (at k))
+  unfolding joined
+  joined-sparse zero zero f at inside rising elsewhere = refl
+  joined-sparse zero (suc c) f at inside rising elsewhere = absurd (not-suc-le-zero (inside c (omega arith)))
+  joined-sparse (suc n) zero f at inside rising elsewhere = joined-none (suc n) f (λ i h. elsewhere i h (λ k l. absurd (not-suc-le-zero l)))
+  joined-sparse (suc n) (suc c) f at inside rising elsewhere =
+      ⊎-elim
+      (λ (q : at c ≡ n).
+      rw q
+      (ap (λ xs. xs ++ f n)
+      (joined-sparse n c f at (λ k h. omega (arith, rising k c h (omega arith))) (λ j k l h. rising j k l (omega arith))
+      (λ p h out. elsewhere p (omega arith) (λ k l e. ⊎-elim (λ (d : k ≡ c). omega (arith, ap at d)) (λ (b : k < c). out k b e) (eq-or-lt-of-le (le-of-suc-le-suc l)))))))
+      (λ (l : at c < n).
+      ap (λ xs. joined n f ++ xs) (elsewhere n (omega arith) (λ k h e. omega (arith, most k h)))
+      ∙ append-nil (joined n f)
+      ∙ joined-sparse n (suc c) f at (λ k h. omega (arith, most k h)) rising (λ p h out. elsewhere p (omega arith) out))
+      (eq-or-lt-of-le (le-of-suc-le-suc (inside c (omega arith))))
+    where
+      most : (k : ℕ) → k < suc c → at k ≤ at c
+      most k h = ⊎-elim (λ (d : k ≡ c). omega (arith, ap at d)) (λ (b : k < c). omega (arith, rising k c b (omega arith))) (eq-or-lt-of-le (le-of-suc-le-suc h))

@@ -22,5 +22,6 @@ pub mod Edges
 pub mod Nets
 pub mod PassBelow
 pub mod ByArcs
+pub mod ArcByArc
 pub mod Integers
 pub mod Figures
