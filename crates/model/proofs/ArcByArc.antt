@@ -1,8 +1,8 @@
--- Document 01 complements a net arc by arc: each original arc without its inhibitor, and at a bounded pair an arc on the complement pair. Mode by mode,
--- originals first and blanks left out, that gives the same list of arcs as the definition by rows.
-use Prim.Native.Nat.{ℕ, zero, suc, _+_, _≤_, _<_}
-use mathlib.Core.Path.{_≡_, refl, sym, _∙_, ap, ap₂}
-use mathlib.Core.Bool.{Bool, true, false, not, _&&_, cond}
+-- Document 01 complements a net arc by arc: each original arc without its inhibitor, and for one at a bounded pair an arc on the complement
+-- pair. Mode by mode, originals first and blanks left out, that gives the same list of arcs as the definition by rows.
+use Prim.Native.Nat.{ℕ, _+_, _<_}
+use mathlib.Core.Path.{_≡_, refl, sym, _∙_, ap₂}
+use mathlib.Core.Bool.{Bool, true, false, cond}
 use mathlib.Core.List.{List, [], _∷_, _++_}
 use lib.Dec.{eqb}
 use lib.ListN.{length, getD}
@@ -10,12 +10,12 @@ use borrow.Author.Tests.{eqb-true}
 use native.Mathlib.Omega.{arith}
 use Rattle.model.specs.declared.Mode.{Mode}
 use Rattle.model.specs.Numbers.{ℕ∞, fin, ∞}
-use Rattle.model.specs.Rows.{Entry, noArc, Row, Capacities}
+use Rattle.model.specs.Rows.{noArc, Row, Capacities}
 use Rattle.model.specs.Nets.{NetArc, PNet, pairs, modes, modeNo, K, arcNo, stands, entryAt, row}
 use Rattle.model.specs.WellFormed.{Rises, WellFormed}
-use Rattle.model.specs.Complement.{joined, listIf, bounded, boundedBelow, complementPair, original, complementEntry, complementRow, written, arcsOf, allPairs, complement}
+use Rattle.model.specs.Complement.{joined, listIf, bounded, boundedBelow, complementPair, original, complementEntry, complementRow, written, arcsOf, complement}
 use Rattle.model.proofs.Joined.{joined-ext, joined-split, joined-sparse}
-use Rattle.model.proofs.Bounded.{bounded-pair, complement-is, bounded-rises, unbounded}
+use Rattle.model.proofs.Bounded.{bounded-pair, at-complements, bounded-rises, unbounded}
 use Rattle.model.proofs.ComplementRow.{row-original, row-complement}
 use Rattle.model.proofs.Each.{Each, each-at, at-each, Sorted, sorted-rising, rising-sorted}
 use Rattle.model.proofs.Nets.{rises-all, rises-in-mode, entry-written, entry-unwritten}
@@ -40,9 +40,12 @@ module _ (t : Mode) (n : ℕ) (K : Capacities) where
     abbrev complementAt : ℕ → List NetArc
     complementAt p = written t (complementPair n K p) (complementEntry (K p) (r p))
 
-    originals : joined n (λ p. written t p (complementRow n K r p)) ≡ joined c (λ k. originalArc (arc k))
+    abbrev rowAt : ℕ → List NetArc
+    rowAt p = written t p (complementRow n K r p)
+
+    originals : joined n rowAt ≡ joined c (λ k. originalArc (arc k))
     originals =
-        joined-ext n (λ p. written t p (complementRow n K r p)) originalAt (λ p h. rw (row-original n K r p h))
+        joined-ext n rowAt originalAt (λ p h. rw (row-original n K r p h))
         ∙ joined-sparse n c originalAt (λ k. arc k .pair .0) (listing .inside) (listing .rising) (λ p h out. rw (listing .unwritten p h out))
         ∙ joined-ext c (λ k. originalAt (arc k .pair .0)) (λ k. originalArc (arc k)) (λ k h. rw (listing .written k h))
 
@@ -50,22 +53,20 @@ module _ (t : Mode) (n : ℕ) (K : Capacities) where
     no-arc p (fin k) = refl
     no-arc p ∞ = refl
 
-    complements : joined (boundedBelow K n) (λ j. written t (n + j) (complementRow n K r (n + j))) ≡ joined c (λ k. complementArc (arc k))
+    complements : joined (boundedBelow K n) (λ j. rowAt (n + j)) ≡ joined c (λ k. complementArc (arc k))
     complements =
-        joined-ext (boundedBelow K n) (λ j. written t (n + j) (complementRow n K r (n + j))) (λ j. complementAt (getD (bounded K n) j 0)) at-complement
-        ∙ sym (joined-sparse n (boundedBelow K n) complementAt (λ j. getD (bounded K n) j 0) (λ j h. bounded-pair K n j h .below) (bounded-rises K n) (λ p h out. rw (unbounded K n p h out)))
-        ∙ joined-sparse n c complementAt (λ k. arc k .pair .0) (listing .inside) (listing .rising) (λ p h out. rw (listing .unwritten p h out) (no-arc (complementPair n K p) (K p)))
+        joined-ext (boundedBelow K n) (λ j. rowAt (n + j)) (λ j. complementAt (getD (bounded K n) j 0))
+        (at-complements K n rowAt complementAt (λ p k h e. rw (row-complement n K r p k h e, e)))
+        ∙ sym
+        (joined-sparse n (boundedBelow K n) complementAt (λ j. getD (bounded K n) j 0) (λ j h. bounded-pair K n j h .below) (bounded-rises K n)
+        (λ p h out. rw (unbounded K n p h out)))
+        ∙ joined-sparse n c complementAt (λ k. arc k .pair .0) (listing .inside) (listing .rising)
+        (λ p h out. rw (listing .unwritten p h out) (no-arc (complementPair n K p) (K p)))
         ∙ joined-ext c (λ k. complementAt (arc k .pair .0)) (λ k. complementArc (arc k)) (λ k h. rw (listing .written k h))
-      where
-        at-complement : (j : ℕ) → j < boundedBelow K n → written t (n + j) (complementRow n K r (n + j)) ≡ complementAt (getD (bounded K n) j 0)
-        at-complement j h =
-            let b = bounded-pair K n j h in
-            ap (λ q. written t q (complementRow n K r q)) (complement-is K n j h)
-            ∙ rw (row-complement n K r (getD (bounded K n) j 0) (b .capacity) (b .below) (b .isBounded), b .isBounded)
 
     pub mode-by-arcs : joined (n + boundedBelow K n) (λ p. written t p (complementRow n K r p)) ≡ modeArcs c arc
     unfolding modeArcs
-    mode-by-arcs = joined-split n (boundedBelow K n) (λ p. written t p (complementRow n K r p)) ∙ ap₂ (λ xs ys. xs ++ ys) originals complements
+    mode-by-arcs = joined-split n (boundedBelow K n) rowAt ∙ ap₂ (λ xs ys. xs ++ ys) originals complements
 
 -- the complement's arcs, from a listing of each mode's
 pub complement-by-arcs : (net : PNet) (c : ℕ → ℕ) (arc : ℕ → ℕ → NetArc)

@@ -2,7 +2,7 @@
 use Prim.Native.Nat.{ℕ, zero, suc, _+_, _-_, _≤_, _<_}
 use mathlib.Core.Path.{_≡_, refl, sym, _∙_, ap}
 use mathlib.Core.Bool.{Bool, true, false, cond}
-use mathlib.Core.List.{List, [], _∷_, _++_}
+use mathlib.Core.List.{[]}
 use mathlib.Core.Logic.{_⊎_, inl, inr, ⊎-elim}
 use lib.ListN.{length, getD, length-append, List·getD-append}
 use lib.Seq.{getD-append-seam}
@@ -89,8 +89,13 @@ module _ (K : Capacities) where
       let e : getD (bounded K n) j 0 ≡ r .0 = rw (r .1 .number) at (bounded-at n (r .0) (r .1 .capacity) (r .1 .below) (r .1 .isBounded)) in
       rw e (r .1)
 
-  pub complement-is : (n j : ℕ) → j < boundedBelow K n → n + j ≡ complementPair n K (getD (bounded K n) j 0)
-  complement-is n j h = omega (arith, bounded-pair n j h .number)
+  -- the j-th complement pair is the complement of the j-th bounded pair
+  pub at-complements : {A : Type 0} (n : ℕ) (f g : ℕ → A) → ((p k : ℕ) → p < n → K p ≡ fin k → f (complementPair n K p) ≡ g p)
+      → (j : ℕ) → j < boundedBelow K n → f (n + j) ≡ g (getD (bounded K n) j 0)
+  at-complements n f g each j h =
+      let r = bounded-pair n j h in
+      let e : n + j ≡ complementPair n K (getD (bounded K n) j 0) = omega (arith, r .number) in
+      ap f e ∙ each (getD (bounded K n) j 0) (r .capacity) (r .below) (r .isBounded)
 
   pub bounded-rises : (n i j : ℕ) → i < j → j < boundedBelow K n → getD (bounded K n) i 0 < getD (bounded K n) j 0
   bounded-rises n i j h l =

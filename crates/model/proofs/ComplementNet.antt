@@ -1,12 +1,12 @@
 -- The complement of a net: its pairs, modes, capacities, rows and first marking.
 use Prim.Native.Nat.{ℕ, zero, suc, _+_, _-_, _≤_, _<_}
 use mathlib.Core.Path.{_≡_, refl, sym, _∙_, ap}
-use mathlib.Core.Bool.{Bool, true, false, cond, not, _&&_, true≢false}
+use mathlib.Core.Bool.{Bool, true, false, cond, _&&_, true≢false}
 use mathlib.Core.List.{List, [], _∷_, _++_, map}
-use mathlib.Core.Logic.{_⊎_, ⊎-elim}
-use mathlib.Core.Option.{Option, none}
+use mathlib.Core.Logic.{⊎-elim}
+use mathlib.Core.Option.{none}
 use lib.Dec.{eqb, ltb}
-use lib.ListN.{length, getD, replicate, length-append, length-replicate, getD-replicate, length-map, List·getD-map, List·getD-append, List·getD-eq-default}
+use lib.ListN.{length, getD, replicate, length-append, length-replicate, getD-replicate, length-map, List·getD-append, List·getD-eq-default}
 use lib.Seq.{getD-append-add}
 use borrow.Author.Tests.{eqb-true, ltb-false}
 use native.Mathlib.Omega.{arith}
@@ -14,11 +14,11 @@ use native.Mathlib.Nat.{le-of-suc-le-suc, not-suc-le-zero}
 use Rattle.model.specs.declared.Mode.{Mode}
 use Rattle.model.specs.declared.Fault.{Fault}
 use Rattle.model.specs.declared.Fault.the-variants.{InhibitedUnbounded}
-use Rattle.model.specs.Numbers.{ℕ∞, fin, ∞, _≤∞_}
-use Rattle.model.specs.Rows.{Entry, noArc, Row, Capacities}
+use Rattle.model.specs.Numbers.{ℕ∞, fin, ∞}
+use Rattle.model.specs.Rows.{Entry, noArc, Capacities}
 use Rattle.model.specs.Nets.{NetArc, PNet, total, pairs, modes, K, count, arcNo, entryAt, row}
 use Rattle.model.specs.WellFormed.{WellFormed}
-use Rattle.model.specs.Complement.{joined, listIf, finite, bounded, boundedBelow, complementPair, complementRow, newPlaces, less, boundedPairs, allPairs, complement, firstArc, inhibitsUnbounded, refusal15, Corresponds}
+use Rattle.model.specs.Complement.{listIf, finite, boundedBelow, complementPair, complementRow, newPlaces, less, boundedPairs, allPairs, complement, firstArc, inhibitsUnbounded, refusal15, Corresponds}
 use Rattle.model.proofs.First.{below-or, first-each, only-if-none}
 use Rattle.model.proofs.Bounded.{below-none, below-split, bounded-at, bounded-number}
 use Rattle.model.proofs.WrittenRows.{written-row}
@@ -58,12 +58,14 @@ module _ (net : PNet) where
       ⊎-elim (λ (l : p < allPairs net). getD-replicate (allPairs net) p ∞ ∞ l)
       (λ (l : allPairs net ≤ p). List·getD-eq-default (replicate (allPairs net) ∞) ∞ (rw length-replicate l)) (below-or p (allPairs net))
 
-  pub rows-complement : (t : Mode) (p : ℕ) → t .0 < modes net → p < allPairs net → row (complement net) t p ≡ complementRow (pairs net) (K net) (row net t) p
+  pub rows-complement : (t : Mode) (p : ℕ) → t .0 < modes net → p < allPairs net
+      → row (complement net) t p ≡ complementRow (pairs net) (K net) (row net t) p
   unfolding complement
   rows-complement = written-row (modes net) (allPairs net) (λ t. complementRow (pairs net) (K net) (row net t))
 
 -- what holds of no arc, and of each arc at p, holds of what stands at p
-pub entry-holds : (P : Entry → Type 0) (t : Mode) (p : ℕ) → P noArc → (arcs : List NetArc) → ((k : ℕ) → k < length arcs → arcNo arcs k .pair .0 ≡ p → P (arcNo arcs k .entry)) → P (entryAt arcs t p)
+pub entry-holds : (P : Entry → Type 0) (t : Mode) (p : ℕ) → P noArc → (arcs : List NetArc)
+    → ((k : ℕ) → k < length arcs → arcNo arcs k .pair .0 ≡ p → P (arcNo arcs k .entry)) → P (entryAt arcs t p)
 unfolding entryAt
 entry-holds P t p n [] each = n
 entry-holds P t p n (a ∷ arcs) each =
@@ -85,7 +87,8 @@ uninhibited net offset e t p u = entry-holds (λ e. e .inhibitor ≡ ∞) t p re
   where
     each : (k : ℕ) → k < length (net .arcs) → arcNo (net .arcs) k .pair .0 ≡ p → arcNo (net .arcs) k .entry .inhibitor ≡ ∞
     each k h s =
-        go (arcNo (net .arcs) k .entry .inhibitor) refl (rw (s, u) at (arc-passes net (inhibitsUnbounded net) (λ k. InhibitedUnbounded (offset k)) e k h))
+        go (arcNo (net .arcs) k .entry .inhibitor) refl
+        (rw (s, u) at (arc-passes net (inhibitsUnbounded net) (λ k. InhibitedUnbounded (offset k)) e k h))
       where
         go : (i : ℕ∞) → arcNo (net .arcs) k .entry .inhibitor ≡ i → (finite (arcNo (net .arcs) k .entry .inhibitor) && true) ≡ false
             → arcNo (net .arcs) k .entry .inhibitor ≡ ∞
@@ -100,7 +103,7 @@ start-corresponds net wf =
       oneEach = wf .start .oneEach;
       oneEach′ = length-append (net .start) _ ∙ rw (wf .start .oneEach, length-map) (sym (pairs-complement net));
       equal = λ p h. List·getD-append (net .start) _ 0 p (rw (wf .start .oneEach) h);
-      addUp = addUp;
+      addUp = λ p k h. addUp p k (omega arith);
     }
   where
     rest : ℕ → ℕ

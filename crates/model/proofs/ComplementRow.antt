@@ -1,24 +1,24 @@
 -- One bounded pair and its complement: the complement lacks exactly where the original is crowded, and a movement keeps their sum.
 use Prim.Native.Nat.{ℕ, _+_, _-_, _≤_, _<_, max}
-use mathlib.Core.Path.{_≡_, refl, sym, _∙_, ap}
+use mathlib.Core.Path.{_≡_, refl}
 use mathlib.Core.Bool.{Bool, true, false, cond, _||_}
 use lib.Dec.{leb, ltb}
-use lib.ListN.{getD}
-use borrow.Author.Tests.{ltb-true, ltb-false, leb-true, leb-false, lt-ltb, le-ltb}
+use borrow.Author.Tests.{ltb-true, ltb-false, leb-true, lt-ltb, le-ltb}
 use native.Mathlib.Omega.{arith}
 use Rattle.model.specs.Numbers.{ℕ∞, fin, ∞, above}
 use Rattle.model.specs.Rows.{Entry, Row, Capacities}
 use Rattle.model.specs.Firing.{after}
-use Rattle.model.specs.Complement.{bounded, boundedBelow, complementPair, complemented, reserve, complementPre, complementPost, original, complementEntry, complementRow}
+use Rattle.model.specs.Complement.{boundedBelow, complementPair, complemented, reserve, complementPre, original, complementEntry, complementRow}
 use Rattle.model.specs.DemandThree.{crowded}
 use Rattle.model.proofs.Bounded.{bounded-at}
 
-reserve-is : (k i : ℕ) → reserve k (fin i) ≡ k - i
+-- the floor at 0 is the truncated difference
+pub reserve-is : (k i : ℕ) → reserve k (fin i) ≡ k - i
 reserve-is k i = go (leb k i) refl
   where
-    go : (b : Bool) → leb k i ≡ b → cond b 0 (k - i) ≡ k - i
-    go true e = omega (arith, leb-true k i e)
-    go false e = refl
+    go : (b : Bool) → leb k i ≡ b → reserve k (fin i) ≡ k - i
+    go true e = rw e (omega (arith, leb-true k i e))
+    go false e = rw e
 
 pub lacks-crowded : (k m m′ : ℕ) (e : Entry) → m + m′ ≡ k → above (complementPre k e) (fin m′) ≡ crowded e (fin k) m
 lacks-crowded k m m′ e s = go (ltb k (m + e .post)) refl

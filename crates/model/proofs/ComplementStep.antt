@@ -1,24 +1,23 @@
--- One movement in a net and in its complement.
+-- The step equation: what a row's complement answers, in terms of the row and of a corresponding marking.
 use Prim.Native.Nat.{ℕ, zero, suc, _+_, _≤_, _<_}
-use mathlib.Core.Path.{_≡_, refl, sym, _∙_, ap}
-use mathlib.Core.Bool.{Bool, true, false}
+use mathlib.Core.Path.{_≡_, refl, sym, _∙_}
 use mathlib.Core.Option.{Option, none, some}
 use lib.ListN.{getD}
 use native.Mathlib.Omega.{arith}
 use native.Mathlib.Nat.{add-zero, add-suc}
 use Rattle.model.specs.declared.Thing.{Thing}
-use Rattle.model.specs.declared.Why.the-variants.{Lacking, Inhibited, OverLimit}
 use Rattle.model.specs.declared.Why.{Why}
+use Rattle.model.specs.declared.Why.the-variants.{Lacking, OverCapacity, Inhibited, OverLimit}
 use Rattle.model.specs.declared.Refusal.{Refusal}
-use Rattle.model.specs.First.{_▸_, first, onlyIf, lowest}
-use Rattle.model.specs.Numbers.{ℕ∞, fin, ∞, above, limit}
-use Rattle.model.specs.Rows.{Row, Capacities, Counts}
+use Rattle.model.specs.First.{_▸_, first, onlyIf}
+use Rattle.model.specs.Numbers.{ℕ∞, fin, ∞, limit}
+use Rattle.model.specs.Rows.{Entry, Row, Capacities, Counts}
 use Rattle.model.specs.Firing.{after, stops, stopped, lowestStop, ruleRefusal, rowRefusal}
-use Rattle.model.specs.Complement.{bounded, boundedBelow, complementPair, complementRow}
+use Rattle.model.specs.Complement.{bounded, boundedBelow, complementPair, original, complementRow}
 use Rattle.model.specs.DemandThree.{crowded, lowestCrowded}
-use Rattle.model.proofs.First.{then-none, then-assoc, first-all, first-ext, first-sparse, first-each, left-none, right-none, only-if-none}
+use Rattle.model.proofs.First.{then-none, then-assoc, first-all, first-ext, first-sparse, first-each, only-if-none}
 use Rattle.model.proofs.Numbers.{above-false, false-above}
-use Rattle.model.proofs.Bounded.{bounded-number, bounded-pair, complement-is, bounded-rises, unbounded}
+use Rattle.model.proofs.Bounded.{bounded-number, bounded-pair, at-complements, bounded-rises, unbounded}
 use Rattle.model.proofs.ComplementRow.{lacks-crowded, sum-kept, row-original, row-complement, row-uninhibited}
 
 module _ {A : Type 0} where
@@ -49,69 +48,79 @@ module _ (thing : Thing) (n : ℕ) (K : Capacities) (row : Row) (M M′ : Counts
   abbrev R : Row
   R = complementRow n K row
 
+  abbrev stopAt : Why → ℕ → Option Refusal
+  stopAt why p = onlyIf (stops why (R p) ∞ (M′ p)) (stopped thing why p)
+
   abbrev crowdedAt : ℕ → Option Refusal
   crowdedAt p = onlyIf (crowded (row p) (K p) (M p)) (stopped thing Lacking (complementPair n K p))
 
-  abbrev lacksAt : ℕ → Option Refusal
-  lacksAt p = onlyIf (stops Lacking (R p) ∞ (M′ p)) (stopped thing Lacking p)
-
-  abbrev exceedsAt : ℕ → Option Refusal
-  exceedsAt p = onlyIf (stops OverLimit (R p) ∞ (M′ p)) (stopped thing OverLimit p)
+  -- 11 and 14 look at Pre, Post and the count alone, which the originals keep
+  originals : (why : Why) → ((e : Entry) (k : ℕ∞) (m : ℕ) → stops why (original e) ∞ m ≡ stops why e k m)
+      → first n (stopAt why) ≡ lowestStop thing n K row M why
+  originals why same = first-ext n (stopAt why) _ (λ p h. rw (row-original n K row p h, equal p h, same (row p) (K p) (M p)))
 
   -- 15 was not given: an unbounded pair is never crowded
   elsewhere : (p : ℕ) → p < n → ((j : ℕ) → j < boundedBelow K n → ¬ (at j ≡ p)) → crowdedAt p ≡ none
   elsewhere p h out = let u = unbounded K n p h out in rw (u, uninhibited p h u)
 
+  abbrev NothingLacks : Type 0
+  NothingLacks = first (n + boundedBelow K n) (stopAt Lacking) ≡ none
+
+  enough : NothingLacks → (p : ℕ) → p < n + boundedBelow K n → R p .pre ≤ M′ p
+  enough l p h =
+      above-false (R p .pre) (fin (M′ p))
+      (only-if-none _ (stopped thing Lacking p) (first-each (n + boundedBelow K n) (stopAt Lacking) l p h))
+
   module _ (p k : ℕ) (h : p < n) (e : K p ≡ fin k) where
-    lacks-at : lacksAt (complementPair n K p) ≡ crowdedAt p
-    lacks-at = rw (row-complement n K row p k h e, e, lacks-crowded k (M p) (M′ (complementPair n K p)) (row p) (addUp p k h e))
+    abbrev c : ℕ
+    c = complementPair n K p
 
-    -- where nothing is lacking, the counts after the movement add up too
-    pub kept-at : first (n + boundedBelow K n) lacksAt ≡ none → after (row p) (M p) + after (R (complementPair n K p)) (M′ (complementPair n K p)) ≡ k
-    kept-at l =
+    lacks-at : stopAt Lacking c ≡ crowdedAt p
+    lacks-at = rw (row-complement n K row p k h e, e, lacks-crowded k (M p) (M′ c) (row p) (addUp p k h e))
+
+    -- the counts after the movement add up to K too, and K is in range
+    within-limit : NothingLacks → after (R c) (M′ c) ≤ limit
+    within-limit l =
         rw (row-complement n K row p k h e)
-        (sum-kept k (M p) (M′ (complementPair n K p)) (row p) (addUp p k h e)
-        (rw (row-original n K row p h, equal p h) at (enough p (omega arith)))
-        (rw (row-complement n K row p k h e) at (enough (complementPair n K p) (omega (arith, bounded-number K n p k h e)))))
-      where
-        enough : (q : ℕ) → q < n + boundedBelow K n → R q .pre ≤ M′ q
-        enough q g = above-false (R q .pre) (fin (M′ q)) (only-if-none _ (stopped thing Lacking q) (first-each (n + boundedBelow K n) lacksAt l q g))
+        (omega (
+          arith,
+          inRange p k h e,
+          sum-kept k (M p) (M′ c) (row p) (addUp p k h e) (rw (row-original n K row p h, equal p h) at (enough l p (omega arith)))
+              (rw (row-complement n K row p k h e) at (enough l c (omega (arith, bounded-number K n p k h e)))),
+        ))
 
-    exceeds-at : first (n + boundedBelow K n) lacksAt ≡ none → exceedsAt (complementPair n K p) ≡ none
-    exceeds-at l =
-        rw
-        (false-above (after (R (complementPair n K p)) (M′ (complementPair n K p))) (fin limit)
-        (omega (arith, kept-at l, inRange p k h e)))
+    exceeds-at : NothingLacks → stopAt OverLimit c ≡ none
+    exceeds-at l = rw (false-above (after (R c) (M′ c)) (fin limit) (within-limit l))
 
-  lacking : first (n + boundedBelow K n) lacksAt ≡ lowestStop thing n K row M Lacking ▸ lowestCrowded thing n K row M
+  lacking : first (n + boundedBelow K n) (stopAt Lacking) ≡ lowestStop thing n K row M Lacking ▸ lowestCrowded thing n K row M
   lacking =
-      first-split n (boundedBelow K n) lacksAt
+      first-split n (boundedBelow K n) (stopAt Lacking)
       ∙ rw (
-        first-ext n lacksAt (λ p. onlyIf (stops Lacking (row p) (K p) (M p)) (stopped thing Lacking p)) (λ p h. rw (row-original n K row p h, equal p h)),
-        first-ext (boundedBelow K n) (λ j. lacksAt (n + j)) (λ j. crowdedAt (at j))
-            (λ j h. let r = bounded-pair K n j h in ap lacksAt (complement-is K n j h) ∙ lacks-at (at j) (r .capacity) (r .below) (r .isBounded)),
+        originals Lacking (λ e k m. refl),
+        first-ext (boundedBelow K n) (λ j. stopAt Lacking (n + j)) (λ j. crowdedAt (at j)) (at-complements K n (stopAt Lacking) crowdedAt lacks-at),
         ← first-sparse n (boundedBelow K n) crowdedAt at (λ j h. bounded-pair K n j h .below) (bounded-rises K n) elsewhere,
       )
 
-  exceeding : first (n + boundedBelow K n) lacksAt ≡ none → first (n + boundedBelow K n) exceedsAt ≡ lowestStop thing n K row M OverLimit
+  exceeding : NothingLacks → first (n + boundedBelow K n) (stopAt OverLimit) ≡ lowestStop thing n K row M OverLimit
   exceeding l =
-      first-split n (boundedBelow K n) exceedsAt
+      first-split n (boundedBelow K n) (stopAt OverLimit)
       ∙ rw (
-        first-ext n exceedsAt (λ p. onlyIf (stops OverLimit (row p) (K p) (M p)) (stopped thing OverLimit p)) (λ p h. rw (row-original n K row p h, equal p h)),
-        first-all (boundedBelow K n) (λ j. exceedsAt (n + j))
-            (λ j h. let r = bounded-pair K n j h in ap exceedsAt (complement-is K n j h) ∙ exceeds-at (at j) (r .capacity) (r .below) (r .isBounded) l),
+        originals OverLimit (λ e k m. refl),
+        first-all (boundedBelow K n) (λ j. stopAt OverLimit (n + j))
+            (at-complements K n (stopAt OverLimit) (λ p. none) (λ p k h e. exceeds-at p k h e l)),
       )
       (then-none (lowestStop thing n K row M OverLimit))
 
+  -- 12 and 13 are never given in the complement; 11 is given at an original, or at the complement of a crowded pair
   pub row-step : rowRefusal thing (n + boundedBelow K n) (λ p. ∞) (complementRow n K row) M′ ≡ answerInComplement thing n K row M
   unfolding rowRefusal ruleRefusal
   row-step =
       rw (
-        first-all (n + boundedBelow K n) (λ p. none) (λ p h. refl),
-        first-all (n + boundedBelow K n) (λ p. onlyIf (stops Inhibited (R p) ∞ (M′ p)) (stopped thing Inhibited p)) (λ p h. rw (row-uninhibited n K row p)),
+        first-all (n + boundedBelow K n) (stopAt OverCapacity) (λ p h. refl),
+        first-all (n + boundedBelow K n) (stopAt Inhibited) (λ p h. rw (row-uninhibited n K row p)),
         then-none {A = Refusal} none,
-        then-none (first (n + boundedBelow K n) lacksAt),
+        then-none (first (n + boundedBelow K n) (stopAt Lacking)),
       )
-      (then-under (first (n + boundedBelow K n) lacksAt) exceeding
+      (then-under (first (n + boundedBelow K n) (stopAt Lacking)) exceeding
       ∙ rw lacking
       (then-assoc (lowestStop thing n K row M Lacking) (lowestCrowded thing n K row M) (lowestStop thing n K row M OverLimit)))

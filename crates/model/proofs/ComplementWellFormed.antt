@@ -1,28 +1,27 @@
 -- The complement of a well-formed net, where 16 and 10 are not given, is well formed.
-use Prim.Native.Nat.{ℕ, zero, suc, _+_, _-_, _≤_, _<_}
-use mathlib.Core.Path.{_≡_, refl, sym, _∙_, ap}
-use mathlib.Core.Bool.{Bool, true, false, not, _&&_, false≢true}
-use mathlib.Core.List.{List, [], _∷_, _++_}
-use mathlib.Core.Logic.{_⊎_, inl, inr, ⊎-elim}
-use mathlib.Core.Option.{Option, none}
-use lib.Dec.{leb, ltb, eqb}
-use lib.ListN.{length, getD, length-append, length-replicate}
-use borrow.Author.Tests.{leb-true, ltb-true, eqb-true, eq-eqb}
+use Prim.Native.Nat.{ℕ, _+_, _≤_, _<_}
+use mathlib.Core.Path.{_≡_, refl, sym, _∙_}
+use mathlib.Core.Bool.{Bool, true, false, _&&_}
+use mathlib.Core.List.{List, [], _∷_}
+use mathlib.Core.Logic.{⊎-elim}
+use mathlib.Core.Option.{none}
+use lib.Dec.{leb, ltb}
+use lib.ListN.{length, length-append, length-replicate}
+use borrow.Author.Tests.{leb-true, ltb-true}
 use native.Mathlib.Omega.{arith}
 use Rattle.model.specs.declared.Mode.{Mode}
 use Rattle.model.specs.declared.Fault.the-variants.{ComplementAbove}
 use Rattle.model.specs.Numbers.{ℕ∞, fin, ∞, above, limit}
-use Rattle.model.specs.Rows.{Entry, noArc, Row, Capacities}
-use Rattle.model.specs.Nets.{NetArc, PNet, pairs, modes, pairNo, modeNo, K, count, arcNo, entryAt, row}
-use Rattle.model.specs.WellFormed.{InRange, Blank, ArcOf, Rises, Counted, WellFormed}
+use Rattle.model.specs.Rows.{Entry, noArc, Capacities}
+use Rattle.model.specs.Nets.{PNet, pairs, modes, modeNo, K, arcNo, row}
+use Rattle.model.specs.WellFormed.{ArcOf, WellFormed}
 use Rattle.model.specs.Markings.{Marking}
-use Rattle.model.specs.Complement.{joined, listIf, finite, bounded, boundedBelow, complementPair, complementEntry, complementRow, newPlaces, blank, written, arcsOf, allPairs, complement, tooLarge, refusal16, sheetLimits, Corresponds}
+use Rattle.model.specs.Complement.{listIf, boundedBelow, complementEntry, complementRow, newPlaces, allPairs, complement, tooLarge, refusal16, sheetLimits, Corresponds}
 use Rattle.model.proofs.Both.{and-both, or-neither}
-use Rattle.model.proofs.First.{first-each, only-if-none}
 use Rattle.model.proofs.Numbers.{above-false}
 use Rattle.model.proofs.Bounded.{below-at-most, original-or}
 use Rattle.model.proofs.ComplementRow.{row-original, row-complement, row-uninhibited}
-use Rattle.model.proofs.Each.{Each, each-append, each-joined, each-at, at-each, Below, Sorted, sorted-joined, sorted-rising}
+use Rattle.model.proofs.Each.{Each, each-append, each-at, at-each, sorted-rising}
 use Rattle.model.proofs.WrittenRows.{not-blank, each-row, sorted-rows}
 use Rattle.model.proofs.ComplementNet.{modes-complement, pairs-complement, capacity-complement, entry-holds, arc-passes, start-corresponds}
 
@@ -38,12 +37,12 @@ corresponds-marking net m m′ wf h c =
       within = λ p l. rw (capacity-complement net p) tt;
     }
 
-Small : Entry → Type 0
+abbrev Small : Entry → Type 0
 Small e = (e .pre ≤ limit) × (e .post ≤ limit)
 
 -- 16 was not given: the numbers at a complement pair are in range
 complement-small : (net : PNet) (offset : ℕ → ℕ) → refusal16 offset net ≡ none → (t : Mode) (q : ℕ) → Small (complementEntry (K net q) (row net t q))
-unfolding refusal16 Small
+unfolding refusal16
 complement-small net offset e t q = entry-holds (λ x. Small (complementEntry (K net q) x)) t q (bare (K net q)) (net .arcs) each
   where
     bare : (k : ℕ∞) → Small (complementEntry k noArc)
@@ -60,15 +59,14 @@ complement-small net offset e t q = entry-holds (λ x. Small (complementEntry (K
         (above-false (x .pre) (fin limit) (both .0), above-false (x .post) (fin limit) (both .1))
 
 row-small : (net : PNet) → WellFormed net → (t : Mode) (p : ℕ) → Small (row net t p)
-unfolding Small
 row-small net wf t p = entry-holds Small t p (omega arith) (net .arcs) (λ k h s. let a = wf .eachArc k h in (a .pre, a .post))
 
 -- as many colours as a place has finite pairs, where it has any: 1 up to the place's own
-Countable : ℕ → Type 0
+abbrev Countable : ℕ → Type 0
 Countable c = (1 ≤ c) × (c ≤ 64)
 
 new-places : (K : Capacities) (cs : List ℕ) → Each Countable cs → Each Countable (newPlaces K cs)
-unfolding newPlaces Countable
+unfolding newPlaces
 new-places K [] h = tt
 new-places K (c ∷ cs) h =
     each-append Countable (listIf (ltb 0 (boundedBelow K c)) (boundedBelow K c)) (newPlaces (λ p. K (c + p)) cs) (one (ltb 0 (boundedBelow K c)) refl)
@@ -78,9 +76,15 @@ new-places K (c ∷ cs) h =
     one true e = (omega (arith, ltb-true 0 (boundedBelow K c) e, below-at-most K c, h .0), tt)
     one false e = tt
 
+places : (net : PNet) → WellFormed net → Each Countable (complement net .colours)
+unfolding complement
+places net wf =
+    let old = at-each Countable 0 (net .colours) (wf .places .each) in
+    each-append Countable (net .colours) (newPlaces (K net) (net .colours)) old (new-places (K net) (net .colours) old)
+
 module _ (net : PNet) (wf : WellFormed net) (offset : ℕ → ℕ) (no16 : refusal16 offset net ≡ none) where
-  small : (t : Mode) (p : ℕ) → p < allPairs net → Small (complementRow (pairs net) (K net) (row net t) p)
-  unfolding Small
+  -- complement numbers never pass 1,000,000 where 16 was not given
+  pub small : (t : Mode) (p : ℕ) → p < allPairs net → Small (complementRow (pairs net) (K net) (row net t) p)
   small t p h =
       ⊎-elim (λ (l : p < pairs net). rw (row-original (pairs net) (K net) (row net t) p l) (row-small net wf t p))
       (λ r.
@@ -89,7 +93,7 @@ module _ (net : PNet) (wf : WellFormed net) (offset : ℕ → ℕ) (no16 : refus
       (original-or (K net) (pairs net) p h)
 
   each-arc : Each (ArcOf (complement net)) (complement net .arcs)
-  unfolding complement Small
+  unfolding complement
   each-arc =
       each-row (ArcOf (complement net)) (modes net) (allPairs net) (λ t. complementRow (pairs net) (K net) (row net t))
       (λ t p h l d.
@@ -102,14 +106,8 @@ module _ (net : PNet) (wf : WellFormed net) (offset : ℕ → ℕ) (no16 : refus
         notBlank = not-blank (complementRow (pairs net) (K net) (row net (modeNo t)) p) d;
       })
 
-  places : Each Countable (complement net .colours)
-  unfolding complement Countable
-  places =
-      let old = at-each Countable 0 (net .colours) (wf .places .each) in
-      each-append Countable (net .colours) (newPlaces (K net) (net .colours)) old (new-places (K net) (net .colours) old)
-
   pub complement-well-formed : sheetLimits net ≡ true → WellFormed (complement net)
-  unfolding complement sheetLimits Countable
+  unfolding complement sheetLimits
   complement-well-formed e =
       let most = and-both (leb (length (complement net .colours)) 64 && leb (pairs (complement net)) 256) _ e in
       let two = and-both (leb (length (complement net .colours)) 64) _ (most .0) in
@@ -118,7 +116,7 @@ module _ (net : PNet) (wf : WellFormed net) (offset : ℕ → ℕ) (no16 : refus
         places =
             record {
               many = leb-true (length (complement net .colours)) 64 (two .0);
-              each = each-at Countable 0 (complement net .colours) places;
+              each = each-at Countable 0 (complement net .colours) (places net wf);
               inTotal = leb-true (pairs (complement net)) 256 (two .1);
             };
         transitions = wf .transitions;

@@ -1,38 +1,30 @@
 -- One movement of a net and of its complement at corresponding markings: the refusals correspond, and so do the markings after.
 use Prim.Native.Nat.{ℕ, _+_, _≤_, _<_}
 use mathlib.Core.Path.{_≡_, refl, sym, _∙_, ap}
-use mathlib.Core.Bool.{Bool, true, false, not}
-use mathlib.Core.List.{List, [], _∷_}
-use mathlib.Core.Logic.{_⊎_, ⊎-elim}
-use mathlib.Core.Option.{Option, none, some}
-use lib.Dec.{leb}
-use lib.ListN.{length, take, getD}
+use mathlib.Core.List.{List}
+use mathlib.Core.Logic.{⊎-elim}
+use mathlib.Core.Option.{none, some}
 use borrow.Author.Tests.{lt-leb, le-leb, leb-false}
 use native.Mathlib.Omega.{arith}
 use Rattle.model.specs.declared.Mode.{Mode}
 use Rattle.model.specs.declared.Thing.{Thing}
-use Rattle.model.specs.declared.Thing.the-variants.{Movements}
 use Rattle.model.specs.declared.Why.{Why}
 use Rattle.model.specs.declared.Why.the-variants.{Lacking, OverCapacity, Inhibited, OverLimit}
 use Rattle.model.specs.declared.Fault.the-variants.{NotThere}
-use Rattle.model.specs.declared.Refusal.{Refusal}
-use Rattle.model.specs.First.{_▸_, onlyIf, first}
-use Rattle.model.specs.Numbers.{ℕ∞, fin, ∞, limit}
+use Rattle.model.specs.Numbers.{fin, ∞, limit}
 use Rattle.model.specs.Rows.{Entry, Row, Capacities, Counts}
-use Rattle.model.specs.Nets.{PNet, pairs, modes, modeNo, K, count, row}
-use Rattle.model.specs.WellFormed.{WellFormed, InRange}
+use Rattle.model.specs.Nets.{PNet, pairs, modes, K, count, row}
+use Rattle.model.specs.WellFormed.{WellFormed}
 use Rattle.model.specs.Firing.{after, lowestStop, ruleRefusal, rowRefusal, modeRefusal, fired}
-use Rattle.model.specs.Runs.{Outcome, goOn, runFrom, run}
-use Rattle.model.specs.Complement.{boundedBelow, complementPair, complementRow, allPairs, complement, refusal15, complementRefusal, Corresponds}
-use Rattle.model.specs.DemandThree.{Complementable, becomes, Agreement, DemandThree, Demand3}
-use Rattle.model.proofs.First.{below-or, left-none, right-none, none-then, some-then, first-ext, only-if-none}
+use Rattle.model.specs.Complement.{complementPair, complementRow, allPairs, complement, refusal15, Corresponds}
+use Rattle.model.specs.DemandThree.{becomes}
+use Rattle.model.proofs.First.{below-or, left-none, none-then, some-then, first-ext, only-if-none}
 use Rattle.model.proofs.Firing.{accepted-enough}
 use Rattle.model.proofs.Markings.{marking-after}
-use Rattle.model.proofs.Runs.{runs}
 use Rattle.model.proofs.Bounded.{bounded-number}
 use Rattle.model.proofs.ComplementRow.{sum-kept, row-original, row-complement}
 use Rattle.model.proofs.ComplementStep.{answerInComplement, row-step}
-use Rattle.model.proofs.ComplementNet.{modes-complement, pairs-complement, capacity-complement, rows-complement, uninhibited, start-corresponds}
+use Rattle.model.proofs.ComplementNet.{modes-complement, pairs-complement, capacity-complement, rows-complement, uninhibited}
 use Rattle.model.proofs.RefusalsCorrespond.{row-becomes, none-becomes}
 
 -- a row's refusal depends on what stands at its pairs alone
@@ -44,17 +36,18 @@ row-ext thing n K K′ r r′ M f g = rw (stop-ext Lacking, stop-ext OverCapacit
     stop-ext : (why : Why) → lowestStop thing n K r M why ≡ lowestStop thing n K′ r′ M why
     stop-ext why = first-ext n _ _ (λ p h. rw (f p h, g p h))
 
-there : (thing : Thing) (net : PNet) (t : Mode) (m : List ℕ) → t .0 < modes net → modeRefusal thing net t m ≡ rowRefusal thing (pairs net) (K net) (row net t) (count m)
-unfolding modeRefusal
-there thing net t m h = none-then (rw (lt-leb (modes net) (t .0) h)) refl
+module _ (thing : Thing) (net : PNet) (t : Mode) (m : List ℕ) where
+  there : t .0 < modes net → modeRefusal thing net t m ≡ rowRefusal thing (pairs net) (K net) (row net t) (count m)
+  unfolding modeRefusal
+  there h = none-then (rw (lt-leb (modes net) (t .0) h)) refl
 
-missing : (thing : Thing) (net : PNet) (t : Mode) (m : List ℕ) → modes net ≤ t .0 → modeRefusal thing net t m ≡ some (record { thing = thing; fault = NotThere })
-unfolding modeRefusal
-missing thing net t m h = some-then _ (rw (le-leb (modes net) (t .0) h))
+  missing : modes net ≤ t .0 → modeRefusal thing net t m ≡ some (record { thing = thing; fault = NotThere })
+  unfolding modeRefusal
+  missing h = some-then _ (rw (le-leb (modes net) (t .0) h))
 
-accepted-there : (thing : Thing) (net : PNet) (t : Mode) (m : List ℕ) → modeRefusal thing net t m ≡ none → t .0 < modes net
-unfolding modeRefusal
-accepted-there thing net t m e = leb-false (modes net) (t .0) (only-if-none _ _ (left-none _ _ e))
+  accepted-there : modeRefusal thing net t m ≡ none → t .0 < modes net
+  unfolding modeRefusal
+  accepted-there e = leb-false (modes net) (t .0) (only-if-none _ _ (left-none _ _ e))
 
 -- of a net that 15 was not given to
 module _ (net : PNet) (wf : WellFormed net) (offset : ℕ → ℕ) (no15 : refusal15 offset net ≡ none) where
@@ -66,14 +59,18 @@ module _ (net : PNet) (wf : WellFormed net) (offset : ℕ → ℕ) (no15 : refus
     step-there h =
         there thing (complement net) t m′ (rw modes-complement h)
         ∙ rw pairs-complement
-        (row-ext thing (allPairs net) (K (complement net)) (λ p. ∞) (row (complement net) t) (complementRow (pairs net) (K net) (row net t)) (count m′)
-        (λ p l. capacity-complement net p) (λ p l. rows-complement net t p h l))
-        ∙ row-step thing (pairs net) (K net) (row net t) (count m) (count m′) (c .equal) (c .addUp) (λ p l. uninhibited net offset no15 t p) capacity-limit
+        (row-ext thing (allPairs net) (K (complement net)) (λ p. ∞) (row (complement net) t) (complementRow (pairs net) (K net) (row net t))
+        (count m′) (λ p l. capacity-complement net p) (λ p l. rows-complement net t p h l))
+        ∙ row-step thing (pairs net) (K net) (row net t) (count m) (count m′) (c .equal) (c .addUp) (λ p l. uninhibited net offset no15 t p)
+        capacity-limit
 
     pub step : modeRefusal thing (complement net) t m′ ≡ becomes thing net t m (modeRefusal thing net t m)
     unfolding becomes
     step =
-        ⊎-elim (λ (h : t .0 < modes net). step-there h ∙ sym (ap (becomes thing net t m) (there thing net t m h) ∙ row-becomes thing net t m))
+        ⊎-elim
+        (λ (h : t .0 < modes net).
+        step-there h
+        ∙ sym (ap (becomes thing net t m) (there thing net t m h) ∙ row-becomes thing (pairs net) (K net) (row net t) (count m)))
         (λ (h : modes net ≤ t .0).
         missing thing (complement net) t m′ (rw modes-complement h) ∙ sym (ap (becomes thing net t m) (missing thing net t m h)))
         (below-or (t .0) (modes net))
@@ -82,7 +79,7 @@ module _ (net : PNet) (wf : WellFormed net) (offset : ℕ → ℕ) (no15 : refus
     pub accepts-back : modeRefusal thing (complement net) t m′ ≡ none → modeRefusal thing net t m ≡ none
     accepts-back e =
         let h : t .0 < modes net = rw modes-complement at (accepted-there thing (complement net) t m′ e) in
-        there thing net t m h ∙ none-becomes thing net t m (sym (step-there h) ∙ e)
+        there thing net t m h ∙ none-becomes thing (pairs net) (K net) (row net t) (count m) (sym (step-there h) ∙ e)
 
     module _ (e : modeRefusal thing net t m ≡ none) where
       pub accepts : modeRefusal thing (complement net) t m′ ≡ none
@@ -116,4 +113,9 @@ module _ (net : PNet) (wf : WellFormed net) (offset : ℕ → ℕ) (no15 : refus
 
       pub move-corresponds : Corresponds net (fired net t m) (fired (complement net) t m′)
       move-corresponds =
-          record { oneEach = marking-after net t m .1; oneEach′ = marking-after (complement net) t m′ .1; equal = moves-equal; addUp = moves-addUp }
+          record {
+            oneEach = marking-after net t m .1;
+            oneEach′ = marking-after (complement net) t m′ .1;
+            equal = moves-equal;
+            addUp = λ p k h. moves-addUp p k (omega arith);
+          }

@@ -2,7 +2,7 @@
 use Prim.Native.Nat.{ℕ, _+_, _≤_, _<_}
 use mathlib.Core.Path.{_≡_, refl, sym, _∙_, ap}
 use mathlib.Core.List.{List, [], _∷_}
-use mathlib.Core.Logic.{_⊎_, ⊎-elim}
+use mathlib.Core.Logic.{⊎-elim}
 use mathlib.Core.Option.{Option, none, some, Option·none-ne-some}
 use lib.ListN.{length, take, getD}
 use borrow.Author.Tests.{not-false}
@@ -15,7 +15,7 @@ use Rattle.model.specs.WellFormed.{WellFormed}
 use Rattle.model.specs.Firing.{modeRefusal, fired}
 use Rattle.model.specs.Runs.{Outcome, goOn, runFrom, run}
 use Rattle.model.specs.Complement.{complement, refusal15, refusal16, sheetLimits, complementRefusal, Corresponds}
-use Rattle.model.specs.DemandThree.{Complementable, becomes, Agreement, DemandThree, Demand3}
+use Rattle.model.specs.DemandThree.{becomes, Agreement, Demand3}
 use Rattle.model.proofs.First.{below-or, left-none, right-none, only-if-none}
 use Rattle.model.proofs.Runs.{runs}
 use Rattle.model.proofs.ComplementNet.{start-corresponds}
@@ -31,12 +31,19 @@ module _ (net : PNet) (wf : WellFormed net) (offset : ℕ → ℕ) (no15 : refus
   pub alike : (k : ℕ) (ts : List Mode) (m m′ : List ℕ) → Corresponds net m m′ → Alike net (runFrom net k ts m) (runFrom (complement net) k ts m′)
   unfolding runFrom
   alike k [] m m′ c = record { accepted = refl; marking = c }
-  alike k (t ∷ ts) m m′ c = go (modeRefusal Movements net t m) (modeRefusal Movements (complement net) t m′) refl refl (alike (k + 1) ts (fired net t m) (fired (complement net) t m′))
+  alike k (t ∷ ts) m m′ c =
+      go (modeRefusal Movements net t m) (modeRefusal Movements (complement net) t m′) refl refl
+      (alike (k + 1) ts (fired net t m) (fired (complement net) t m′))
     where
+      rest : Outcome
+      rest = runFrom net (k + 1) ts (fired net t m)
+
+      rest′ : Outcome
+      rest′ = runFrom (complement net) (k + 1) ts (fired (complement net) t m′)
+
       go : (o o′ : Option Refusal) → modeRefusal Movements net t m ≡ o → modeRefusal Movements (complement net) t m′ ≡ o′
-          → (Corresponds net (fired net t m) (fired (complement net) t m′)
-          → Alike net (runFrom net (k + 1) ts (fired net t m)) (runFrom (complement net) (k + 1) ts (fired (complement net) t m′)))
-          → Alike net (goOn o k m (runFrom net (k + 1) ts (fired net t m))) (goOn o′ k m′ (runFrom (complement net) (k + 1) ts (fired (complement net) t m′)))
+          → (Corresponds net (fired net t m) (fired (complement net) t m′) → Alike net rest rest′)
+          → Alike net (goOn o k m rest) (goOn o′ k m′ rest′)
       go none none e e′ next = next (move-corresponds net wf offset no15 Movements t m m′ c e)
       go none (some r) e e′ next = absurd (Option·none-ne-some r (sym (accepts net wf offset no15 Movements t m m′ c e) ∙ e′))
       go (some r) none e e′ next = absurd (Option·none-ne-some r (sym (accepts-back net wf offset no15 Movements t m m′ c e′) ∙ e))
@@ -70,7 +77,16 @@ module _ (net : PNet) (wf : WellFormed net) (offset : ℕ → ℕ) (no15 : refus
         (below-or (o .accepted) (length ts))
 
     pub agreement : Agreement net ts
-    agreement = record { accepted = alike-start ts .accepted; refusal = refusals; agree = λ j h. alike-start (take j ts) .marking }
+    agreement =
+        let same = alike-start ts .accepted in
+        let r = runs net ts (net .start) in
+        let r′ = runs (complement net) ts (complement net .start) in
+        record {
+          accepted = same;
+          whole = (λ e. r .whole .1 (sym same ∙ r′ .whole .0 e), λ e. r′ .whole .1 (same ∙ r .whole .0 e));
+          refusal = refusals;
+          agree = λ j h. alike-start (take j ts) .marking;
+        }
 
 pub demand3 : Demand3
 unfolding complementRefusal

@@ -44,7 +44,8 @@ sorted-append : (xs ys : List NetArc) → Sorted xs → Sorted ys → Below xs y
 sorted-append [] ys h l b = l
 sorted-append (a ∷ xs) ys h l b = (each-append (Rises a) xs ys (h .0) (b .0), sorted-append xs ys (h .1) l (b .1))
 
-pub sorted-joined : (n : ℕ) (f : ℕ → List NetArc) → ((i : ℕ) → i < n → Sorted (f i)) → ((i j : ℕ) → i < j → j < n → Below (f i) (f j)) → Sorted (joined n f)
+pub sorted-joined : (n : ℕ) (f : ℕ → List NetArc) → ((i : ℕ) → i < n → Sorted (f i))
+    → ((i j : ℕ) → i < j → j < n → Below (f i) (f j)) → Sorted (joined n f)
 unfolding joined
 sorted-joined zero f h b = tt
 sorted-joined (suc n) f h b =
@@ -58,8 +59,10 @@ sorted-rising (a ∷ xs) h (suc k) l = rw (suc-add k 1) (sorted-rising xs (h .1)
 
 all-sorted : (xs : List NetArc) → ((j k : ℕ) → j < k → k < length xs → Rises (arcNo xs j) (arcNo xs k)) → Sorted xs
 all-sorted [] h = tt
-all-sorted (a ∷ xs) h =
-    (at-each (Rises a) _ xs (λ k l. h 0 (suc k) (omega arith) (omega arith)), all-sorted xs (λ j k l g. h (suc j) (suc k) (omega arith) (omega arith)))
+all-sorted (a ∷ xs) h = (
+  at-each (Rises a) _ xs (λ k l. h 0 (suc k) (omega arith) (omega arith)),
+  all-sorted xs (λ j k l g. h (suc j) (suc k) (omega arith) (omega arith)),
+)
 
 pub rising-sorted : (xs : List NetArc) → Rising xs → Sorted xs
 rising-sorted xs rising = all-sorted xs (rises-all xs rising)

@@ -1,10 +1,10 @@
 -- The laws of lists that are joined from parts 0 up to n - 1.
 use Prim.Native.Nat.{ℕ, zero, suc, _+_, _≤_, _<_}
-use mathlib.Core.Path.{_≡_, refl, sym, _∙_, ap}
-use mathlib.Core.List.{List, [], _∷_, _++_, append-assoc, append-nil}
+use mathlib.Core.Path.{_≡_, refl, _∙_, ap}
+use mathlib.Core.List.{List, [], _++_, append-assoc, append-nil}
 use native.Mathlib.Omega.{arith}
 use native.Mathlib.Nat.{eq-or-lt-of-le, le-of-suc-le-suc, not-suc-le-zero, add-zero, add-suc}
-use mathlib.Core.Logic.{⊎-elim}
+use mathlib.Core.Logic.{_⊎_, ⊎-elim}
 use Rattle.model.specs.Complement.{joined}
 
 module _ {A : Type 0} where
@@ -36,12 +36,15 @@ module _ {A : Type 0} where
       rw q
       (ap (λ xs. xs ++ f n)
       (joined-sparse n c f at (λ k h. omega (arith, rising k c h (omega arith))) (λ j k l h. rising j k l (omega arith))
-      (λ p h out. elsewhere p (omega arith) (λ k l e. ⊎-elim (λ (d : k ≡ c). omega (arith, ap at d)) (λ (b : k < c). out k b e) (eq-or-lt-of-le (le-of-suc-le-suc l)))))))
+      (λ p h out. elsewhere p (omega arith) (λ k l e. ⊎-elim (λ (d : k ≡ c). omega (arith, ap at d)) (λ (b : k < c). out k b e) (last-or k l))))))
       (λ (l : at c < n).
       ap (λ xs. joined n f ++ xs) (elsewhere n (omega arith) (λ k h e. omega (arith, most k h)))
       ∙ append-nil (joined n f)
       ∙ joined-sparse n (suc c) f at (λ k h. omega (arith, most k h)) rising (λ p h out. elsewhere p (omega arith) out))
       (eq-or-lt-of-le (le-of-suc-le-suc (inside c (omega arith))))
     where
+      last-or : (k : ℕ) → k < suc c → (k ≡ c) ⊎ (k < c)
+      last-or k h = eq-or-lt-of-le (le-of-suc-le-suc h)
+
       most : (k : ℕ) → k < suc c → at k ≤ at c
-      most k h = ⊎-elim (λ (d : k ≡ c). omega (arith, ap at d)) (λ (b : k < c). omega (arith, rising k c b (omega arith))) (eq-or-lt-of-le (le-of-suc-le-suc h))
+      most k h = ⊎-elim (λ (d : k ≡ c). omega (arith, ap at d)) (λ (b : k < c). omega (arith, rising k c b (omega arith))) (last-or k h)

@@ -1,9 +1,9 @@
 -- Arcs that are written from rows, blanks left out: they read back as these rows, and rise.
-use Prim.Native.Nat.{ℕ, zero, suc, _+_, _≤_, _<_}
+use Prim.Native.Nat.{ℕ, zero, suc, _<_}
 use mathlib.Core.Path.{_≡_, refl, sym, _∙_, ap}
-use mathlib.Core.Bool.{Bool, true, false, cond, not, _&&_, and-false, true≢false, false≢true}
+use mathlib.Core.Bool.{Bool, true, false, not, _&&_, and-false, true≢false, false≢true}
 use mathlib.Core.List.{List, [], _∷_, _++_, append-assoc, append-nil}
-use mathlib.Core.Logic.{_⊎_, inl, inr, ⊎-elim, _≢_}
+use mathlib.Core.Logic.{inl, inr, ⊎-elim, _≢_}
 use lib.Dec.{eqb}
 use borrow.Author.Tests.{eqb-true, ne-eqb, eq-eqb}
 use native.Mathlib.Omega.{arith}
@@ -48,7 +48,8 @@ module _ (t : Mode) (p : ℕ) where
       rw append-assoc (elsewhere-joined n f (λ i l. h i (omega arith)) (f n ++ ys) ∙ h n (omega arith) ys)
 
   -- the one part that may stand at t and p is looked up
-  entry-joined : (n i : ℕ) (f : ℕ → List NetArc) → i < n → ((j : ℕ) → j < n → j ≢ i → Elsewhere (f j) t p) → (ys : List NetArc) → entryAt (joined n f ++ ys) t p ≡ entryAt (f i ++ ys) t p
+  entry-joined : (n i : ℕ) (f : ℕ → List NetArc) → i < n → ((j : ℕ) → j < n → j ≢ i → Elsewhere (f j) t p)
+      → (ys : List NetArc) → entryAt (joined n f ++ ys) t p ≡ entryAt (f i ++ ys) t p
   unfolding joined
   entry-joined zero i f h out ys = absurd (not-suc-le-zero h)
   entry-joined (suc n) i f h out ys =
@@ -106,13 +107,15 @@ pub sorted-rows : (m n : ℕ) (rows : Mode → Row) → Sorted (arcsOf m n rows)
 unfolding arcsOf
 sorted-rows m n rows =
     sorted-joined m (λ t. joined n (at t))
-    (λ t h. sorted-joined n (at t) (λ p l. one (not (blank (rows (modeNo t) p))) _) (λ p q l g. each-at _ t p (λ _. each-at _ t q (λ _. inr (refl, l)))))
+    (λ t h.
+    sorted-joined n (at t) (λ p l. one (not (blank (rows (modeNo t) p))) _) (λ p q l g. each-at _ t p (λ _. each-at _ t q (λ _. inr (refl, l)))))
     (λ t u l g. each-joined _ n (at t) (λ p h. each-at _ t p (λ _. each-joined _ n (at u) (λ q b. each-at _ u q (λ _. inl l)))))
   where
     at : ℕ → ℕ → List NetArc
     at t p = written (modeNo t) p (rows (modeNo t) p)
 
-    each-at : (P : NetArc → Type 0) (t p : ℕ) → (blank (rows (modeNo t) p) ≡ false → P (record { mode = modeNo t; pair = pairNo p; entry = rows (modeNo t) p })) → Each P (at t p)
+    each-at : (P : NetArc → Type 0) (t p : ℕ)
+        → (blank (rows (modeNo t) p) ≡ false → P (record { mode = modeNo t; pair = pairNo p; entry = rows (modeNo t) p })) → Each P (at t p)
     each-at P t p = each-written P (modeNo t) p (rows (modeNo t) p)
 
     one : (b : Bool) (a : NetArc) → Sorted (listIf b a)

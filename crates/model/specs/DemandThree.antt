@@ -5,6 +5,7 @@ use Prim.Native.Nat.{ℕ, _≤_}
 use mathlib.Core.Path.{_≡_}
 use mathlib.Core.Bool.{Bool, cond, _||_}
 use mathlib.Core.List.{List}
+use mathlib.Core.Logic.{_↔_}
 use mathlib.Core.Option.{Option, none}
 use lib.Dec.{eqb}
 use lib.ListN.{take, getD}
@@ -29,7 +30,7 @@ pub record Complementable (net : PNet) : Type 0 where
   pub offset : ℕ → ℕ
   pub accepted : complementRefusal offset net ≡ none
 
--- what 12 or 13 stops at one pair
+-- 12 or 13 at one pair, where the mode has e, the capacity is k and the count m
 abbrev pub crowded : Entry → ℕ∞ → ℕ → Bool
 crowded e k m = stops OverCapacity e k m || stops Inhibited e k m
 
@@ -58,8 +59,9 @@ module _ (net : PNet) (ts : List Mode) where
   pub record Agreement : Type 0 where
     -- "both accept the same movements and stop at the same one"
     pub accepted : inComplement ts .accepted ≡ inNet ts .accepted
+    pub whole : (inComplement ts .refusal ≡ none) ↔ (inNet ts .refusal ≡ none)
     pub refusal : inComplement ts .refusal ≡ becomes Movements net stopsAt (inNet ts .marking) (inNet ts .refusal)
-    -- "at the start and after each accepted movement": after the first j movements
+    -- "at the start and after each accepted movement": after the first j of them, and j may be 0
     pub agree : (j : ℕ) → j ≤ inNet ts .accepted → Corresponds net (inNet (take j ts) .marking) (inComplement (take j ts) .marking)
 
 pub record DemandThree (net : PNet) : Type 0 where
