@@ -1,10 +1,9 @@
 -- The step equation: what a row's complement answers, in terms of the row and of a corresponding marking.
-use Prim.Native.Nat.{ℕ, zero, suc, _+_, _≤_, _<_}
-use mathlib.Core.Path.{_≡_, refl, sym, _∙_}
-use mathlib.Core.Option.{Option, none, some}
+use Prim.Native.Nat.{ℕ, _+_, _≤_, _<_}
+use mathlib.Core.Path.{_≡_, refl, _∙_}
+use mathlib.Core.Option.{Option, none}
 use lib.ListN.{getD}
 use native.Mathlib.Omega.{arith}
-use native.Mathlib.Nat.{add-zero, add-suc}
 use Rattle.model.specs.declared.Thing.{Thing}
 use Rattle.model.specs.declared.Why.{Why}
 use Rattle.model.specs.declared.Why.the-variants.{Lacking, OverCapacity, Inhibited, OverLimit}
@@ -15,22 +14,10 @@ use Rattle.model.specs.Rows.{Entry, Row, Capacities, Counts}
 use Rattle.model.specs.Firing.{after, stops, stopped, lowestStop, ruleRefusal, rowRefusal}
 use Rattle.model.specs.Complement.{bounded, boundedBelow, complementPair, original, complementRow}
 use Rattle.model.specs.DemandThree.{crowded, lowestCrowded}
-use Rattle.model.proofs.First.{then-none, then-assoc, first-all, first-ext, first-sparse, first-each, only-if-none}
+use Rattle.model.proofs.First.{first-split, then-under, then-none, then-assoc, first-all, first-ext, first-sparse, first-each, only-if-none}
 use Rattle.model.proofs.Numbers.{above-false, false-above}
 use Rattle.model.proofs.Bounded.{bounded-number, bounded-pair, at-complements, bounded-rises, unbounded}
 use Rattle.model.proofs.ComplementRow.{lacks-crowded, sum-kept, row-original, row-complement, row-uninhibited}
-
-module _ {A : Type 0} where
-  first-split : (n c : ℕ) (f : ℕ → Option A) → first (n + c) f ≡ first n f ▸ first c (λ i. f (n + i))
-  unfolding first
-  first-split n zero f = rw (add-zero n) (sym (then-none (first n f)))
-  first-split n (suc c) f = rw (add-suc, first-split n c f) (then-assoc (first n f) (first c (λ i. f (n + i))) (f (n + c)))
-
-  -- what comes after a refusal does not count
-  then-under : (a : Option A) {b c : Option A} → (a ≡ none → b ≡ c) → a ▸ b ≡ a ▸ c
-  unfolding _▸_
-  then-under none h = h refl
-  then-under (some x) h = refl
 
 -- the complement's answer in terms of the net's row and marking
 abbrev pub answerInComplement : Thing → ℕ → Capacities → Row → Counts → Option Refusal

@@ -1,16 +1,14 @@
 -- One movement of a net and of its complement at corresponding markings: the refusals correspond, and so do the markings after.
 use Prim.Native.Nat.{ℕ, _+_, _≤_, _<_}
-use mathlib.Core.Path.{_≡_, refl, sym, _∙_, ap}
+use mathlib.Core.Path.{_≡_, sym, _∙_, ap}
 use mathlib.Core.List.{List}
 use mathlib.Core.Logic.{⊎-elim}
-use mathlib.Core.Option.{none, some}
-use borrow.Author.Tests.{lt-leb, le-leb, leb-false}
+use mathlib.Core.Option.{none}
 use native.Mathlib.Omega.{arith}
 use Rattle.model.specs.declared.Mode.{Mode}
 use Rattle.model.specs.declared.Thing.{Thing}
 use Rattle.model.specs.declared.Why.{Why}
 use Rattle.model.specs.declared.Why.the-variants.{Lacking, OverCapacity, Inhibited, OverLimit}
-use Rattle.model.specs.declared.Fault.the-variants.{NotThere}
 use Rattle.model.specs.Numbers.{fin, ∞, limit}
 use Rattle.model.specs.Rows.{Entry, Row, Capacities, Counts}
 use Rattle.model.specs.Nets.{PNet, pairs, modes, K, count, row}
@@ -18,8 +16,8 @@ use Rattle.model.specs.WellFormed.{WellFormed}
 use Rattle.model.specs.Firing.{after, lowestStop, ruleRefusal, rowRefusal, modeRefusal, fired}
 use Rattle.model.specs.Complement.{complementPair, complementRow, allPairs, complement, refusal15, Corresponds}
 use Rattle.model.specs.DemandThree.{becomes}
-use Rattle.model.proofs.First.{below-or, left-none, none-then, some-then, first-ext, only-if-none}
-use Rattle.model.proofs.Firing.{accepted-enough}
+use Rattle.model.proofs.First.{below-or, first-ext}
+use Rattle.model.proofs.Firing.{there, missing, accepted-there, accepted-enough}
 use Rattle.model.proofs.Markings.{marking-after}
 use Rattle.model.proofs.Bounded.{bounded-number}
 use Rattle.model.proofs.ComplementRow.{sum-kept, row-original, row-complement}
@@ -35,19 +33,6 @@ row-ext thing n K K′ r r′ M f g = rw (stop-ext Lacking, stop-ext OverCapacit
   where
     stop-ext : (why : Why) → lowestStop thing n K r M why ≡ lowestStop thing n K′ r′ M why
     stop-ext why = first-ext n _ _ (λ p h. rw (f p h, g p h))
-
-module _ (thing : Thing) (net : PNet) (t : Mode) (m : List ℕ) where
-  there : t .0 < modes net → modeRefusal thing net t m ≡ rowRefusal thing (pairs net) (K net) (row net t) (count m)
-  unfolding modeRefusal
-  there h = none-then (rw (lt-leb (modes net) (t .0) h)) refl
-
-  missing : modes net ≤ t .0 → modeRefusal thing net t m ≡ some (record { thing = thing; fault = NotThere })
-  unfolding modeRefusal
-  missing h = some-then _ (rw (le-leb (modes net) (t .0) h))
-
-  accepted-there : modeRefusal thing net t m ≡ none → t .0 < modes net
-  unfolding modeRefusal
-  accepted-there e = leb-false (modes net) (t .0) (only-if-none _ _ (left-none _ _ e))
 
 -- of a net that 15 was not given to
 module _ (net : PNet) (wf : WellFormed net) (offset : ℕ → ℕ) (no15 : refusal15 offset net ≡ none) where

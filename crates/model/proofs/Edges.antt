@@ -13,8 +13,10 @@ use Rattle.model.specs.Refusals.{answer, number}
 use Rattle.model.specs.Numbers.{ℕ∞, fin}
 use Rattle.model.specs.Rows.{Row, Capacities, Counts}
 use Rattle.model.specs.Firing.{ruleRefusal, rowRefusal}
+use Rattle.model.specs.Nets.{entryAt}
+use Rattle.model.specs.Complement.{joined, bounded, complementRow, newPlaces, arcsOf, complement, refusal15, refusal16, sheetLimits, complementRefusal}
 use Rattle.model.specs.Promises.{stays}
-use Rattle.model.specs.Edges.{edge, found, edges, Edges}
+use Rattle.model.specs.Edges.{edge, found, edges, complementFound, Edges}
 use Rattle.model.proofs.Firing.{Low, No, row11, row12, find-stop}
 use Rattle.model.proofs.Runs.{certificates}
 
@@ -41,5 +43,13 @@ never i pre m e =
     clash n f g h = let z : n ≡ 0 = sym g ∙ sym (ap (λ (o : Option Refusal). number (answer o)) f) ∙ e in omega arith
 
 pub starred : Edges
-unfolding found edges rowRefusal ruleRefusal _▸_ first
-starred = record { answers = refl; never = never; empty = λ net each. certificates net [] (net .start) each .1 stays }
+unfolding found edges rowRefusal ruleRefusal _▸_ first complementFound complementRefusal refusal15 refusal16 sheetLimits complement arcsOf newPlaces complementRow bounded joined entryAt
+starred =
+    record {
+      answers = refl;
+      never = never;
+      preSix = refl;
+      postMost = refl;
+      postAbove = refl;
+      empty = λ net each. certificates net [] (net .start) each .1 stays;
+    }

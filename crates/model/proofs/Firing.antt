@@ -1,13 +1,13 @@
 -- The refusal table of firing, and Billington's rule.
 use Prim.Native.Nat.{ℕ, _+_, _≤_, _<_}
-use mathlib.Core.Path.{_≡_, refl, ap, subst⁻¹, subst₂}
+use mathlib.Core.Path.{_≡_, refl, _∙_, ap, subst⁻¹, subst₂}
 use mathlib.Core.Bool.{cond}
 use mathlib.Core.List.{List}
 use mathlib.Core.Logic.{_≢_, _⊎_, ⊎-elim}
 use mathlib.Core.Option.{Option, none, some}
 use lib.Dec.{eqb}
 use native.Mathlib.Omega.{arith}
-use borrow.Author.Tests.{le-leb, lt-leb}
+use borrow.Author.Tests.{leb-false, le-leb, lt-leb}
 use Rattle.model.specs.declared.Mode.{Mode}
 use Rattle.model.specs.declared.Thing.{Thing}
 use Rattle.model.specs.declared.Why.{Why}
@@ -22,7 +22,7 @@ use Rattle.model.specs.Rows.{Row, Capacities, Counts}
 use Rattle.model.specs.Nets.{PNet, pairs, modes, K, count, row}
 use Rattle.model.specs.Firing.{after, compared, Stops, stops, stopped, lowestStop, ruleRefusal, rowRefusal, modeRefusal}
 use Rattle.model.specs.Promises.{FiringTable, RefusalTable, Rule}
-use Rattle.model.proofs.First.{Decides, below-or, left-none, right-none, none-then, some-then, lowest-none, lowest-some, none-lowest, lowest-or-none}
+use Rattle.model.proofs.First.{Decides, below-or, only-if-none, left-none, right-none, none-then, some-then, lowest-none, lowest-some, none-lowest, lowest-or-none}
 use Rattle.model.proofs.Numbers.{above-true, true-above, not-above, le-not-above, le-room, room-le}
 
 module _ (about : Thing) (n : ℕ) (k : Capacities) (r : Row) (M : Counts) where
@@ -110,13 +110,19 @@ module _ (about : Thing) (net : PNet) (t : Mode) (m : List ℕ) where
   abbrev Here : Type 0
   Here = t .0 < modes net
 
-  here : {o : Option Refusal} → Here → rowRefusal about (pairs net) (K net) (row net t) (count m) ≡ o → refusal ≡ o
+  pub there : Here → refusal ≡ rowRefusal about (pairs net) (K net) (row net t) (count m)
   unfolding modeRefusal
-  here h e = none-then (rw (lt-leb (modes net) (t .0) h)) e
+  there h = none-then (rw (lt-leb (modes net) (t .0) h)) refl
+
+  pub missing : modes net ≤ t .0 → refusal ≡ some (record { thing = about; fault = NotThere })
+  unfolding modeRefusal
+  missing h = some-then _ (rw (le-leb (modes net) (t .0) h))
+
+  here : {o : Option Refusal} → Here → rowRefusal about (pairs net) (K net) (row net t) (count m) ≡ o → refusal ≡ o
+  here h e = there h ∙ e
 
   is6 : ¬ Here → refusal ≡ some (record { thing = about; fault = NotThere })
-  unfolding modeRefusal
-  is6 h = some-then _ (rw (le-leb (modes net) (t .0) (⊎-elim (λ (l : Here). absurd (h l)) (λ l. l) (below-or (t .0) (modes net)))))
+  is6 h = missing (⊎-elim (λ (l : Here). absurd (h l)) (λ l. l) (below-or (t .0) (modes net)))
 
   is11 : (p : ℕ) → Here → LowPair Lacking p → refusal ≡ some (stopped about Lacking p)
   is11 p h l = here h (row11 about (pairs net) (K net) (row net t) (count m) p l)
@@ -199,6 +205,10 @@ rule about n k r M = (accepted-enables about n k r M, enables-accepted about n k
 
 -- what an accepted movement shows at each pair
 module _ (about : Thing) (net : PNet) (t : Mode) (m : List ℕ) (e : modeRefusal about net t m ≡ none) where
+  pub accepted-there : t .0 < modes net
+  unfolding modeRefusal
+  accepted-there = leb-false (modes net) (t .0) (only-if-none _ _ (left-none _ _ e))
+
   accepted-row : rowRefusal about (pairs net) (K net) (row net t) (count m) ≡ none
   unfolding modeRefusal
   accepted-row = right-none _ _ e

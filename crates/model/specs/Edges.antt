@@ -1,16 +1,19 @@
 -- Document 01, "Either side of the edges": the cases marked *. The table's theorem is proofs/Edges.antt.
 use Prim.Native.Nat.{ℕ}
 use mathlib.Core.Path.{_≡_}
+use mathlib.Core.Bool.{cond}
 use mathlib.Core.List.{List, [], _∷_, map}
 use mathlib.Core.Logic.{_≢_}
 use mathlib.Core.Option.{none}
+use lib.Dec.{eqb}
+use lib.ListN.{length}
 use Rattle.model.specs.declared.Thing.the-variants.{Argument}
 use Rattle.model.specs.Refusals.{answer, number}
 use Rattle.model.specs.Numbers.{ℕ∞, fin, ∞}
-use Rattle.model.specs.Nets.{PNet, pairs}
+use Rattle.model.specs.Nets.{PNet, pairs, modeNo, pairNo, row}
 use Rattle.model.specs.Firing.{rowRefusal}
+use Rattle.model.specs.Complement.{complementRefusal, complement}
 use Rattle.model.specs.Runs.{certificateRefusal}
-use lib.ListN.{length}
 
 -- one mode at one pair, and the number of its answer
 pub record Edge : Type 0 where
@@ -45,9 +48,39 @@ edges =
     ∷ edge ∞ (fin 0) 2 0 1 11
     ∷ []
 
+-- The complement of a net of one mode at one pair: the number of complementing's answer, and what the mode has at the complement pair where it is 0.
+pub record ComplementEdge : Type 0 where
+  pub answer : ℕ
+  pub pre : ℕ
+  pub post : ℕ
+
+abbrev pub gives : ℕ → ℕ → ℕ → ComplementEdge
+gives n pre post = record { answer = n; pre = pre; post = post }
+
+abbrev edgeNet : ℕ → ℕ∞ → ℕ → ℕ → PNet
+edgeNet k i pre post =
+    record {
+      colours = 1 ∷ [];
+      modesOf = 1 ∷ [];
+      capacity = fin k ∷ [];
+      start = 0 ∷ [];
+      arcs = record { mode = modeNo 0; pair = pairNo 0; entry = record { pre = pre; post = post; inhibitor = i } } ∷ [];
+    }
+
+unfoldable pub complementFound : ℕ → ℕ∞ → ℕ → ℕ → ComplementEdge
+complementFound k i pre post =
+    let net = edgeNet k i pre post in
+    let n = number (answer (complementRefusal (λ arc. 0) net)) in
+    let e = row (complement net) (modeNo 0) 1 in
+    cond (eqb n 0) (gives 0 (e .pre) (e .post)) (gives n 0 0)
+
 pub record Edges : Type 0 where
   pub answers : map found edges ≡ map (λ e. e .expected) edges
-  -- Post 6, K 5: never enabled
+  -- Post 6, K 5: never enabled; complement Pre 6
   pub never : (i : ℕ∞) (pre m : ℕ) → found (edge (fin 5) i pre 6 m 0) ≢ 0
+  pub preSix : complementFound 5 ∞ 0 6 ≡ gives 0 6 0
+  -- K 1,000,000, I 0, Post 0: Pre 0 gives complement Post 1,000,000; Pre 1 gives 16
+  pub postMost : complementFound 1000000 (fin 0) 0 0 ≡ gives 0 1000000 1000000
+  pub postAbove : complementFound 1000000 (fin 0) 1 0 ≡ gives 16 0 0
   -- the empty list: the certificate is accepted for the first marking
   pub empty : (net : PNet) → length (net .start) ≡ pairs net → certificateRefusal net [] (net .start) ≡ none
