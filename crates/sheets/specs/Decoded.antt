@@ -1,0 +1,36 @@
+-- What an accepted sheet means: the net, the weights or the modes decoded from it.
+use Prim.Native.Nat.{ℕ}
+use mathlib.Core.List.{List}
+use lib.IntN.{ℤ}
+use Rattle.model.specs.declared.Mode.{Mode}
+use Rattle.model.specs.Firing.{table}
+use Rattle.model.specs.Nets.{NetArc, PNet, pairNo, modeNo}
+use Rattle.sheets.specs.Bytes.{u16At, u32At}
+use Rattle.sheets.specs.Layout.{counts, coloursAt, placeCount, transitionCount, modesAt, pairCount, pairAt, arcCount, arcAt, capacityAt, startAt, arcModeAt, arcPairAt, preAt, postAt, inhibitorAt, movementAt, movementCount, weightCount}
+use Rattle.sheets.specs.Weights.{weightOf}
+use Rattle.sheets.specs.Nets.{bound}
+
+-- the arc that stands at `at`
+unfoldable pub netArcAt : List ℕ → ℕ → NetArc
+netArcAt s at =
+    record {
+      mode = modeNo (u16At s (arcModeAt at));
+      pair = pairNo (u16At s (arcPairAt at));
+      entry = record { pre = u32At s (preAt at); post = u32At s (postAt at); inhibitor = bound (u32At s (inhibitorAt at)) };
+    }
+
+unfoldable pub netOf : List ℕ → PNet
+netOf s =
+    record {
+      colours = counts s coloursAt (placeCount s);
+      modesOf = counts s (modesAt s) (transitionCount s);
+      capacity = table (pairCount s) (λ p. bound (u32At s (capacityAt (pairAt s p))));
+      start = table (pairCount s) (λ p. u32At s (startAt (pairAt s p)));
+      arcs = table (arcCount s) (λ k. netArcAt s (arcAt s k));
+    }
+
+unfoldable pub weightsOf : List ℕ → List ℤ
+weightsOf s = table (weightCount s) (weightOf s)
+
+unfoldable pub movementsOf : List ℕ → List Mode
+movementsOf s = table (movementCount s) (λ k. modeNo (u16At s (movementAt k)))

@@ -1,0 +1,84 @@
+-- A net sheet's refusals, "the fields left to right".
+use Prim.Native.Nat.{ℕ, _+_, _-_}
+use mathlib.Core.Bool.{Bool, true, false, cond, not, _&&_, _||_}
+use mathlib.Core.List.{List}
+use mathlib.Core.Option.{Option}
+use lib.Dec.{ltb, leb, eqb}
+use Rattle.model.specs.declared.Thing.the-variants.{Net}
+use Rattle.model.specs.declared.Fault.the-variants.{CountOutside, NumberOutside, NotThereAt, NotRising, Blank, StartAboveCapacity}
+use Rattle.model.specs.declared.Refusal.{Refusal}
+use Rattle.model.specs.First.{_▸_, first, onlyIf}
+use Rattle.model.specs.Numbers.{ℕ∞, fin, ∞, above, limit}
+use Rattle.sheets.specs.Bytes.{u16At, u32At}
+use Rattle.sheets.specs.Layout.{countAt, totalOf, placesAt, transitionsAt, coloursAt, placeCount, transitionCount, modesAt, pairCount, modeCount, pairAt, arcCountAt, arcCount, arcAt, capacityAt, startAt, arcSize, arcModeAt, arcPairAt, preAt, postAt, inhibitorAt}
+use Rattle.sheets.specs.Checks.{wrong, headRefusal, missing, leftOver, countRefusal}
+
+-- "The value 4,294,967,295 means unbounded and is legal for K and I only."
+abbrev pub unbounded : ℕ
+unbounded = 4294967295
+
+unfoldable pub bound : ℕ → ℕ∞
+bound x = cond (eqb x unbounded) ∞ (fin x)
+
+-- "Numbers in net sheets and markings are 0..1,000,000."
+abbrev pub outside : ℕ∞ → Bool
+outside (fin n) = ltb limit n
+outside ∞ = false
+
+-- 5: "a number outside its range": one that must be finite, or a K or I
+abbrev pub numberRefusal : List ℕ → ℕ → Option Refusal
+numberRefusal s at = onlyIf (outside (fin (u32At s at))) (wrong Net (NumberOutside at))
+
+abbrev pub boundRefusal : List ℕ → ℕ → Option Refusal
+boundRefusal s at = onlyIf (outside (bound (u32At s at))) (wrong Net (NumberOutside at))
+
+-- n counts of 1..64 from `start` on; 4: "or the running total passes 256"
+unfoldable pub countsRefusal : List ℕ → ℕ → ℕ → Option Refusal
+countsRefusal s start n =
+    first n (λ i.
+    countRefusal Net s (countAt start i) 1 64
+    ▸ onlyIf (ltb 256 (totalOf s start (i + 1))) (wrong Net (CountOutside (countAt start i))))
+
+-- the pair that stands at `at`; "For the first marking 5 comes before 9"
+unfoldable pub pairRefusal : List ℕ → ℕ → Option Refusal
+pairRefusal s at =
+    missing Net s (capacityAt at) 4
+    ▸ boundRefusal s (capacityAt at)
+    ▸ missing Net s (startAt at) 4
+    ▸ numberRefusal s (startAt at)
+    ▸ onlyIf (above (u32At s (startAt at)) (bound (u32At s (capacityAt at)))) (wrong Net (StartAboveCapacity (startAt at)))
+
+-- "Arcs rise strictly by mode, then pair": the arc at `at` above the one at `before`
+abbrev pub risesTo : List ℕ → ℕ → ℕ → Bool
+risesTo s before at =
+    ltb (u16At s (arcModeAt before)) (u16At s (arcModeAt at))
+    || (eqb (u16At s (arcModeAt before)) (u16At s (arcModeAt at)) && ltb (u16At s (arcPairAt before)) (u16At s (arcPairAt at)))
+
+-- "An arc with Pre = Post = 0 and I unbounded is blank"
+abbrev pub isBlank : List ℕ → ℕ → Bool
+isBlank s at = eqb (u32At s (preAt at)) 0 && eqb (u32At s (postAt at)) 0 && eqb (u32At s (inhibitorAt at)) unbounded
+
+-- the k-th arc: "all 16 bytes must be there (else 3 at the arc's first byte), then 6 for mode, 6 for pair, 7, 5 for Pre, Post and I in turn, 8"
+unfoldable pub arcRefusal : List ℕ → ℕ → Option Refusal
+arcRefusal s k =
+    let at = arcAt s k in
+    missing Net s at arcSize
+    ▸ onlyIf (leb (modeCount s) (u16At s (arcModeAt at))) (wrong Net (NotThereAt (arcModeAt at)))
+    ▸ onlyIf (leb (pairCount s) (u16At s (arcPairAt at))) (wrong Net (NotThereAt (arcPairAt at)))
+    ▸ onlyIf (ltb 0 k && not (risesTo s (arcAt s (k - 1)) at)) (wrong Net (NotRising at))
+    ▸ numberRefusal s (preAt at)
+    ▸ numberRefusal s (postAt at)
+    ▸ boundRefusal s (inhibitorAt at)
+    ▸ onlyIf (isBlank s at) (wrong Net (Blank at))
+
+unfoldable pub netRefusal : List ℕ → Option Refusal
+netRefusal s =
+    headRefusal Net s
+    ▸ countRefusal Net s placesAt 1 64
+    ▸ countRefusal Net s transitionsAt 0 64
+    ▸ countsRefusal s coloursAt (placeCount s)
+    ▸ countsRefusal s (modesAt s) (transitionCount s)
+    ▸ first (pairCount s) (λ p. pairRefusal s (pairAt s p))
+    ▸ countRefusal Net s (arcCountAt s) 0 2048
+    ▸ first (arcCount s) (arcRefusal s)
+    ▸ leftOver Net s (arcAt s (arcCount s))
