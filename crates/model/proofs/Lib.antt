@@ -25,3 +25,4 @@ pub mod ByArcs
 pub mod ArcByArc
 pub mod Integers
 pub mod Figures
+pub mod Refusals

@@ -6,3 +6,4 @@ pub mod Weights
 pub mod Nets
 pub mod Whole
 pub mod Decoded
+pub mod Held

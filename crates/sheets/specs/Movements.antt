@@ -14,8 +14,10 @@ use Rattle.sheets.specs.Checks.{wrong, headRefusal, leftOver}
 abbrev pub mostMovements : ℕ
 mostMovements = 8192
 
-unfoldable pub movementsRefusal : List ℕ → Option Refusal
-movementsRefusal s =
-    headRefusal Movements s
-    ▸ leftOver Movements s (movementAt (movementCount s))
+unfoldable pub movementFields : List ℕ → Option Refusal
+movementFields s =
+    leftOver Movements s (movementAt (movementCount s))
     ▸ onlyIf (ltb mostMovements (movementCount s)) (wrong Movements (CountOutside movementsAt))
+
+unfoldable pub movementsRefusal : List ℕ → Option Refusal
+movementsRefusal s = headRefusal Movements s ▸ movementFields s

@@ -1,0 +1,10 @@
+-- What the private functions and the shared parts require: facts that the tests of a sheet have established.
+use Prim.Native.Nat.{ℕ, _≤_}
+use mathlib.Core.List.{List}
+use lib.ListN.{length}
+use Rattle.sheets.specs.Layout.{bodyLength, sheetEnd}
+
+-- the bytes hold a whole sheet, with a version byte
+pub record Headed (s : List ℕ) : Type 0 where
+  pub there : sheetEnd s ≤ length s
+  pub versioned : 1 ≤ bodyLength s
