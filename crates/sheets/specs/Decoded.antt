@@ -6,8 +6,8 @@ use Rattle.model.specs.declared.Mode.{Mode}
 use Rattle.model.specs.Firing.{table}
 use Rattle.model.specs.Nets.{NetArc, PNet, pairNo, modeNo}
 use Rattle.sheets.specs.Bytes.{u16At, u32At}
-use Rattle.sheets.specs.Layout.{counts, coloursAt, placeCount, transitionCount, modesAt, pairCount, pairAt, arcCount, arcAt, capacityAt, startAt, arcModeAt, arcPairAt, preAt, postAt, inhibitorAt, movementAt, movementCount, weightCount}
-use Rattle.sheets.specs.Weights.{weightOf}
+use Rattle.sheets.specs.Layout.{counts, coloursAt, placeCount, transitionCount, modesAt, pairCount, pairAt, arcCount, arcAt, capacityAt, startAt, arcModeAt, arcPairAt, preAt, postAt, inhibitorAt, movementAt, movementCount, weightCount, weightAt}
+use Rattle.sheets.specs.Weights.{signed}
 use Rattle.sheets.specs.Nets.{bound}
 
 -- the arc that stands at `at`
@@ -30,7 +30,7 @@ netOf s =
     }
 
 unfoldable pub weightsOf : List ℕ → List ℤ
-weightsOf s = table (weightCount s) (weightOf s)
+weightsOf s = table (weightCount s) (λ p. signed (u32At s (weightAt p)))
 
 unfoldable pub movementsOf : List ℕ → List Mode
 movementsOf s = table (movementCount s) (λ k. modeNo (u16At s (movementAt k)))

@@ -10,7 +10,7 @@ fn wide16(x: u8) -> u16
     x as u16
 }
 
-pub(crate) fn wide32(x: u16) -> u32
+fn wide32(x: u16) -> u32
     ensures { λ r. ⌜ (r ≡ x) × (r < 65536) ⌝ }
 {
     x as u32
@@ -34,4 +34,12 @@ pub fn u32_at(s: &[u8], at: usize) -> u32
     ensures { λ r. ⌜ (r ≡ u32At (now (s .entry)) at) × (r < 4294967296) ⌝ }
 {
     wide32(u16_at(s, at)) * 65536 + wide32(u16_at(s, at + 2))
+}
+
+// A count of 2 bytes.
+pub fn count_at(s: &[u8], at: usize) -> usize
+    requires { ⌜ at + 2 ≤ length (now s) ⌝ }
+    ensures { λ r. ⌜ (r ≡ u16At (now (s .entry)) at) × (r < 65536) ⌝ }
+{
+    wide64(wide32(u16_at(s, at)))
 }

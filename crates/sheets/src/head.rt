@@ -10,7 +10,8 @@ ghost use Prim.Native.Nat.{_+_, _<_, _≤_};
 ghost use lib.ListN.{length};
 ghost use Rattle.model.specs.Refusals.{answer};
 ghost use Rattle.sheets.specs.Layout.{sheetEnd};
-ghost use Rattle.sheets.specs.Checks.{wrong, headRefusal};
+ghost use Rattle.sheets.specs.Checks.{wrong, headRefusal, leftOver};
+ghost use Rattle.sheets.specs.Held.{Headed};
 
 pub fn refused(thing: Thing, fault: Fault) -> Answer
     ensures { λ r. ⌜ r ≡ Answer.Refused (wrong thing fault) ⌝ }
@@ -41,6 +42,17 @@ pub fn read_head(s: &[u8], thing: Thing) -> Answer
     }
     if s[4] != 1 {
         return refused(thing, Fault::WrongVersion(4));
+    }
+    Answer::Accepted
+}
+
+// Bytes of the sheet after the last field, which ends at `at`.
+pub(crate) fn left_over(s: &[u8], thing: Thing, at: usize) -> Answer
+    requires { ⌜ Headed (now s) ⌝ }
+    ensures { λ r. ⌜ r ≡ answer (leftOver thing (now (s .entry)) at) ⌝ }
+{
+    if at < sheet_end(s) {
+        return refused(thing, Fault::WrongLength(at));
     }
     Answer::Accepted
 }

@@ -3,3 +3,4 @@
 pub mod bytes;
 pub mod head;
 pub mod movements;
+pub mod weights;
