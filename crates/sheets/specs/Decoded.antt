@@ -6,7 +6,7 @@ use Rattle.model.specs.declared.Mode.{Mode}
 use Rattle.model.specs.Firing.{table}
 use Rattle.model.specs.Nets.{NetArc, PNet, pairNo, modeNo}
 use Rattle.sheets.specs.Bytes.{u16At, u32At}
-use Rattle.sheets.specs.Layout.{counts, coloursAt, placeCount, transitionCount, modesAt, pairCount, pairAt, arcCount, arcAt, capacityAt, startAt, arcModeAt, arcPairAt, preAt, postAt, inhibitorAt, movementAt, movementCount, weightCount, weightAt}
+use Rattle.sheets.specs.Layout.{counts, coloursAt, placeCount, transitionCount, modesAt, pairCount, pairsAt, pairAt, arcCount, arcsAt, arcAt, capacityAt, startAt, arcModeAt, arcPairAt, preAt, postAt, inhibitorAt, movementAt, movementCount, weightCount, weightAt}
 use Rattle.sheets.specs.Weights.{signed}
 use Rattle.sheets.specs.Nets.{bound}
 
@@ -24,9 +24,9 @@ netOf s =
     record {
       colours = counts s coloursAt (placeCount s);
       modesOf = counts s (modesAt s) (transitionCount s);
-      capacity = table (pairCount s) (λ p. bound (u32At s (capacityAt (pairAt s p))));
-      start = table (pairCount s) (λ p. u32At s (startAt (pairAt s p)));
-      arcs = table (arcCount s) (λ k. netArcAt s (arcAt s k));
+      capacity = table (pairCount s) (λ p. bound (u32At s (capacityAt (pairAt (pairsAt s) p))));
+      start = table (pairCount s) (λ p. u32At s (startAt (pairAt (pairsAt s) p)));
+      arcs = table (arcCount s) (λ k. netArcAt s (arcAt (arcsAt s) k));
     }
 
 unfoldable pub weightsOf : List ℕ → List ℤ

@@ -25,57 +25,20 @@ counts s start n = table n (λ i. u16At s (countAt start i))
 abbrev pub totalOf : List ℕ → ℕ → ℕ → ℕ
 totalOf s start n = total (counts s start n)
 
--- Net sheet: "Place count S (2 bytes ..); transition count (2 bytes ..); colours of each place (2 bytes each ..); modes of each transition (2 bytes each ..)"
-abbrev pub placesAt : ℕ
-placesAt = 5
+-- pairs from `start` on: "for each pair K and the first marking (4 bytes each)"; the two fields of a pair that stands at `at`
+abbrev pub pairAt : ℕ → ℕ → ℕ
+pairAt start p = start + 8 * p
 
-abbrev pub transitionsAt : ℕ
-transitionsAt = 7
-
-abbrev pub coloursAt : ℕ
-coloursAt = 9
-
-module _ (s : List ℕ) where
-  abbrev pub placeCount : ℕ
-  placeCount = u16At s placesAt
-
-  abbrev pub transitionCount : ℕ
-  transitionCount = u16At s transitionsAt
-
-  abbrev pub modesAt : ℕ
-  modesAt = countAt coloursAt placeCount
-
-  unfoldable pub pairCount : ℕ
-  pairCount = totalOf s coloursAt placeCount
-
-  unfoldable pub modeCount : ℕ
-  modeCount = totalOf s modesAt transitionCount
-
-  -- "for each pair K and the first marking (4 bytes each)"
-  unfoldable pub pairsAt : ℕ
-  pairsAt = countAt modesAt transitionCount
-
-  abbrev pub pairAt : ℕ → ℕ
-  pairAt p = pairsAt + 8 * p
-
-  -- "arc count (2 bytes ..); the arcs"
-  unfoldable pub arcCountAt : ℕ
-  arcCountAt = pairAt pairCount
-
-  unfoldable pub arcCount : ℕ
-  arcCount = u16At s arcCountAt
-
-  abbrev pub arcAt : ℕ → ℕ
-  arcAt k = arcCountAt + 2 + 16 * k
-
--- the fields of a pair that stands at `at`
 abbrev pub capacityAt : ℕ → ℕ
 capacityAt at = at
 
 abbrev pub startAt : ℕ → ℕ
 startAt at = at + 4
 
--- the fields of an arc that stands at `at`: "mode (2 bytes), pair (2), Pre, Post, I (4 each), 16 bytes"
+-- arcs from `start` on: "An arc is mode (2 bytes), pair (2), Pre, Post, I (4 each), 16 bytes."; the fields of an arc that stands at `at`
+abbrev pub arcAt : ℕ → ℕ → ℕ
+arcAt start k = start + 16 * k
+
 abbrev pub arcSize : ℕ
 arcSize = 16
 
@@ -93,6 +56,49 @@ postAt at = at + 8
 
 abbrev pub inhibitorAt : ℕ → ℕ
 inhibitorAt at = at + 12
+
+-- Net sheet: "Place count S (2 bytes ..); transition count (2 bytes ..); colours of each place ..; modes of each transition ..;
+-- for each pair K and the first marking ..; arc count (2 bytes ..); the arcs."
+abbrev pub placesAt : ℕ
+placesAt = 5
+
+abbrev pub transitionsAt : ℕ
+transitionsAt = 7
+
+abbrev pub coloursAt : ℕ
+coloursAt = 9
+
+-- the arcs follow their count, which stands at `at`
+abbrev pub arcsAfter : ℕ → ℕ
+arcsAfter at = at + 2
+
+module _ (s : List ℕ) where
+  abbrev pub placeCount : ℕ
+  placeCount = u16At s placesAt
+
+  abbrev pub transitionCount : ℕ
+  transitionCount = u16At s transitionsAt
+
+  unfoldable pub modesAt : ℕ
+  modesAt = countAt coloursAt placeCount
+
+  unfoldable pub pairCount : ℕ
+  pairCount = totalOf s coloursAt placeCount
+
+  unfoldable pub modeCount : ℕ
+  modeCount = totalOf s modesAt transitionCount
+
+  unfoldable pub pairsAt : ℕ
+  pairsAt = countAt modesAt transitionCount
+
+  unfoldable pub arcCountAt : ℕ
+  arcCountAt = pairAt pairsAt pairCount
+
+  unfoldable pub arcCount : ℕ
+  arcCount = u16At s arcCountAt
+
+  unfoldable pub arcsAt : ℕ
+  arcsAt = arcsAfter arcCountAt
 
 -- Movement sheet: "Mode numbers, 2 bytes each"; as many whole ones as fit in L
 abbrev pub movementsAt : ℕ

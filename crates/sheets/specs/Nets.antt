@@ -10,7 +10,7 @@ use Rattle.model.specs.declared.Refusal.{Refusal}
 use Rattle.model.specs.First.{_▸_, first, onlyIf}
 use Rattle.model.specs.Numbers.{ℕ∞, fin, ∞, above, limit}
 use Rattle.sheets.specs.Bytes.{u16At, u32At}
-use Rattle.sheets.specs.Layout.{countAt, totalOf, placesAt, transitionsAt, coloursAt, placeCount, transitionCount, modesAt, pairCount, modeCount, pairAt, arcCountAt, arcCount, arcAt, capacityAt, startAt, arcSize, arcModeAt, arcPairAt, preAt, postAt, inhibitorAt}
+use Rattle.sheets.specs.Layout.{countAt, totalOf, placesAt, transitionsAt, coloursAt, placeCount, transitionCount, modesAt, pairCount, modeCount, pairsAt, pairAt, arcCountAt, arcsAfter, arcAt, capacityAt, startAt, arcSize, arcModeAt, arcPairAt, preAt, postAt, inhibitorAt}
 use Rattle.sheets.specs.Checks.{wrong, headRefusal, missing, leftOver, countRefusal}
 
 -- "The value 4,294,967,295 means unbounded and is legal for K and I only."
@@ -32,12 +32,11 @@ numberRefusal s at = onlyIf (outside (fin (u32At s at))) (wrong Net (NumberOutsi
 abbrev pub boundRefusal : List ℕ → ℕ → Option Refusal
 boundRefusal s at = onlyIf (outside (bound (u32At s at))) (wrong Net (NumberOutside at))
 
--- n counts of 1..64 from `start` on; 4: "or the running total passes 256"
-unfoldable pub countsRefusal : List ℕ → ℕ → ℕ → Option Refusal
-countsRefusal s start n =
-    first n (λ i.
+-- the i-th of the counts of 1..64 that stand from `start` on; 4: "or the running total passes 256"
+unfoldable pub runningRefusal : List ℕ → ℕ → ℕ → Option Refusal
+runningRefusal s start i =
     countRefusal Net s (countAt start i) 1 64
-    ▸ onlyIf (ltb 256 (totalOf s start (i + 1))) (wrong Net (CountOutside (countAt start i))))
+    ▸ onlyIf (ltb 256 (totalOf s start (i + 1))) (wrong Net (CountOutside (countAt start i)))
 
 -- the pair that stands at `at`; "For the first marking 5 comes before 9"
 unfoldable pub pairRefusal : List ℕ → ℕ → Option Refusal
@@ -49,36 +48,54 @@ pairRefusal s at =
     ▸ onlyIf (above (u32At s (startAt at)) (bound (u32At s (capacityAt at)))) (wrong Net (StartAboveCapacity (startAt at)))
 
 -- "Arcs rise strictly by mode, then pair": the arc at `at` above the one at `before`
-abbrev pub risesTo : List ℕ → ℕ → ℕ → Bool
+unfoldable pub risesTo : List ℕ → ℕ → ℕ → Bool
 risesTo s before at =
     ltb (u16At s (arcModeAt before)) (u16At s (arcModeAt at))
     || (eqb (u16At s (arcModeAt before)) (u16At s (arcModeAt at)) && ltb (u16At s (arcPairAt before)) (u16At s (arcPairAt at)))
 
+-- 7: the k-th of the arcs that stand from `start` on is "not above the one before"
+unfoldable pub notRising : List ℕ → ℕ → ℕ → Bool
+notRising s start k = ltb 0 k && not (risesTo s (arcAt start (k - 1)) (arcAt start k))
+
 -- "An arc with Pre = Post = 0 and I unbounded is blank"
-abbrev pub isBlank : List ℕ → ℕ → Bool
+unfoldable pub isBlank : List ℕ → ℕ → Bool
 isBlank s at = eqb (u32At s (preAt at)) 0 && eqb (u32At s (postAt at)) 0 && eqb (u32At s (inhibitorAt at)) unbounded
 
--- the k-th arc: "all 16 bytes must be there (else 3 at the arc's first byte), then 6 for mode, 6 for pair, 7, 5 for Pre, Post and I in turn, 8"
-unfoldable pub arcRefusal : List ℕ → ℕ → Option Refusal
-arcRefusal s k =
-    let at = arcAt s k in
-    missing Net s at arcSize
-    ▸ onlyIf (leb (modeCount s) (u16At s (arcModeAt at))) (wrong Net (NotThereAt (arcModeAt at)))
-    ▸ onlyIf (leb (pairCount s) (u16At s (arcPairAt at))) (wrong Net (NotThereAt (arcPairAt at)))
-    ▸ onlyIf (ltb 0 k && not (risesTo s (arcAt s (k - 1)) at)) (wrong Net (NotRising at))
-    ▸ numberRefusal s (preAt at)
+unfoldable pub arcNumbersRefusal : List ℕ → ℕ → Option Refusal
+arcNumbersRefusal s at =
+    numberRefusal s (preAt at)
     ▸ numberRefusal s (postAt at)
     ▸ boundRefusal s (inhibitorAt at)
     ▸ onlyIf (isBlank s at) (wrong Net (Blank at))
 
+-- "For an arc all 16 bytes must be there (else 3 at the arc's first byte), then 6 for mode, 6 for pair, 7, 5 for Pre, Post and I in turn, 8."
+module _ (s : List ℕ) (modes pairs : ℕ) where
+  unfoldable pub arcNamesRefusal : ℕ → ℕ → Option Refusal
+  arcNamesRefusal start k =
+      onlyIf (leb modes (u16At s (arcModeAt (arcAt start k)))) (wrong Net (NotThereAt (arcModeAt (arcAt start k))))
+      ▸ onlyIf (leb pairs (u16At s (arcPairAt (arcAt start k)))) (wrong Net (NotThereAt (arcPairAt (arcAt start k))))
+      ▸ onlyIf (notRising s start k) (wrong Net (NotRising (arcAt start k)))
+
+  unfoldable pub arcRefusal : ℕ → ℕ → Option Refusal
+  arcRefusal start k = missing Net s (arcAt start k) arcSize ▸ arcNamesRefusal start k ▸ arcNumbersRefusal s (arcAt start k)
+
+  -- the arc count at `at`, the arcs, and nothing after them
+  unfoldable pub arcFields : ℕ → Option Refusal
+  arcFields at =
+      countRefusal Net s at 0 2048
+      ▸ first (u16At s at) (arcRefusal (arcsAfter at))
+      ▸ leftOver Net s (arcAt (arcsAfter at) (u16At s at))
+
+unfoldable pub countFields : List ℕ → Option Refusal
+countFields s =
+    countRefusal Net s placesAt 1 64
+    ▸ countRefusal Net s transitionsAt 0 64
+    ▸ first (placeCount s) (runningRefusal s coloursAt)
+    ▸ first (transitionCount s) (runningRefusal s (modesAt s))
+
 unfoldable pub netRefusal : List ℕ → Option Refusal
 netRefusal s =
     headRefusal Net s
-    ▸ countRefusal Net s placesAt 1 64
-    ▸ countRefusal Net s transitionsAt 0 64
-    ▸ countsRefusal s coloursAt (placeCount s)
-    ▸ countsRefusal s (modesAt s) (transitionCount s)
-    ▸ first (pairCount s) (λ p. pairRefusal s (pairAt s p))
-    ▸ countRefusal Net s (arcCountAt s) 0 2048
-    ▸ first (arcCount s) (arcRefusal s)
-    ▸ leftOver Net s (arcAt s (arcCount s))
+    ▸ countFields s
+    ▸ first (pairCount s) (λ p. pairRefusal s (pairAt (pairsAt s) p))
+    ▸ arcFields s (modeCount s) (pairCount s) (arcCountAt s)
