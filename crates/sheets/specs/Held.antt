@@ -2,9 +2,17 @@
 use Prim.Native.Nat.{ℕ, _≤_}
 use mathlib.Core.List.{List}
 use lib.ListN.{length}
-use Rattle.sheets.specs.Layout.{bodyLength, sheetEnd}
+use Rattle.sheets.specs.Layout.{bodyLength, sheetEnd, coloursAt, placeCount, transitionCount}
 
 -- the bytes hold a whole sheet, with a version byte
 pub record Headed (s : List ℕ) : Type 0 where
   pub there : sheetEnd s ≤ length s
   pub versioned : 1 ≤ bodyLength s
+
+-- the place count and the transition count of a net sheet are there and within their limits
+pub record Sized (s : List ℕ) : Type 0 where
+  pub head : Headed s
+  pub there : coloursAt ≤ sheetEnd s
+  pub somePlace : 1 ≤ placeCount s
+  pub places : placeCount s ≤ 64
+  pub transitions : transitionCount s ≤ 64

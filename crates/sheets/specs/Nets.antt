@@ -86,12 +86,11 @@ module _ (s : List ℕ) (modes pairs : ℕ) where
       ▸ first (u16At s at) (arcRefusal (arcsAfter at))
       ▸ leftOver Net s (arcAt (arcsAfter at) (u16At s at))
 
+unfoldable pub eachCount : List ℕ → Option Refusal
+eachCount s = first (placeCount s) (runningRefusal s coloursAt) ▸ first (transitionCount s) (runningRefusal s (modesAt s))
+
 unfoldable pub countFields : List ℕ → Option Refusal
-countFields s =
-    countRefusal Net s placesAt 1 64
-    ▸ countRefusal Net s transitionsAt 0 64
-    ▸ first (placeCount s) (runningRefusal s coloursAt)
-    ▸ first (transitionCount s) (runningRefusal s (modesAt s))
+countFields s = countRefusal Net s placesAt 1 64 ▸ countRefusal Net s transitionsAt 0 64 ▸ eachCount s
 
 unfoldable pub netRefusal : List ℕ → Option Refusal
 netRefusal s =

@@ -1,7 +1,6 @@
 -- The head, then the fields.
 use borrow.Author.Needs.{needs}
-use mathlib.Core.Path.{sym, _∙_}
-use Rattle.model.proofs.Refusals.{answer-accepted, answer-stops, answer-goes-on}
+use Rattle.model.proofs.Refusals.{answer-none, answer-stops, answer-goes-on}
 use Rattle.sheets.specs.Weights.{weightsRefusal}
 use Rattle.sheets.proofs.Heads.{head-holds}
 use Rattle.sheets.proofs.weights.read_weights.Statement.{statement}
@@ -12,7 +11,7 @@ unfolding weightsRefusal
 returns c = answer-stops _ _ (c .before .before .read-head .ensures) (c .enum-told .given .1)
 
 weight-fields-requires : tie.Need-weight-fields-requires
-weight-fields-requires c κs = head-holds _ _ (answer-accepted _ (sym (c .before .before .read-head .ensures) ∙ c .enum-told2 .given .1))
+weight-fields-requires c κs = head-holds _ _ (answer-none _ (c .before .before .read-head .ensures) (c .enum-told2 .given .1))
 
 returns-2 : tie.Need-returns-2
 unfolding weightsRefusal
