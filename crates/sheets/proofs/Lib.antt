@@ -1,3 +1,5 @@
 pub mod Heads
 pub mod Signs
 pub mod RunningTotals
+pub mod Bounds
+pub mod PairFields

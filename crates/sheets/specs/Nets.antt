@@ -38,14 +38,18 @@ runningRefusal s start i =
     countRefusal Net s (countAt start i) 1 64
     ▸ onlyIf (ltb 256 (totalOf s start (i + 1))) (wrong Net (CountOutside (countAt start i)))
 
--- the pair that stands at `at`; "For the first marking 5 comes before 9"
-unfoldable pub pairRefusal : List ℕ → ℕ → Option Refusal
-pairRefusal s at =
-    missing Net s (capacityAt at) 4
-    ▸ boundRefusal s (capacityAt at)
-    ▸ missing Net s (startAt at) 4
+-- the pair that stands at `at`: K, then the first marking; "For the first marking 5 comes before 9"
+unfoldable pub capacityRefusal : List ℕ → ℕ → Option Refusal
+capacityRefusal s at = missing Net s (capacityAt at) 4 ▸ boundRefusal s (capacityAt at)
+
+unfoldable pub startRefusal : List ℕ → ℕ → Option Refusal
+startRefusal s at =
+    missing Net s (startAt at) 4
     ▸ numberRefusal s (startAt at)
     ▸ onlyIf (above (u32At s (startAt at)) (bound (u32At s (capacityAt at)))) (wrong Net (StartAboveCapacity (startAt at)))
+
+unfoldable pub pairRefusal : List ℕ → ℕ → Option Refusal
+pairRefusal s at = capacityRefusal s at ▸ startRefusal s at
 
 -- "Arcs rise strictly by mode, then pair": the arc at `at` above the one at `before`
 unfoldable pub risesTo : List ℕ → ℕ → ℕ → Bool

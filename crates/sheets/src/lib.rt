@@ -1,8 +1,9 @@
 // Sheets: bytes in. A net stays in the bytes that the caller lent; reading tests it once, and every later look reads a field in place.
 // Where each field stands is said in specs/Layout.antt, and what each reader answers in the specs file of its sheet.
 pub mod bytes;
-pub mod counts;
+mod counts;
 pub mod head;
 pub mod movements;
-pub mod pairs;
+mod numbers;
+mod pairs;
 pub mod weights;
