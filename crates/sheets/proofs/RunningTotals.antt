@@ -1,5 +1,5 @@
 -- What an accepted count says, and the running total.
-use Prim.Native.Nat.{ℕ, suc, _+_, _≤_, _<_}
+use Prim.Native.Nat.{ℕ, zero, suc, _+_, _≤_, _<_}
 use mathlib.Core.Path.{_≡_, refl, sym, _∙_, ap}
 use mathlib.Core.Bool.{Bool, true, false, _||_}
 use mathlib.Core.List.{List, [], _∷_, _++_}
@@ -10,15 +10,15 @@ use native.Mathlib.Numerals.{add-one}
 use borrow.Author.Tests.{ltb-false}
 use Rattle.model.specs.declared.Thing.{Thing}
 use Rattle.model.specs.declared.Thing.the-variants.{Net}
-use Rattle.model.specs.First.{_▸_, onlyIf}
+use Rattle.model.specs.First.{_▸_, first, onlyIf}
 use Rattle.model.specs.Nets.{total}
 use Rattle.model.specs.Firing.{table}
-use Rattle.model.proofs.First.{left-none, right-none, only-if-none}
+use Rattle.model.proofs.First.{left-none, right-none, only-if-none, first-each}
 use Rattle.sheets.specs.Bytes.{u16At}
-use Rattle.sheets.specs.Layout.{sheetEnd, countAt, counts, totalOf, placesAt, transitionsAt}
+use Rattle.sheets.specs.Layout.{sheetEnd, countAt, counts, totalOf, placesAt, transitionsAt, coloursAt, placeCount, transitionCount, modesAt, pairCount, modeCount, pairsAt}
 use Rattle.sheets.specs.Checks.{countRefusal}
-use Rattle.sheets.specs.Held.{Headed, Sized}
-use Rattle.sheets.specs.Nets.{runningRefusal}
+use Rattle.sheets.specs.Held.{Headed, Sized, Counted}
+use Rattle.sheets.specs.Nets.{runningRefusal, eachCount, countFields}
 
 pub total-snoc : (xs : List ℕ) (x : ℕ) → total (xs ++ x ∷ []) ≡ total xs + x
 total-snoc [] x = omega arith
@@ -67,3 +67,20 @@ sized s h e f =
     let places = count-holds Net s placesAt 1 64 e in
     let transitions = count-holds Net s transitionsAt 0 64 f in
     record { head = h; there = transitions .there; somePlace = places .least; places = places .most; transitions = transitions .most }
+
+-- n accepted counts are there, and within the total
+pub all-running : (s : List ℕ) (start n : ℕ) → start ≤ sheetEnd s → first n (runningRefusal s start) ≡ none → (countAt start n ≤ sheetEnd s) × (totalOf s start n ≤ 256)
+all-running s start zero h e = (omega arith, omega (arith, total-none s start))
+all-running s start (suc n) h e =
+    let last = running-holds s start n (first-each (suc n) (runningRefusal s start) e n (omega arith)) in
+    (omega arith, rw add-one at (last .inTotal))
+
+pub counted : (s : List ℕ) → Headed s → countFields s ≡ none → Counted s
+unfolding countFields eachCount modesAt pairCount modeCount pairsAt
+counted s h e =
+    let e₁ = right-none _ _ e in
+    let size = sized s h (left-none _ _ e) (left-none _ _ e₁) in
+    let each = right-none _ _ e₁ in
+    let colours = all-running s coloursAt (placeCount s) (size .there) (left-none _ _ each) in
+    let modes = all-running s (countAt coloursAt (placeCount s)) (transitionCount s) (colours .0) (right-none _ _ each) in
+    record { sized = size; there = modes .0; pairs = colours .1; modes = modes .1 }

@@ -2,7 +2,7 @@
 use Prim.Native.Nat.{ℕ, _≤_}
 use mathlib.Core.List.{List}
 use lib.ListN.{length}
-use Rattle.sheets.specs.Layout.{bodyLength, sheetEnd, coloursAt, placeCount, transitionCount}
+use Rattle.sheets.specs.Layout.{bodyLength, sheetEnd, coloursAt, placeCount, transitionCount, pairCount, modeCount, pairsAt}
 
 -- the bytes hold a whole sheet, with a version byte
 pub record Headed (s : List ℕ) : Type 0 where
@@ -16,3 +16,10 @@ pub record Sized (s : List ℕ) : Type 0 where
   pub somePlace : 1 ≤ placeCount s
   pub places : placeCount s ≤ 64
   pub transitions : transitionCount s ≤ 64
+
+-- the counts that they announce are there, and their totals within the limits
+pub record Counted (s : List ℕ) : Type 0 where
+  pub sized : Sized s
+  pub there : pairsAt s ≤ sheetEnd s
+  pub pairs : pairCount s ≤ 256
+  pub modes : modeCount s ≤ 256

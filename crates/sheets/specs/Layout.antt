@@ -79,7 +79,7 @@ module _ (s : List ℕ) where
   abbrev pub transitionCount : ℕ
   transitionCount = u16At s transitionsAt
 
-  unfoldable pub modesAt : ℕ
+  abbrev pub modesAt : ℕ
   modesAt = countAt coloursAt placeCount
 
   unfoldable pub pairCount : ℕ
@@ -88,16 +88,16 @@ module _ (s : List ℕ) where
   unfoldable pub modeCount : ℕ
   modeCount = totalOf s modesAt transitionCount
 
-  unfoldable pub pairsAt : ℕ
+  abbrev pub pairsAt : ℕ
   pairsAt = countAt modesAt transitionCount
 
-  unfoldable pub arcCountAt : ℕ
+  abbrev pub arcCountAt : ℕ
   arcCountAt = pairAt pairsAt pairCount
 
   unfoldable pub arcCount : ℕ
   arcCount = u16At s arcCountAt
 
-  unfoldable pub arcsAt : ℕ
+  abbrev pub arcsAt : ℕ
   arcsAt = arcsAfter arcCountAt
 
 -- Movement sheet: "Mode numbers, 2 bytes each"; as many whole ones as fit in L

@@ -96,9 +96,13 @@ eachCount s = first (placeCount s) (runningRefusal s coloursAt) ▸ first (trans
 unfoldable pub countFields : List ℕ → Option Refusal
 countFields s = countRefusal Net s placesAt 1 64 ▸ countRefusal Net s transitionsAt 0 64 ▸ eachCount s
 
-unfoldable pub netRefusal : List ℕ → Option Refusal
-netRefusal s =
-    headRefusal Net s
-    ▸ countFields s
-    ▸ first (pairCount s) (λ p. pairRefusal s (pairAt (pairsAt s) p))
+unfoldable pub pairAndArcFields : List ℕ → Option Refusal
+pairAndArcFields s =
+    first (pairCount s) (λ p. pairRefusal s (pairAt (pairsAt s) p))
     ▸ arcFields s (modeCount s) (pairCount s) (arcCountAt s)
+
+unfoldable pub netFields : List ℕ → Option Refusal
+netFields s = countFields s ▸ pairAndArcFields s
+
+unfoldable pub netRefusal : List ℕ → Option Refusal
+netRefusal s = headRefusal Net s ▸ netFields s
