@@ -8,11 +8,15 @@ use lib.Dec.{ltb, eqb}
 use native.Mathlib.Omega.{arith}
 use borrow.Author.Tests.{ltb-false, eqb-false}
 use Rattle.model.specs.declared.Thing.{Thing}
+use Rattle.model.specs.declared.Thing.the-variants.{Net, Weights, Movements}
 use Rattle.model.specs.First.{_▸_}
 use Rattle.model.proofs.First.{left-none, right-none, only-if-none}
 use Rattle.sheets.specs.Layout.{bodyLength, sheetEnd}
 use Rattle.sheets.specs.Checks.{headRefusal}
 use Rattle.sheets.specs.Held.{Headed}
+use Rattle.sheets.specs.Nets.{netRefusal}
+use Rattle.sheets.specs.Weights.{weightsRefusal}
+use Rattle.sheets.specs.Movements.{movementsRefusal}
 
 pub head-holds : (thing : Thing) (s : List ℕ) → headRefusal thing s ≡ none → Headed s
 unfolding headRefusal
@@ -21,3 +25,16 @@ head-holds thing s e =
     let short : ltb (length s) (sheetEnd s) ≡ _ = only-if-none _ _ (left-none _ _ e₁) in
     let empty : eqb (bodyLength s) 0 ≡ _ = only-if-none _ _ (left-none _ _ (right-none _ _ e₁)) in
     record { there = ltb-false _ _ short; versioned = omega (arith, eqb-false (bodyLength s) 0 empty) }
+
+-- a sheet that is accepted has its head
+pub net-head : (s : List ℕ) → netRefusal s ≡ none → Headed s
+unfolding netRefusal
+net-head s e = head-holds Net s (left-none _ _ e)
+
+pub weights-head : (pairs : ℕ) (s : List ℕ) → weightsRefusal pairs s ≡ none → Headed s
+unfolding weightsRefusal
+weights-head pairs s e = head-holds Weights s (left-none _ _ e)
+
+pub movements-head : (s : List ℕ) → movementsRefusal s ≡ none → Headed s
+unfolding movementsRefusal
+movements-head s e = head-holds Movements s (left-none _ _ e)

@@ -9,3 +9,4 @@ pub mod net;
 mod numbers;
 mod pairs;
 pub mod weights;
+pub mod whole;
