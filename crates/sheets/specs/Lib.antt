@@ -7,3 +7,4 @@ pub mod Nets
 pub mod Whole
 pub mod Decoded
 pub mod Held
+pub mod Accepted
