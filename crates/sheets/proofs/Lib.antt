@@ -6,3 +6,4 @@ pub mod PairFields
 pub mod Valid
 pub mod Meaning
 pub mod Accepted
+pub mod Shapes

@@ -1,9 +1,10 @@
 -- What an accepted net sheet holds: every field is inside the sheet and within its limits.
-use Prim.Native.Nat.{ℕ, zero, suc, _+_, _-_, _≤_, _<_}
-use mathlib.Core.Path.{_≡_}
+use Prim.Native.Nat.{ℕ, zero, suc, _+_, _-_, _*_, _≤_, _<_}
+use mathlib.Core.Path.{_≡_, refl}
 use mathlib.Core.Bool.{Bool, true, false, _&&_}
 use mathlib.Core.List.{List}
 use mathlib.Core.Option.{none}
+use lib.ListN.{length}
 use native.Mathlib.Omega.{arith}
 use native.Mathlib.Numerals.{add-one}
 use borrow.Author.Tests.{ltb-false, leb-false, lt-ltb, not-false}
@@ -125,3 +126,32 @@ module _ (s : List ℕ) (accepted : netRefusal s ≡ none) where
       arc-holds s (modeCount s) (pairCount s) (arcsAt s) k
       (first-each (arcCount s) (arcRefusal s (modeCount s) (pairCount s) (arcsAt s))
       (left-none _ _ (right-none (countRefusal Net s (arcCountAt s) 0 2048) _ arcs-accepted)) k h)
+
+-- where the parts of an accepted net sheet stand: in the run of bytes, one after the other, and not far in
+pub record Placed (s : List ℕ) : Type 0 where
+  pub places : placeCount s ≤ 64
+  pub transitions : transitionCount s ≤ 64
+  pub pairs : pairCount s ≤ 256
+  pub modes : modeCount s ≤ 256
+  pub arcs : arcCount s ≤ 2048
+  pub modesAfter : modesAt s ≡ coloursAt + 2 * placeCount s
+  pub pairsAfter : pairsAt s ≡ modesAt s + 2 * transitionCount s
+  pub arcCountAfter : arcCountAt s ≡ pairsAt s + 8 * pairCount s
+  pub arcsAfter : arcsAt s ≡ arcCountAt s + 2
+  pub there : arcsAt s ≤ length s
+
+pub placed : (s : List ℕ) → netRefusal s ≡ none → Placed s
+unfolding modesAt pairsAt arcCountAt arcsAt
+placed s accepted =
+    record {
+      places = counted s accepted .places;
+      transitions = counted s accepted .transitions;
+      pairs = pairs-within s accepted;
+      modes = modes-within s accepted;
+      arcs = arcs-within s accepted;
+      modesAfter = refl;
+      pairsAfter = refl;
+      arcCountAfter = refl;
+      arcsAfter = refl;
+      there = omega (arith, headed s accepted, arcs-counted s accepted);
+    }

@@ -8,3 +8,4 @@ pub mod Whole
 pub mod Decoded
 pub mod Held
 pub mod Accepted
+pub mod Shape

@@ -8,5 +8,6 @@ pub mod movements;
 pub mod net;
 mod numbers;
 mod pairs;
+pub mod shape;
 pub mod weights;
 pub mod whole;
