@@ -11,13 +11,13 @@ use Rattle.model.specs.Numbers.{ℕ∞, fin, ∞}
 use Rattle.model.specs.Nets.{K, count}
 use Rattle.model.specs.WellFormed.{InRange, Blank, ArcOf, Rises, Counted}
 use Rattle.model.proofs.Numbers.{above-false}
-use Rattle.sheets.specs.Layout.{counts, pairCount, modeCount, arcCount, arcsAt, arcAt}
+use Rattle.sheets.specs.Layout.{totalOf, counts, pairCount, modeCount, arcCount, arcsAt, arcAt}
 use Rattle.sheets.specs.Nets.{unbounded, bound, outside, risesTo, isBlank}
 use Rattle.sheets.specs.Decoded.{netArcAt, netOf}
 use Rattle.sheets.specs.Accepted.{AcceptedNet}
 use Rattle.sheets.proofs.RunningTotals.{RunningRead}
 use Rattle.sheets.proofs.Bounds.{bound-finite}
-use Rattle.sheets.proofs.Valid.{ArcRead, total-within, counted, colours-hold, modes-hold, capacity-read, start-read, arcs-within, arc-read}
+use Rattle.sheets.proofs.Valid.{ArcRead, counts-hold, colours-hold, modes-hold, capacity-holds, start-holds, arcs-within, arc-holds}
 use Rattle.sheets.proofs.Meaning.{counts-length, counts-at, colours-are, modes-of-are, pairs-are, modes-are, capacities-length, capacity-at, start-length, start-at, arcs-length, arc-at}
 
 in-range : (x : ℕ) → outside (bound x) ≡ false → InRange (bound x)
@@ -34,15 +34,15 @@ unbounded-only x e = go (eqb x unbounded) refl
     go true h = eqb-true x unbounded h
     go false h = let z : fin x ≡ ∞ = sym (bound-finite x (eqb-false x unbounded h)) ∙ e in let y : _≡_ {A = ℕ} 0 1 = cc in absurd (omega arith)
 
-counts-counted : (s : List ℕ) (start n : ℕ) → n ≤ 64 → ((i : ℕ) → i < n → RunningRead s start i) → Counted (counts s start n)
-counts-counted s start n h each =
+counts-counted : (s : List ℕ) (start n : ℕ) → n ≤ 64 → totalOf s start n ≤ 256 → ((i : ℕ) → i < n → RunningRead s start i) → Counted (counts s start n)
+counts-counted s start n h within each =
     record {
       many = rw counts-length h;
       each =
           λ i l.
           let i<n : i < n = omega (arith, counts-length s start n) in
           rw (counts-at s start n i i<n) (each i i<n .count .least, each i i<n .count .most);
-      inTotal = total-within s start n each;
+      inTotal = within;
     }
 
 -- "by mode, then pair"
@@ -78,31 +78,32 @@ arc-of s k arc =
     }
 
 pub well-formed : AcceptedNet
+unfolding pairCount modeCount
 well-formed s accepted =
     record {
-      somePlace = rw (colours-are, counts-length) (counted s accepted .somePlace);
-      places = rw colours-are (counts-counted s _ _ (counted s accepted .places) (colours-hold s accepted));
-      transitions = rw modes-of-are (counts-counted s _ _ (counted s accepted .transitions) (modes-hold s accepted));
+      somePlace = rw (colours-are, counts-length) (counts-hold s accepted .sized .somePlace);
+      places = rw colours-are (counts-counted s _ _ (counts-hold s accepted .sized .places) (counts-hold s accepted .pairs) (colours-hold s accepted));
+      transitions = rw modes-of-are (counts-counted s _ _ (counts-hold s accepted .sized .transitions) (counts-hold s accepted .modes) (modes-hold s accepted));
       capacities = capacities-length s ∙ sym (pairs-are s);
       capacityInRange =
           λ p h.
           let l : p < pairCount s = omega (arith, pairs-are s) in
-          rw (capacity-at s p l) (in-range _ (capacity-read s accepted p l .inRange));
+          rw (capacity-at s p l) (in-range _ (capacity-holds s accepted p l .inRange));
       start =
           record {
             oneEach = start-length s ∙ sym (pairs-are s);
-            inRange = λ p h. let l : p < pairCount s = omega (arith, pairs-are s) in rw (start-at s p l) (start-read s accepted p l .inRange);
+            inRange = λ p h. let l : p < pairCount s = omega (arith, pairs-are s) in rw (start-at s p l) (start-holds s accepted p l .inRange);
             within =
                 λ p h.
                 let l : p < pairCount s = omega (arith, pairs-are s) in
-                above-false (count (netOf s .start) p) (K (netOf s) p) (rw (start-at s p l, capacity-at s p l) (start-read s accepted p l .within));
+                above-false (count (netOf s .start) p) (K (netOf s) p) (rw (start-at s p l, capacity-at s p l) (start-holds s accepted p l .within));
           };
       arcCount = rw arcs-length (arcs-within s accepted);
-      eachArc = λ k h. let l : k < arcCount s = omega (arith, arcs-length s) in rw (arc-at s k l) (arc-of s k (arc-read s accepted k l));
+      eachArc = λ k h. let l : k < arcCount s = omega (arith, arcs-length s) in rw (arc-at s k l) (arc-of s k (arc-holds s accepted k l));
       rising =
           λ k h.
           let l : k + 1 < arcCount s = omega (arith, arcs-length s) in
           let e : k + 1 - 1 ≡ k = omega arith in
           rw (arc-at s k (omega arith), arc-at s (k + 1) l)
-          (rises-is s _ _ (rw e at (arc-read s accepted (k + 1) l .rises (omega arith))));
+          (rises-is s _ _ (rw e at (arc-holds s accepted (k + 1) l .rises (omega arith))));
     }

@@ -14,7 +14,7 @@ use Rattle.sheets.specs.Layout.{coloursAt, modesAt, counts, placeCount, 
 use Rattle.sheets.specs.Nets.{bound}
 use Rattle.sheets.specs.Decoded.{netArcAt, netOf}
 use Rattle.sheets.specs.Shape.{shapeOf, Open, netArc, ArcIs, arcOffset}
-use Rattle.sheets.proofs.Valid.{placed, headed, colours-hold, modes-hold, start-read as start-holds, arc-read as arc-holds}
+use Rattle.sheets.proofs.Valid.{headed, colours-hold, modes-hold, start-holds, arc-holds}
 use Rattle.sheets.proofs.Meaning.{counts-length, counts-at, colours-are, modes-of-are, pairs-are, modes-are, capacity-at, start-at, arcs-length, arc-at}
 use Rattle.sheets.proofs.Accepted.{well-formed}
 
@@ -76,7 +76,7 @@ module _ {s : List ℕ} {net : NetShape} (o : Open s net) where
 
   pub transition-there : (i : ℕ) → i < net .transitions → coloursAt + 2 * net .places + 2 * i + 2 ≤ length s
   transition-there i h =
-      omega (arith, shaped, placed s (o .accepted), headed s (o .accepted), modes-hold s (o .accepted) i (rw (← shaped .transitions) h))
+      omega (arith, shaped, headed s (o .accepted), modes-hold s (o .accepted) i (rw (← shaped .transitions) h))
 
   pub pair-there : (p : ℕ) → p < net .pairs → pairAt (pairsAt s) p + 8 ≤ length s
   pair-there p h = omega (arith, headed s (o .accepted), start-holds s (o .accepted) p (rw (← shaped .pairs) h))
@@ -91,7 +91,7 @@ module _ {s : List ℕ} {net : NetShape} (o : Open s net) where
   pub modes-read : (i r : ℕ) → i < net .transitions → r ≡ u16At s (coloursAt + 2 * net .places + 2 * i)
       → (r ≡ getD (netOf s .modesOf) i 0) × (1 ≤ r) × (r ≤ 64)
   modes-read i r h e =
-      let q : coloursAt + 2 * net .places ≡ modesAt s = omega (arith, shaped, placed s (o .accepted)) in
+      let q : coloursAt + 2 * net .places ≡ modesAt s = omega (arith, shaped) in
       count-read s _ _ (modes-of-are s) (sizes .wellFormed .transitions) i r (rw (← shaped .transitions) h) (rw q at e)
 
   pub capacity-read : (p : ℕ) → p < net .pairs → bound (u32At s (capacityAt (pairAt (pairsAt s) p))) ≡ K (netOf s) p

@@ -1,25 +1,23 @@
 -- What an accepted net sheet holds: every field is inside the sheet and within its limits.
-use Prim.Native.Nat.{ℕ, zero, suc, _+_, _-_, _*_, _≤_, _<_}
-use mathlib.Core.Path.{_≡_, refl}
+use Prim.Native.Nat.{ℕ, _+_, _-_, _≤_, _<_}
+use mathlib.Core.Path.{_≡_}
 use mathlib.Core.Bool.{Bool, true, false, _&&_}
 use mathlib.Core.List.{List}
 use mathlib.Core.Option.{none}
-use lib.ListN.{length}
 use native.Mathlib.Omega.{arith}
-use native.Mathlib.Numerals.{add-one}
 use borrow.Author.Tests.{ltb-false, leb-false, lt-ltb, not-false}
 use Rattle.model.specs.declared.Thing.the-variants.{Net}
 use Rattle.model.specs.First.{first}
 use Rattle.model.specs.Numbers.{limit}
 use Rattle.model.proofs.First.{left-none, right-none, first-each, only-if-none}
 use Rattle.sheets.specs.Bytes.{u16At, u32At}
-use Rattle.sheets.specs.Layout.{sheetEnd, totalOf, placesAt, coloursAt, placeCount, transitionCount, modesAt, pairCount, modeCount, pairsAt, pairAt, arcCountAt, arcCount, arcsAt, arcAt, arcSize, arcModeAt, arcPairAt, preAt, postAt, inhibitorAt}
+use Rattle.sheets.specs.Layout.{sheetEnd, placesAt, coloursAt, placeCount, transitionCount, modesAt, pairCount, modeCount, pairsAt, pairAt, arcCountAt, arcCount, arcsAt, arcAt, arcSize, arcModeAt, arcPairAt, preAt, postAt, inhibitorAt}
 use Rattle.sheets.specs.Checks.{headRefusal, countRefusal}
-use Rattle.sheets.specs.Held.{Headed, Sized}
-use Rattle.sheets.specs.Nets.{bound, outside, runningRefusal, pairRefusal, risesTo, notRising, isBlank, arcNumbersRefusal, arcNamesRefusal, arcRefusal, arcFields, eachCount, countFields, netRefusal}
+use Rattle.sheets.specs.Held.{Headed, Counted}
+use Rattle.sheets.specs.Nets.{bound, outside, runningRefusal, pairRefusal, risesTo, notRising, isBlank, arcNumbersRefusal, arcNamesRefusal, arcRefusal, arcFields, eachCount, countFields, pairAndArcFields, netFields, netRefusal}
 use Rattle.sheets.proofs.Heads.{head-holds}
-use Rattle.sheets.proofs.RunningTotals.{CountRead, RunningRead, count-holds, running-holds, sized, total-none}
-use Rattle.sheets.proofs.PairFields.{CapacityRead, StartRead, capacity-holds, start-holds}
+use Rattle.sheets.proofs.RunningTotals.{CountRead, RunningRead, count-holds, running-holds, counted}
+use Rattle.sheets.proofs.PairFields.{CapacityRead, StartRead, capacity-holds as capacity-read, start-holds as start-read}
 
 and-false : (a b : Bool) → a && b ≡ false → a ≡ true → b ≡ false
 and-false true b e h = e
@@ -36,9 +34,9 @@ pub record ArcRead (s : List ℕ) (modes pairs start k : ℕ) : Type 0 where
   pub inhibitor : outside (bound (u32At s (inhibitorAt (arcAt start k)))) ≡ false
   pub notBlank : isBlank s (arcAt start k) ≡ false
 
-pub arc-holds : (s : List ℕ) (modes pairs start k : ℕ) → arcRefusal s modes pairs start k ≡ none → ArcRead s modes pairs start k
+pub arc-read : (s : List ℕ) (modes pairs start k : ℕ) → arcRefusal s modes pairs start k ≡ none → ArcRead s modes pairs start k
 unfolding arcRefusal arcNamesRefusal arcNumbersRefusal notRising
-arc-holds s modes pairs start k e =
+arc-read s modes pairs start k e =
     let names = left-none _ _ (right-none _ _ e) in
     let numbers = right-none _ _ (right-none _ _ e) in
     let numbers₁ = right-none _ _ numbers in
@@ -54,28 +52,25 @@ arc-holds s modes pairs start k e =
       notBlank = only-if-none _ _ (right-none _ _ numbers₂);
     }
 
--- each running total is within 256, so the whole is
-pub total-within : (s : List ℕ) (start n : ℕ) → ((i : ℕ) → i < n → RunningRead s start i) → totalOf s start n ≤ 256
-total-within s start zero each = omega (arith, total-none s start)
-total-within s start (suc n) each = rw (← add-one n) (each n (omega arith) .inTotal)
-
 module _ (s : List ℕ) (accepted : netRefusal s ≡ none) where
   pub headed : Headed s
   unfolding netRefusal
   headed = head-holds Net s (left-none _ _ accepted)
 
-  counts-accepted : countFields s ≡ none
+  fields-accepted : netFields s ≡ none
   unfolding netRefusal
-  counts-accepted = left-none _ _ (right-none (headRefusal Net s) _ accepted)
+  fields-accepted = right-none (headRefusal Net s) _ accepted
+
+  counts-accepted : countFields s ≡ none
+  unfolding netFields
+  counts-accepted = left-none _ _ fields-accepted
+
+  pub counts-hold : Counted s
+  counts-hold = counted s headed counts-accepted
 
   each-accepted : eachCount s ≡ none
   unfolding countFields
   each-accepted = right-none _ _ (right-none (countRefusal Net s placesAt 1 64) _ counts-accepted)
-
-  pub counted : Sized s
-  unfolding countFields
-  counted =
-      sized s headed (left-none _ _ counts-accepted) (left-none _ _ (right-none (countRefusal Net s placesAt 1 64) _ counts-accepted))
 
   pub colours-hold : (i : ℕ) → i < placeCount s → RunningRead s coloursAt i
   unfolding eachCount
@@ -86,72 +81,34 @@ module _ (s : List ℕ) (accepted : netRefusal s ≡ none) where
   modes-hold i h =
       running-holds s (modesAt s) i (first-each _ (runningRefusal s (modesAt s)) (right-none (first (placeCount s) _) _ each-accepted) i h)
 
-  pub pairs-within : pairCount s ≤ 256
-  unfolding pairCount
-  pairs-within = total-within s coloursAt (placeCount s) colours-hold
-
-  pub modes-within : modeCount s ≤ 256
-  unfolding modeCount
-  modes-within = total-within s (modesAt s) (transitionCount s) modes-hold
-
   pair-accepted : (p : ℕ) → p < pairCount s → pairRefusal s (pairAt (pairsAt s) p) ≡ none
-  unfolding netRefusal
+  unfolding netFields pairAndArcFields
   pair-accepted p h =
-      first-each (pairCount s) (λ p. pairRefusal s (pairAt (pairsAt s) p))
-      (left-none _ _ (right-none _ _ (right-none (headRefusal Net s) _ accepted))) p h
+      first-each (pairCount s) (λ p. pairRefusal s (pairAt (pairsAt s) p)) (left-none _ _ (right-none (countFields s) _ fields-accepted)) p h
 
-  pub capacity-read : (p : ℕ) → p < pairCount s → CapacityRead s (pairAt (pairsAt s) p)
+  pub capacity-holds : (p : ℕ) → p < pairCount s → CapacityRead s (pairAt (pairsAt s) p)
   unfolding pairRefusal
-  capacity-read p h = capacity-holds s _ (left-none _ _ (pair-accepted p h))
+  capacity-holds p h = capacity-read s _ (left-none _ _ (pair-accepted p h))
 
-  pub start-read : (p : ℕ) → p < pairCount s → StartRead s (pairAt (pairsAt s) p)
+  pub start-holds : (p : ℕ) → p < pairCount s → StartRead s (pairAt (pairsAt s) p)
   unfolding pairRefusal
-  start-read p h = start-holds s _ (right-none _ _ (pair-accepted p h))
+  start-holds p h = start-read s _ (right-none _ _ (pair-accepted p h))
 
   arcs-accepted : arcFields s (modeCount s) (pairCount s) (arcCountAt s) ≡ none
-  unfolding netRefusal
-  arcs-accepted = right-none _ _ (right-none _ _ (right-none (headRefusal Net s) _ accepted))
+  unfolding netFields pairAndArcFields
+  arcs-accepted = right-none _ _ (right-none (countFields s) _ fields-accepted)
 
-  pub arcs-counted : CountRead s (arcCountAt s) 0 2048
+  pub arc-count-holds : CountRead s (arcCountAt s) 0 2048
   unfolding arcFields
-  arcs-counted = count-holds Net s (arcCountAt s) 0 2048 (left-none _ _ arcs-accepted)
+  arc-count-holds = count-holds Net s (arcCountAt s) 0 2048 (left-none _ _ arcs-accepted)
 
   pub arcs-within : arcCount s ≤ 2048
   unfolding arcCount
-  arcs-within = arcs-counted .most
+  arcs-within = arc-count-holds .most
 
-  pub arc-read : (k : ℕ) → k < arcCount s → ArcRead s (modeCount s) (pairCount s) (arcsAt s) k
-  unfolding arcFields arcCount arcsAt
-  arc-read k h =
-      arc-holds s (modeCount s) (pairCount s) (arcsAt s) k
+  pub arc-holds : (k : ℕ) → k < arcCount s → ArcRead s (modeCount s) (pairCount s) (arcsAt s) k
+  unfolding arcFields arcCount
+  arc-holds k h =
+      arc-read s (modeCount s) (pairCount s) (arcsAt s) k
       (first-each (arcCount s) (arcRefusal s (modeCount s) (pairCount s) (arcsAt s))
       (left-none _ _ (right-none (countRefusal Net s (arcCountAt s) 0 2048) _ arcs-accepted)) k h)
-
--- where the parts of an accepted net sheet stand: in the run of bytes, one after the other, and not far in
-pub record Placed (s : List ℕ) : Type 0 where
-  pub places : placeCount s ≤ 64
-  pub transitions : transitionCount s ≤ 64
-  pub pairs : pairCount s ≤ 256
-  pub modes : modeCount s ≤ 256
-  pub arcs : arcCount s ≤ 2048
-  pub modesAfter : modesAt s ≡ coloursAt + 2 * placeCount s
-  pub pairsAfter : pairsAt s ≡ modesAt s + 2 * transitionCount s
-  pub arcCountAfter : arcCountAt s ≡ pairsAt s + 8 * pairCount s
-  pub arcsAfter : arcsAt s ≡ arcCountAt s + 2
-  pub there : arcsAt s ≤ length s
-
-pub placed : (s : List ℕ) → netRefusal s ≡ none → Placed s
-unfolding modesAt pairsAt arcCountAt arcsAt
-placed s accepted =
-    record {
-      places = counted s accepted .places;
-      transitions = counted s accepted .transitions;
-      pairs = pairs-within s accepted;
-      modes = modes-within s accepted;
-      arcs = arcs-within s accepted;
-      modesAfter = refl;
-      pairsAfter = refl;
-      arcCountAfter = refl;
-      arcsAfter = refl;
-      there = omega (arith, headed s accepted, arcs-counted s accepted);
-    }

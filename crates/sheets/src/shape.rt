@@ -2,7 +2,9 @@
 use crate::bytes::count_at;
 use crate::bytes::u16_at;
 use crate::bytes::u32_at;
-use crate::counts::total_of;
+use crate::net::mode_count;
+use crate::net::pair_count;
+use crate::net::pairs_at;
 use model::Arc;
 use model::Mode;
 use model::Pair;
@@ -34,18 +36,17 @@ pub fn shape_of(s: &[u8]) -> NetShape
 {
     let places = count_at(s, 5);
     let transitions = count_at(s, 7);
-    let modes_at = 9 + 2 * places;
-    let pairs_at = modes_at + 2 * transitions;
-    let pairs = total_of(s, 9, places);
-    let arc_count_at = pairs_at + 8 * pairs;
+    let pairs = pair_count(s);
+    let first_pair = pairs_at(s);
+    let at = first_pair + 8 * pairs;
     NetShape {
         places,
         transitions,
         pairs,
-        modes: total_of(s, modes_at, transitions),
-        arcs: count_at(s, arc_count_at),
-        pairs_at,
-        arcs_at: arc_count_at + 2,
+        modes: mode_count(s),
+        arcs: count_at(s, at),
+        pairs_at: first_pair,
+        arcs_at: at + 2,
     }
 }
 
