@@ -7,3 +7,13 @@ pub mod Valid
 pub mod Meaning
 pub mod Accepted
 pub mod Shapes
+pub mod Stands
+pub mod BigEndian
+pub mod Sections
+pub mod Records
+pub mod SheetLength
+pub mod NetRead
+pub mod NetStands
+pub mod RoundTrip
+pub mod Accepts
+pub mod NetAccepts

@@ -9,3 +9,6 @@ pub mod Decoded
 pub mod Held
 pub mod Accepted
 pub mod Shape
+pub mod Written
+pub mod Promises
+pub mod Puts
