@@ -17,3 +17,4 @@ pub mod NetStands
 pub mod RoundTrip
 pub mod Accepts
 pub mod NetAccepts
+pub mod Puts

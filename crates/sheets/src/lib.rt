@@ -11,3 +11,4 @@ mod pairs;
 pub mod shape;
 pub mod weights;
 pub mod whole;
+pub mod write;
