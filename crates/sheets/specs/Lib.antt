@@ -9,3 +9,4 @@ pub mod Decoded
 pub mod Held
 pub mod Accepted
 pub mod Shape
+pub mod Opened
