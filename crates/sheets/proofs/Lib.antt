@@ -18,3 +18,4 @@ pub mod RoundTrip
 pub mod Accepts
 pub mod NetAccepts
 pub mod Puts
+pub mod Opening

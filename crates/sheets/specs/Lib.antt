@@ -12,3 +12,4 @@ pub mod Shape
 pub mod Written
 pub mod Promises
 pub mod Puts
+pub mod Opened

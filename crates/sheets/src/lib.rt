@@ -7,6 +7,7 @@ pub mod head;
 pub mod movements;
 pub mod net;
 mod numbers;
+pub mod opened;
 mod pairs;
 pub mod shape;
 pub mod weights;
