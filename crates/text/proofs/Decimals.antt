@@ -1,16 +1,17 @@
--- The laws of decimals: induction by tens, their length, their digits one by one, and that they read back.
+-- The laws of decimals: induction by tens, their length, and what is promised of them.
 use Prim.Native.Nat.{ℕ, zero, suc, _+_, _-_, _*_, _/_, _%_, _^_, max, _≤_, _<_}
 use mathlib.Core.Path.{_≡_, refl, sym}
 use mathlib.Core.Bool.{Bool, true, false}
 use mathlib.Core.Logic.{⊎-elim}
 use mathlib.Core.List.{List, [], _∷_, _++_, map}
 use lib.Dec.{ltb}
+use lib.IntN.{ℤ, pos, negsuc, natAbs}
 use lib.ListN.{length, getD, length-append, List·getD-append}
 use lib.Seq.{getD-at}
 use native.Mathlib.Nat.{le-refl, le-of-suc-le-suc, eq-or-lt-of-le, pow-suc, one-le-pow}
 use native.Mathlib.Omega.{arith}
 use borrow.Author.Tests.{ltb-true, ltb-false}
-use Rattle.text.specs.Decimals.{digit, decimalWithin, decimal}
+use Rattle.text.specs.Decimals.{digit, decimalWithin, decimal, signedDecimal}
 use Rattle.text.specs.Promises.{readsAfter, Decimals}
 
 -- what holds of the digits below ten, and of a decimal where it holds of its tenth's, holds of every decimal
@@ -52,6 +53,12 @@ length-above n = by-tens (λ n ds. (c : ℕ) → 10 ^ c ≤ max n 1 → c < leng
     more n ds h ih zero l = rw last-length (omega arith)
     more n ds h ih (suc c) l = rw last-length (omega (arith, ih c (omega (arith, pow-suc 10 c))))
 
+-- with a sign one byte more at most
+pub signed-length : (z : ℤ) (c : ℕ) → natAbs z < 10 ^ suc c → length (signedDecimal z) ≤ suc (suc c)
+unfolding signedDecimal
+signed-length (pos n) c l = omega (arith, length-at-most n c l)
+signed-length (negsuc n) c l = omega (arith, length-at-most (suc n) c l)
+
 reads-last : (before : ℕ) (ds : List ℕ) (d : ℕ) → readsAfter before (ds ++ digit d ∷ []) ≡ readsAfter before ds * 10 + d
 unfolding readsAfter
 reads-last before [] d = omega arith
@@ -80,15 +87,16 @@ no-leading-zero =
     (λ n ds h ih. (rw last-length (omega arith), λ l. rw (List·getD-append ds (digit (n % 10) ∷ []) 0 0 (ih .0)) (ih .1 (omega arith))))
 
 pub decimals : Decimals
-unfolding readsAfter
+unfolding readsAfter decimal decimalWithin
 decimals =
     record {
       readsBack = by-tens (λ n ds. readsAfter 0 ds ≡ n) (λ n h. omega arith) (λ n ds h e. rw (reads-last, e) (omega arith));
       allDigits = all-digits;
+      zeroIs = refl;
       noLeadingZero = λ n h e. omega (arith, no-leading-zero n .1 h);
     }
 
-examples :
+pub examples :
     map decimal (0 ∷ 7 ∷ 10 ∷ 750 ∷ 1000000 ∷ [])
     ≡ (48 ∷ []) ∷ (55 ∷ []) ∷ (49 ∷ 48 ∷ []) ∷ (55 ∷ 53 ∷ 48 ∷ []) ∷ (49 ∷ 48 ∷ 48 ∷ 48 ∷ 48 ∷ 48 ∷ 48 ∷ []) ∷ []
 unfolding decimal decimalWithin

@@ -5,8 +5,8 @@ use mathlib.Core.Bool.{Bool, true, false}
 use mathlib.Core.Logic.{_⊎_, inl, inr, ⊎-elim}
 use mathlib.Core.List.{List, [], _∷_, _++_, append-assoc}
 use lib.Dec.{leb}
-use lib.ListN.{length, take, drop, set, length-append, length-take, length-drop}
-use lib.Seq.{paste, take-length, take-at, drop-append-add, drop-drop, set-split, append-snoc}
+use lib.ListN.{length, getD, take, drop, set, length-append, length-take, length-drop}
+use lib.Seq.{paste, paste-suc, take-length, take-at, drop-append-add, drop-drop, set-split, append-snoc}
 use native.Mathlib.Nat.{add-assoc}
 use native.Mathlib.Numerals.{add-one}
 use native.Mathlib.Omega.{arith}
@@ -83,9 +83,13 @@ module _ (out : List ℕ) (at : ℕ) (bytes : List ℕ) where
       (λ (l : length out < at + length bytes). rw (into-beyond l))
       (le-or-lt (at + length bytes) (length out))
 
-  -- the law of a loop that copies and ends
-  pub pasted : (i : ℕ) → at + length bytes ≤ length out → i ≤ length bytes → length bytes ≤ i → paste out at bytes i ≡ putInto out at bytes
-  pasted i h l g = let e : i ≡ length bytes = omega arith in rw (e, take-length, into-within h)
+  -- the laws of a loop that copies: a turn, and the end
+  pub one-copied : (now : List ℕ) (i : ℕ) → at + length bytes ≤ length out → i < length bytes → now ≡ paste out at bytes i
+      → set now (at + i) (getD bytes i 0) ≡ paste out at bytes (i + 1)
+  one-copied now i h l e = rw (e, add-one) (paste-suc out at bytes i 0 (omega arith) l)
+
+  pub all-copied : (i : ℕ) → at + length bytes ≤ length out → i ≤ length bytes → length bytes ≤ i → paste out at bytes i ≡ putInto out at bytes
+  all-copied i h l g = let e : i ≡ length bytes = omega arith in rw (e, take-length, into-within h)
 
 drop-past : (xs ys : List ℕ) (n k : ℕ) → length xs ≡ n → drop (n + k) (xs ++ ys) ≡ drop k ys
 drop-past xs ys n k e = rw (← e) (drop-append-add xs ys k)
