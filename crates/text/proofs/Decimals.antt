@@ -37,7 +37,8 @@ last-length ds d = omega (arith, length-append ds (d ∷ []))
 pub length-at-most : (n c : ℕ) → n < 10 ^ suc c → length (decimal n) ≤ suc c
 length-at-most n = by-tens (λ n ds. (c : ℕ) → n < 10 ^ suc c → length ds ≤ suc c) (λ n h c l. omega arith) more n
   where
-    more : (n : ℕ) (ds : List ℕ) → 10 ≤ n → ((c : ℕ) → n / 10 < 10 ^ suc c → length ds ≤ suc c) → (c : ℕ) → n < 10 ^ suc c → length (ds ++ digit (n % 10) ∷ []) ≤ suc c
+    more : (n : ℕ) (ds : List ℕ) → 10 ≤ n → ((c : ℕ) → n / 10 < 10 ^ suc c → length ds ≤ suc c)
+        → (c : ℕ) → n < 10 ^ suc c → length (ds ++ digit (n % 10) ∷ []) ≤ suc c
     more n ds h ih zero l = absurd (omega arith)
     more n ds h ih (suc c) l = rw last-length (omega (arith, ih c (omega (arith, pow-suc 10 (suc c)))))
 
@@ -49,7 +50,8 @@ length-above n = by-tens (λ n ds. (c : ℕ) → 10 ^ c ≤ max n 1 → c < leng
     one n h zero l = omega arith
     one n h (suc c) l = absurd (omega (arith, pow-suc 10 c, one-le-pow c 10 (omega arith)))
 
-    more : (n : ℕ) (ds : List ℕ) → 10 ≤ n → ((c : ℕ) → 10 ^ c ≤ max (n / 10) 1 → c < length ds) → (c : ℕ) → 10 ^ c ≤ max n 1 → c < length (ds ++ digit (n % 10) ∷ [])
+    more : (n : ℕ) (ds : List ℕ) → 10 ≤ n → ((c : ℕ) → 10 ^ c ≤ max (n / 10) 1 → c < length ds)
+        → (c : ℕ) → 10 ^ c ≤ max n 1 → c < length (ds ++ digit (n % 10) ∷ [])
     more n ds h ih zero l = rw last-length (omega arith)
     more n ds h ih (suc c) l = rw last-length (omega (arith, ih c (omega (arith, pow-suc 10 c))))
 

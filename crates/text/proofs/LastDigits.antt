@@ -38,7 +38,9 @@ one-written out at (suc k) n l h =
     let i = at + k in
     let inside : i < length out = omega arith in
     let e : suc k - 1 ≡ k = omega arith in
-    rw (e, take-set-le at out i d (omega arith), drop-cons (set out i d) i 0 (rw length-set inside), getD-set-same out i d 0 inside, drop-set-lt (suc i) out i d (omega arith), add-suc) (simp append-assoc)
+    let rest : drop i (set out i d) ≡ d ∷ drop (suc i) out =
+    rw (drop-cons (set out i d) i 0 (rw length-set inside), getD-set-same out i d 0 inside, drop-set-lt (suc i) out i d (omega arith)) in
+    rw (e, take-set-le at out i d (omega arith), rest, add-suc) (simp append-assoc)
 
 pub all-written : (out : List ℕ) (at k n : ℕ) → k ≤ 0 → completed out at k n ≡ out
 unfolding lastDigits

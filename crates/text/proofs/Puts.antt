@@ -91,6 +91,10 @@ module _ (out : List ℕ) (at : ℕ) (bytes : List ℕ) where
   pub all-copied : (i : ℕ) → at + length bytes ≤ length out → i ≤ length bytes → length bytes ≤ i → paste out at bytes i ≡ putInto out at bytes
   all-copied i h l g = let e : i ≡ length bytes = omega arith in rw (e, take-length, into-within h)
 
+-- what was put at the front stands there
+pub taken-back : (out bytes : List ℕ) → length bytes ≤ length out → take (length bytes) (putInto out 0 bytes) ≡ bytes
+taken-back out bytes h = rw (into-within out 0 bytes (omega arith)) (take-at bytes (drop (0 + length bytes) out) (length bytes) refl)
+
 drop-past : (xs ys : List ℕ) (n k : ℕ) → length xs ≡ n → drop (n + k) (xs ++ ys) ≡ drop k ys
 drop-past xs ys n k e = rw (← e) (drop-append-add xs ys k)
 
@@ -102,12 +106,15 @@ module _ (out : List ℕ) (at : ℕ) (xs ys : List ℕ) where
 
   pub into-more : at + length (xs ++ ys) ≤ length out → putInto (putInto out at xs) (at + length xs) ys ≡ putInto out at (xs ++ ys)
   into-more h =
-      let room : at + length xs + length ys ≤ length out = omega (arith, length-append xs ys) in
-      let head : List ℕ = take at out ++ xs in
-      let tail : List ℕ = drop (at + length xs) out in
+      let n = at + length xs in
+      let room : n + length ys ≤ length out = omega (arith, length-append xs ys) in
+      let head = take at out ++ xs in
+      let tail = drop n out in
       let first : putInto out at xs ≡ head ++ tail = into-within out at xs (omega arith) in
-      let long : length head ≡ at + length xs = simp (length-append, length-take) (omega arith) in
-      rw (into-within (putInto out at xs) (at + length xs) ys (rw into-length room), into-within out at (xs ++ ys) h, first, take-at head tail (at + length xs) long, drop-past head tail (at + length xs) (length ys) long, drop-drop, length-append xs ys, add-assoc) (simp append-assoc)
+      let long : length head ≡ n = simp (length-append, length-take) (omega arith) in
+      let second = into-within (putInto out at xs) n ys (rw into-length room) in
+      rw (second, into-within out at (xs ++ ys) h, first, take-at head tail n long, drop-past head tail n (length ys) long, drop-drop)
+      (rw (length-append xs ys, add-assoc) (simp append-assoc))
 
 -- a byte stored before the rest is put
 pub into-cons : (out : List ℕ) (at b : ℕ) (bytes : List ℕ) → at + suc (length bytes) ≤ length out
@@ -117,22 +124,25 @@ into-cons out at b bytes h =
     rw (into-within out at (b ∷ []) (omega arith), append-snoc, add-one) (set-split out at b (omega arith)) in
     rw one (into-more out at (b ∷ []) bytes h)
 
-module _ {out : List ℕ} {at : ℕ} {now : List ℕ} where
-  pub one-put : {bytes : List ℕ} {answer : Put} → answer ≡ putTo out at bytes → now ≡ putInto out at bytes → Puts out at bytes answer now
+module _ {out : List ℕ} {at : ℕ} {first : Put} {now : List ℕ} where
+  pub one-put : {bytes : List ℕ} → first ≡ putTo out at bytes → now ≡ putInto out at bytes → Puts out at bytes first now
   one-put {bytes} e f = record { answers = e; writes = λ h. f; long = ap length f ∙ into-length out at bytes }
 
-  pub put-more : {next : ℕ} {xs ys then : List ℕ} {answer : Put} → Puts out at xs (To next) now → Puts now next ys answer then → Puts out at (xs ++ ys) answer then
-  put-more {next} {xs} {ys} {then} p q =
-      let found = to-found out at xs (sym (p .answers)) in
-      let e : now ≡ putInto out at xs = p .writes (found .0) in
+  -- puts, and more of them where they ended
+  pub put-more : {next : ℕ} {xs ys : List ℕ} {answer : Put} {then : List ℕ}
+      → Puts out at xs first now → first ≡ To next → Puts now next ys answer then → Puts out at (xs ++ ys) answer then
+  put-more {xs = xs} {ys} p found q =
+      let room = to-found out at xs (sym (p .answers) ∙ found) in
+      let e = p .writes (room .0) in
       record {
-        answers = q .answers ∙ rw (e, found .1) (to-more out at xs ys);
-        writes = λ h. q .writes (rw (found .1, p .long) (omega (arith, length-append xs ys))) ∙ rw (e, found .1) (into-more out at xs ys h);
+        answers = q .answers ∙ rw (e, room .1) (to-more out at xs ys);
+        writes = λ h. q .writes (rw (room .1, p .long) (omega (arith, length-append xs ys))) ∙ rw (e, room .1) (into-more out at xs ys h);
         long = q .long ∙ p .long;
       }
 
-  pub put-stops : {xs : List ℕ} (ys : List ℕ) → Puts out at xs Full now → Puts out at (xs ++ ys) Full now
-  put-stops {xs} ys p =
-      let l = to-full out at xs (sym (p .answers)) in
+  -- puts that found no room, and those that were to follow
+  pub put-stops : {xs : List ℕ} (ys : List ℕ) → first ≡ Full → Puts out at xs first now → Puts out at (xs ++ ys) first now
+  put-stops {xs} ys full p =
+      let short = to-full out at xs (sym (p .answers) ∙ full) in
       let beyond : length out < at + length (xs ++ ys) = omega (arith, length-append xs ys) in
-      record { answers = sym (to-beyond out at (xs ++ ys) beyond); writes = λ h. absurd (omega arith); long = p .long }
+      record { answers = full ∙ sym (to-beyond out at (xs ++ ys) beyond); writes = λ h. absurd (omega arith); long = p .long }

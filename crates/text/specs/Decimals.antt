@@ -1,4 +1,4 @@
--- Numbers in decimal, as ASCII bytes. "A negative figure is '-' and its digits; zero is '0'" (the readings of document 01, "`replay`").
+-- Numbers as the lines of `replay` have them (document 01, "`replay`"): ASCII digits, no leading zeros; zero is `0`, and a negative figure is '-' and its digits.
 use Prim.Native.Nat.{ℕ, zero, suc, _+_, _/_, _%_}
 use mathlib.Core.Bool.{true, false}
 use mathlib.Core.List.{List, [], _∷_, _++_}

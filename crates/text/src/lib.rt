@@ -11,7 +11,7 @@ ghost use lib.ListN.{length};
 ghost use Rattle.text.specs.Decimals.{decimal, signedDecimal, minus};
 ghost use Rattle.text.specs.Puts.{endWithin, putTo, putInto};
 
-// The position after what was put, or no room, and then nothing is written.
+// The position after what was put, or no room: then nothing is written.
 pub enum Put {
     To(usize),
     Full,
@@ -41,6 +41,7 @@ fn write_bytes(out: &mut [u8], at: usize, bytes: &[u8])
     }
 }
 
+// All of the bytes or none.
 pub fn put_bytes(out: &mut [u8], at: usize, bytes: &[u8]) -> Put
     ensures { λ r. ⌜ r ≡ putTo (now (out .entry)) at (now (bytes .entry)) ⌝ }
     ensures { λ _. ⌜ now (out .exit) ≡ putInto (now (out .entry)) at (now (bytes .entry)) ⌝ }
@@ -53,6 +54,7 @@ pub fn put_bytes(out: &mut [u8], at: usize, bytes: &[u8]) -> Put
     answer
 }
 
+// No leading zeros; zero is `0`.
 pub fn put_decimal(out: &mut [u8], at: usize, n: u64) -> Put
     ensures { λ r. ⌜ r ≡ putTo (now (out .entry)) at (decimal n) ⌝ }
     ensures { λ _. ⌜ now (out .exit) ≡ putInto (now (out .entry)) at (decimal n) ⌝ }
@@ -66,6 +68,7 @@ pub fn put_decimal(out: &mut [u8], at: usize, n: u64) -> Put
     answer
 }
 
+// '-' and the digits of n.
 fn put_negative(out: &mut [u8], at: usize, n: u64) -> Put
     ensures { λ r. ⌜ r ≡ putTo (now (out .entry)) at (minus ∷ decimal n) ⌝ }
     ensures { λ _. ⌜ now (out .exit) ≡ putInto (now (out .entry)) at (minus ∷ decimal n) ⌝ }
@@ -87,6 +90,7 @@ fn size(z: i64) -> u64
     if z < 0 { (-1 - z) as u64 + 1 } else { z as u64 }
 }
 
+// A figure may be negative (document 01, "Sheets": "A weight may be negative"): then '-' and the digits of its size.
 pub fn put_signed(out: &mut [u8], at: usize, z: i64) -> Put
     ensures { λ r. ⌜ r ≡ putTo (now (out .entry)) at (signedDecimal z) ⌝ }
     ensures { λ _. ⌜ now (out .exit) ≡ putInto (now (out .entry)) at (signedDecimal z) ⌝ }

@@ -18,7 +18,8 @@ write-digits-requires c κs = (
 
 returns-2 : tie.Need-returns-2
 returns-2 c =
-    (to-counted _ _ _ _ (c .before .before .before .before .before .before .before .digit-count .ensures) (c .before .before .before .before .before .before .end-within .ensures), c .before .before .write-digits .ensures)
+    let p = c .before .before .before .before .before .before in
+    (to-counted _ _ _ _ (p .before .digit-count .ensures) (p .end-within .ensures), c .before .before .write-digits .ensures)
 
 pub put-decimal-spec : {M : Type 1} → statement M
 put-decimal-spec =

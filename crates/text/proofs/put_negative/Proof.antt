@@ -14,13 +14,15 @@ use Rattle.text.proofs.put_negative.Tie as tie
 add-end-within : tie.Need-add-end-within
 add-end-within c = omega (arith, c .digit-count .ensures, length-at-most (c .before .before .args .n) 19 (omega arith))
 
+room : (c : tie.After-enum-told2)
+    → c .before .before .before .before .before .args .at + (c .before .before .before .digit-count .result + 1)
+    ≤ length (now (c .before .before .before .before .before .args .out))
+room c = end-found _ _ _ (sym (c .before .before .end-within .ensures) ∙ c .enum-told2 .given .1) .0
+
 returns : tie.Need-returns
 returns c =
     let e = to-counted _ _ _ _ (add-one _ ∙ ap suc (c .before .before .before .digit-count .ensures)) (c .before .before .end-within .ensures) in
     (e, into-full _ _ _ e (c .enum-told .given .1))
-
-room : (c : tie.After-enum-told2) → c .before .before .before .before .before .args .at + (c .before .before .before .digit-count .result + 1) ≤ length (now (c .before .before .before .before .before .args .out))
-room c = end-found _ _ _ (sym (c .before .before .end-within .ensures) ∙ c .enum-told2 .given .1) .0
 
 slice-write-out : tie.Need-slice-write-out
 slice-write-out c = omega (arith, room c)
@@ -37,7 +39,10 @@ same-length c = c .before .before .write-digits .kept .0 ∙ simp length-set
 returns-2 : tie.Need-returns-2
 returns-2 c =
     let p = c .before .before .before .before in
-    (to-counted _ _ _ _ (add-one _ ∙ ap suc (p .before .before .before .digit-count .ensures)) (p .before .before .end-within .ensures), c .before .before .write-digits .ensures ∙ into-cons _ _ _ _ (omega (arith, room p, p .before .before .before .digit-count .ensures)))
+    let counted = p .before .before .before .digit-count .ensures in (
+      to-counted _ _ _ _ (add-one _ ∙ ap suc counted) (p .before .before .end-within .ensures),
+      c .before .before .write-digits .ensures ∙ into-cons _ _ _ _ (omega (arith, room p, counted)),
+    )
 
 pub put-negative-spec : {M : Type 1} → statement M
 put-negative-spec =

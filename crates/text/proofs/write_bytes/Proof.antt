@@ -28,4 +28,6 @@ returns c = c .before .loop .inv .2 ∙ all-copied _ _ _ (c .before .loop .i) (c
 
 pub write-bytes-spec : {M : Type 1} → statement M
 write-bytes-spec =
-    tie.close (tie.spec Inv-loop μ-loop loop-holds (λ c. search needs) (λ c. search needs) (λ c. search needs) (λ c. search needs) (λ c. search needs) loop-again (λ c. search needs) returns)
+    tie.close
+    (tie.spec Inv-loop μ-loop loop-holds (λ c. search needs) (λ c. search needs) (λ c. search needs) (λ c. search needs) (λ c. search needs)
+    loop-again (λ c. search needs) returns)
