@@ -152,6 +152,45 @@ pub fn weights(random: &mut Random, pairs: usize) -> Vec<i32> {
         .collect()
 }
 
+/// One to three faults in a net before it is written: a count, a number, a missing mode or pair, the
+/// order of the arcs, a blank arc, a first marking above K.
+pub fn spoil_net(random: &mut Random, net: &mut PlainNet) {
+    for _ in 0..1 + random.below(3) {
+        if random.once_in(3) || net.arcs.is_empty() {
+            spoil_counts(random, net);
+        } else {
+            spoil_arc(random, net);
+        }
+    }
+}
+
+fn spoil_counts(random: &mut Random, net: &mut PlainNet) {
+    let (place, pair) = (random.below(net.colours.len()), random.below(net.pairs.len()));
+    match random.below(5) {
+        0 => net.colours[place] = random.pick(&[0, 1, 64, 65, 256]),
+        1 => net.modes.push(random.pick(&[0, 1, 64, 65, 256])),
+        2 => net.pairs[pair].0 = random.pick(&[0, 1, 1_000_000, 1_000_001, OPEN]),
+        3 => net.pairs[pair].1 = random.pick(&[0, 9, 1_000_000, 1_000_001, OPEN]),
+        _ => net.pairs.push((random.pick(&[0, 1, OPEN]), random.pick(&[0, 1, OPEN]))),
+    }
+}
+
+fn spoil_arc(random: &mut Random, net: &mut PlainNet) {
+    let (at, other) = (random.below(net.arcs.len()), random.below(net.arcs.len()));
+    let odd = random.pick(&[0, 1, 999_999, 1_000_000, 1_000_001, OPEN]);
+    let arc = &mut net.arcs[at];
+    match random.below(8) {
+        0 => arc.mode = random.pick(&[total(&net.modes) as u16, 256, 65_535, arc.mode ^ 1]),
+        1 => arc.pair = random.pick(&[total(&net.colours) as u16, 256, 65_535, arc.pair ^ 1]),
+        2 => arc.pre = odd,
+        3 => arc.post = odd,
+        4 => arc.inhibitor = odd,
+        5 => (arc.pre, arc.post, arc.inhibitor) = (0, 0, OPEN),
+        6 => net.arcs.swap(at, other),
+        _ => net.arcs.insert(at, net.arcs[other]),
+    }
+}
+
 /// One to three changes to a sheet: a byte, a field, the length, bytes cut off or added.
 pub fn spoil(random: &mut Random, sheet: &mut Vec<u8>) {
     for _ in 0..1 + random.below(3) {
