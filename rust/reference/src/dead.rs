@@ -13,7 +13,8 @@ pub fn is_dead(net: &[u8], mode: u16) -> Result<bool, Answer> {
     Ok(lowest_dead_pair(&net, Mode(mode)).is_some())
 }
 
-/// "Another takes a net and gives its lowest locally dead mode with the lowest pair that makes it so, or none."
+/// "Another takes a net and gives its lowest locally dead mode with the lowest pair that makes it so,
+/// or none."
 pub fn first_dead(net: &[u8]) -> Result<Option<(Mode, Pair)>, Answer> {
     let net = whole_net(net)?;
     for mode in (0..).map(Mode).take(net.mode_count()) {

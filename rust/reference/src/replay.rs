@@ -24,7 +24,8 @@ pub fn replay(input: &[u8]) -> Vec<u8> {
     text.into_bytes()
 }
 
-/// "Bytes after the third sheet count as movements, refusal 3, at the offset counted from that sheet's first byte."
+/// "Bytes after the third sheet count as movements, refusal 3, at the offset counted from that sheet's
+/// first byte."
 fn sheets(input: &[u8]) -> Result<(Net, Vec<i32>, Vec<Mode>), Answer> {
     let (net, taken) = net_at(input)?;
     let input = &input[taken..];

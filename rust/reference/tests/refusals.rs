@@ -67,7 +67,7 @@ fn number_3_l_is_0() {
 fn number_3_a_field_of_a_net_sheet_runs_past_l() {
     let net = example();
     let bytes = net.sheet();
-    // Counts, then K and the first marking of each pair, then the arc count: the length to each field's start.
+    // Where each count, then K and the first marking of each pair, then the arc count begins.
     let fields = [5, 7, 9, 11, 13, 15, 19, 23, 27, 31, 33];
     assert_eq!((net.pair_offset(0), net.arc_offset(0)), (15, 33));
     for ends in fields.windows(2) {

@@ -7,14 +7,14 @@ use crate::layout::{Arc, Layout, pair_of, whole_net};
 pub fn complement(net: &[u8], output: &mut [u8]) -> Result<usize, Answer> {
     let layout = whole_net(net)?;
     let mates = Mates::of(&layout);
-    let written = arcs_written(&layout, &mates)?;
+    let arcs = arcs_of(&layout, &mates)?;
     let places = layout.colours.len() / 2 + mates.places.len();
     let pairs = layout.pairs + mates.count;
-    let length = 11 + 2 * places + layout.mode_counts.len() + 8 * pairs + 16 * written;
-    if places > 64 || pairs > 256 || written > 2_048 || output.len() < length {
+    let length = 11 + 2 * places + layout.mode_counts.len() + 8 * pairs + 16 * arcs.len();
+    if places > 64 || pairs > 256 || arcs.len() > 2_048 || output.len() < length {
         return Err(Answer::refused(10, NET, 0));
     }
-    write(&layout, &mates, written, &mut output[..length]);
+    write(&layout, &mates, &arcs, &mut output[..length]);
     Ok(length)
 }
 
@@ -55,45 +55,61 @@ fn mated(arc: Arc, capacity: u32) -> (u32, u32) {
     (pre, pre + arc.pre - arc.post)
 }
 
-/// How many arcs are not blank; else 15, then 16, "each at its first arc in order".
-fn arcs_written(layout: &Layout, mates: &Mates) -> Result<usize, Answer> {
-    let (mut written, mut unbounded, mut above) = (0, false, false);
-    for bytes in layout.arcs {
-        let arc = Arc::of(bytes);
-        let capacity = mates.of[arc.pair()].0;
-        written += usize::from(arc.pre | arc.post != 0);
-        if capacity == UNBOUNDED {
-            unbounded |= arc.inhibitor != UNBOUNDED;
-        } else {
-            let (pre, post) = mated(arc, capacity);
-            above |= post > LARGEST;
-            written += usize::from(pre | post != 0);
+/// The complement's arcs as its sheet has them: each mode's original arcs, then those at complement pairs.
+/// "Blank arcs are left out."
+fn arcs_of(layout: &Layout, mates: &Mates) -> Result<Vec<[u8; 16]>, Answer> {
+    let mut arcs = vec![[0; 16]; 2 * layout.arcs.len()];
+    let (mut count, mut faults) = (0, false);
+    let mut rest = layout.arcs;
+    while let Some(first) = rest.first() {
+        let mut own = 0;
+        while let Some(bytes) = rest.get(own).filter(|bytes| bytes[..2] == first[..2]) {
+            own += 1;
+            // The eight bytes of Pre and Post.
+            if bytes[4..12] != [0; 8] {
+                arcs[count] = with_open_inhibitor(bytes);
+                count += 1;
+            }
         }
+        for bytes in &rest[..own] {
+            let arc = Arc::of(bytes);
+            let (capacity, mate) = mates.of[arc.pair()];
+            if capacity == UNBOUNDED {
+                faults |= arc.inhibitor != UNBOUNDED;
+                continue;
+            }
+            let (pre, post) = mated(arc, capacity);
+            faults |= post > LARGEST;
+            if pre | post != 0 {
+                arcs[count] = open_arc(arc.key & 0xFFFF_0000 | mate, pre, post);
+                count += 1;
+            }
+        }
+        rest = &rest[own..];
     }
-    if unbounded || above {
-        return Err(fault(layout, mates, unbounded));
+    if faults {
+        return Err(fault(layout, mates));
     }
-    Ok(written)
+    arcs.truncate(count);
+    Ok(arcs)
 }
 
+/// 15, then 16, "each at its first arc in order".
 #[cold]
-fn fault(layout: &Layout, mates: &Mates, unbounded: bool) -> Answer {
-    let at_fault = |bytes: &[u8; 16]| {
-        let arc = Arc::of(bytes);
-        let capacity = mates.of[arc.pair()].0;
-        if unbounded {
-            capacity == UNBOUNDED && arc.inhibitor != UNBOUNDED
-        } else {
-            capacity != UNBOUNDED && mated(arc, capacity).1 > LARGEST
-        }
+fn fault(layout: &Layout, mates: &Mates) -> Answer {
+    let capacity = |arc: Arc| mates.of[arc.pair()].0;
+    let unbounded = |arc: Arc| capacity(arc) == UNBOUNDED && arc.inhibitor != UNBOUNDED;
+    let above = |arc: Arc| capacity(arc) != UNBOUNDED && mated(arc, capacity(arc)).1 > LARGEST;
+    let arcs = || layout.arcs.iter().map(Arc::of);
+    let (number, at) = match arcs().position(unbounded) {
+        Some(at) => (15, at),
+        None => (16, arcs().position(above).unwrap_or(0)),
     };
-    let at = layout.arcs.iter().position(at_fault).unwrap_or(0);
-    let offset = layout.length - 16 * (layout.arcs.len() - at);
-    Answer::refused(if unbounded { 15 } else { 16 }, NET, offset)
+    Answer::refused(number, NET, layout.length - 16 * (layout.arcs.len() - at))
 }
 
 /// Writes the sheet into a slice of its length.
-fn write(layout: &Layout, mates: &Mates, written: usize, output: &mut [u8]) {
+fn write(layout: &Layout, mates: &Mates, arcs: &[[u8; 16]], output: &mut [u8]) {
     let places = layout.colours.len() / 2 + mates.places.len();
     let mut rest = Rest(output);
     rest.put((rest.0.len() as u32 - 4).to_be_bytes());
@@ -111,8 +127,8 @@ fn write(layout: &Layout, mates: &Mates, written: usize, output: &mut [u8]) {
             rest.put(open_pair(capacity - count));
         }
     }
-    rest.put((written as u16).to_be_bytes());
-    write_arcs(layout, mates, &mut rest);
+    rest.put((arcs.len() as u16).to_be_bytes());
+    rest.copy(arcs.as_flattened());
 }
 
 /// "All K and I become unbounded."
@@ -126,25 +142,11 @@ fn open_arc(key: u32, pre: u32, post: u32) -> [u8; 16] {
     (u128::from(high) << 64 | u128::from(low)).to_be_bytes()
 }
 
-/// Each mode's original arcs, then those at complement pairs. "Blank arcs are left out."
-fn write_arcs(layout: &Layout, mates: &Mates, rest: &mut Rest) {
-    let mut kept = [[0; 16]; 256];
-    for arcs in layout.arcs.chunk_by(|a, b| a[..2] == b[..2]) {
-        let mut keeping = 0;
-        for bytes in arcs {
-            let arc = Arc::of(bytes);
-            let (capacity, mate) = mates.of[arc.pair()];
-            if arc.pre | arc.post != 0 {
-                rest.put(open_arc(arc.key, arc.pre, arc.post));
-            }
-            if capacity != UNBOUNDED {
-                let (pre, post) = mated(arc, capacity);
-                kept[keeping & 255] = open_arc(arc.key & 0xFFFF_0000 | mate, pre, post);
-                keeping += usize::from(pre | post != 0);
-            }
-        }
-        rest.copy(kept[..keeping].as_flattened());
-    }
+/// "Original Pre, Post and first marking stay."
+#[inline(always)]
+fn with_open_inhibitor(bytes: &[u8; 16]) -> [u8; 16] {
+    let open = u128::from(UNBOUNDED);
+    (u128::from_ne_bytes(*bytes) | u128::from_ne_bytes(open.to_be_bytes())).to_ne_bytes()
 }
 
 /// The part of the output that is still to be written.

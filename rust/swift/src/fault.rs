@@ -1,7 +1,7 @@
 //! The first fault of a refused sheet or movement, by document 01's orders.
 
 use crate::answer::{Answer, LARGEST, MOVEMENTS, NET, UNBOUNDED};
-use crate::layout::{Arc, Layout, pair_of};
+use crate::layout::{Arc, Layout};
 use crate::sheet::{four, two};
 
 /// The first fault of a net sheet that has one after its version byte, "the fields left to right".
@@ -100,10 +100,9 @@ pub fn of_movement(layout: &Layout, marking: &[u32; 256], mode: usize) -> Answer
     if mode >= layout.modes {
         return Answer::refused(6, MOVEMENTS, 0);
     }
-    let from = layout.arcs.partition_point(|bytes| Arc::of(bytes).mode() < mode);
-    let arcs = || layout.arcs[from..].iter().map(Arc::of).take_while(|arc| arc.mode() == mode);
+    let own = layout.arcs_of(mode);
     let count = |arc: Arc| marking[arc.pair()];
-    let capacity = |arc: Arc| pair_of(&layout.table[arc.pair()]).0;
+    let capacity = |arc: Arc| layout.capacity(arc.pair());
     let broken: [&dyn Fn(Arc) -> bool; 4] = [
         &|arc| arc.pre > count(arc),
         &|arc| count(arc) + arc.post > capacity(arc),
@@ -111,7 +110,7 @@ pub fn of_movement(layout: &Layout, marking: &[u32; 256], mode: usize) -> Answer
         &|arc| count(arc) - arc.pre + arc.post > LARGEST,
     ];
     for (number, broken) in (11..).zip(broken) {
-        if let Some(arc) = arcs().find(|&arc| broken(arc)) {
+        if let Some(arc) = own.iter().map(Arc::of).find(|&arc| broken(arc)) {
             return Answer::refused(number, MOVEMENTS, arc.pair());
         }
     }

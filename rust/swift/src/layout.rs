@@ -127,19 +127,38 @@ impl Arc {
 
 /// Every arc has its mode and pair, is above the one before, holds numbers in range and is not blank.
 fn arcs_hold(layout: &Layout) -> bool {
-    let mut bad = false;
-    let mut least = 0;
+    let most = u64::from(LARGEST);
+    let (last_pair, mut least) = (layout.pairs as u64 - 1, 0);
+    // Each difference is below zero, its highest bit set, where its rule is broken.
+    let mut broken = 0;
     for bytes in layout.arcs {
         let arc = Arc::of(bytes);
-        bad |= arc.key < least;
-        // A key that wraps here has pair 65,535, which is never there.
-        least = arc.key.wrapping_add(1);
-        bad |= (arc.key & 0xFFFF) as usize >= layout.pairs;
-        bad |= arc.pre.max(arc.post) > LARGEST;
-        bad |= arc.inhibitor.wrapping_add(1) > LARGEST + 1;
-        bad |= arc.pre | arc.post | !arc.inhibitor == 0;
+        let key = u64::from(arc.key);
+        broken |= key.wrapping_sub(least);
+        least = key + 1;
+        broken |= last_pair.wrapping_sub(key & 0xFFFF);
+        broken |= most.wrapping_sub(u64::from(arc.pre));
+        broken |= most.wrapping_sub(u64::from(arc.post));
+        broken |= (most + 1).wrapping_sub(u64::from(arc.inhibitor.wrapping_add(1)));
+        broken |= u64::from(arc.pre | arc.post | !arc.inhibitor).wrapping_sub(1);
     }
     // The keys rise, so that the last mode is the highest.
-    bad |= layout.arcs.last().is_some_and(|bytes| Arc::of(bytes).mode() >= layout.modes);
-    !bad
+    let modes_hold = layout.arcs.last().is_none_or(|bytes| Arc::of(bytes).mode() < layout.modes);
+    modes_hold && broken >> 63 == 0
+}
+
+impl<'a> Layout<'a> {
+    /// The arcs of a mode.
+    pub fn arcs_of(&self, mode: usize) -> &'a [[u8; 16]] {
+        let from = self.arcs.partition_point(|bytes| Arc::of(bytes).mode() < mode);
+        let rest = &self.arcs[from..];
+        let count = rest.iter().take_while(|bytes| Arc::of(bytes).mode() == mode).count();
+        &rest[..count]
+    }
+
+    /// The capacity K of a pair.
+    #[inline(always)]
+    pub fn capacity(&self, pair: usize) -> u32 {
+        pair_of(&self.table[pair]).0
+    }
 }

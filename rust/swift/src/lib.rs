@@ -4,6 +4,7 @@
 //! A sheet is tested as a whole for yes or no; only a refused one is read again to name its fault.
 
 mod answer;
+mod arcs;
 mod complement;
 mod fault;
 mod kernel;
@@ -16,6 +17,10 @@ mod sheet;
 mod steps;
 mod text;
 mod weights;
+
+#[cfg(test)]
+#[path = "../../reference/tests/support/generator.rs"]
+mod generator;
 
 pub use answer::Answer;
 pub use complement::complement;

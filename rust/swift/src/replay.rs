@@ -4,7 +4,7 @@ use crate::answer::Answer;
 use crate::layout::{Arc, Layout, net_at, pair_of};
 use crate::list::whole_list;
 use crate::run::run_from;
-use crate::text::{Text, Word, short};
+use crate::text::{High, Page, Positions, Word, short};
 use crate::weights::weights_at;
 
 /// "Standard input: a net sheet, a weight sheet, a movement sheet, then nothing."
@@ -27,10 +27,6 @@ fn sheets(input: &[u8]) -> Result<Sheets<'_>, Answer> {
     Ok((layout, weights, whole_list(rest)?))
 }
 
-/// The longest accepted line: four, three, one and sixteen bytes with their spaces and newline, and
-/// the bytes that a word writes and takes back.
-const LINE: usize = 40;
-
 fn lines(layout: &Layout, weights: &[i32; 256], list: &[[u8; 2]]) -> Vec<u8> {
     let (mut marking, mut figure) = ([0; 256], 0);
     for ((count, bytes), &weight) in marking.iter_mut().zip(layout.table).zip(weights) {
@@ -38,26 +34,44 @@ fn lines(layout: &Layout, weights: &[i32; 256], list: &[[u8; 2]]) -> Vec<u8> {
         figure += i64::from(weight) * i64::from(*count);
     }
     let (accepted, answer) = run_from(layout, list, &mut marking);
-    let mut text = Text::with_room(LINE * (accepted + 4));
-    text.put(b"start ");
-    text.number(figure);
-    text.put(b"\n");
-    figure = accepted_lines(&mut text, &modes_of(layout, weights), &list[..accepted], figure);
-    if let Some(refused) = list.get(accepted) {
-        let mode = i64::from(u16::from_be_bytes(*refused));
-        text.put(b"refused");
-        for number in [accepted as i64 + 1, mode, i64::from(answer.number), answer.position as i64] {
-            text.put(b" ");
-            text.number(number);
-        }
-        text.put(b"\n");
+    let (mut text, mut page) = (Vec::with_capacity(32 * (accepted + 4)), Page::new());
+    let at = page.word(0, Word::of(b"start "));
+    let mut high = High::new();
+    let at = page.number(at, figure, &mut high);
+    let mut at = page.end_line(at, &mut text);
+    let modes = modes_of(layout, weights);
+    let mut positions = Positions::new();
+    for movement in &list[..accepted] {
+        // "An accepted line is position in the list counted from 1, mode, answer, figure."
+        let mode = &modes[usize::from(movement[1])];
+        figure += mode.change;
+        at = page.word(at, positions.next());
+        at = page.word(at, mode.text);
+        at = page.number(at, figure, &mut high);
+        at = page.end_line(at, &mut text);
     }
-    text.put(b"end ");
-    text.number(accepted as i64);
-    text.put(b" ");
-    text.number(figure);
-    text.put(b"\n");
-    text.into_bytes()
+    if let Some(refused) = list.get(accepted) {
+        at = page.word(at, Word::of(b"refused "));
+        let mode = i64::from(u16::from_be_bytes(*refused));
+        at = line(
+            &mut page,
+            at,
+            &[accepted as i64 + 1, mode, i64::from(answer.number), answer.position as i64],
+        );
+    }
+    at = page.word(at, Word::of(b"end "));
+    at = line(&mut page, at, &[accepted as i64, figure]);
+    page.finish(at, text)
+}
+
+/// The rest of a line: numbers with single spaces.
+fn line(page: &mut Page, mut at: usize, numbers: &[i64]) -> usize {
+    for &number in numbers {
+        at = page.number(at, number, &mut High::new());
+        at = page.word(at, Word::of(b" "));
+    }
+    // The last space becomes the newline.
+    page.word(at - 1, Word::of(b"\n"))
 }
 
 /// What an accepted line says of its mode.
@@ -83,17 +97,4 @@ fn modes_of(layout: &Layout, weights: &[i32; 256]) -> [Mode; 256] {
         modes[arc.mode() & 255].change += i64::from(weights[arc.pair()]) * flow;
     }
     modes
-}
-
-/// "An accepted line is position in the list counted from 1, mode, answer, figure."
-fn accepted_lines(text: &mut Text, modes: &[Mode; 256], list: &[[u8; 2]], mut figure: i64) -> i64 {
-    for (position, movement) in (1..).zip(list) {
-        let mode = &modes[usize::from(movement[1])];
-        figure += mode.change;
-        text.word(short(position));
-        text.word(mode.text);
-        text.number(figure);
-        text.word(Word(u64::from(b'\n'), 1));
-    }
-    figure
 }

@@ -79,32 +79,27 @@ fn blocks_of(layout: &Layout, width: usize) -> Vec<Block> {
 }
 
 /// Runs the list until a movement is refused: how many were accepted. The marking is what those gave.
-pub fn run_list(layout: &Layout, list: &[[u8; 2]], marking: &mut [u32; 256], width: usize) -> usize {
-    let mut counts = [Four([0; 4]); 64];
-    for (four, given) in counts.iter_mut().zip(marking.as_chunks().0) {
-        *four = Four(*given);
+pub fn run_list(layout: &Layout, list: &[[u8; 2]], marking: &mut [u32; 256]) -> usize {
+    let counts = marking.as_chunks_mut().0;
+    match layout.pairs.div_ceil(4) {
+        1 => narrow::<1>(layout, list, counts),
+        2 => narrow::<2>(layout, list, counts),
+        3 => narrow::<3>(layout, list, counts),
+        4 => narrow::<4>(layout, list, counts),
+        5 | 6 => narrow::<6>(layout, list, counts),
+        7 | 8 => narrow::<8>(layout, list, counts),
+        width => wide(layout, list, &mut counts[..width]),
     }
-    let accepted = match width {
-        1 => narrow::<1>(layout, list, &mut counts),
-        2 => narrow::<2>(layout, list, &mut counts),
-        3 => narrow::<3>(layout, list, &mut counts),
-        4 => narrow::<4>(layout, list, &mut counts),
-        5 | 6 => narrow::<6>(layout, list, &mut counts),
-        7 | 8 => narrow::<8>(layout, list, &mut counts),
-        _ => wide(layout, list, &mut counts[..width]),
-    };
-    for (given, four) in marking.as_chunks_mut().0.iter_mut().zip(counts) {
-        *given = four.0;
-    }
-    accepted
 }
 
 /// Rows of a width known beforehand: the counts stay in registers.
-fn narrow<const WIDTH: usize>(layout: &Layout, list: &[[u8; 2]], marking: &mut [Four; 64]) -> usize {
+fn narrow<const WIDTH: usize>(layout: &Layout, list: &[[u8; 2]], marking: &mut [[u32; 4]]) -> usize {
     let blocks = blocks_of(layout, WIDTH);
     let rows = blocks.as_chunks::<WIDTH>().0;
     let mut counts = [Four([0; 4]); WIDTH];
-    counts.copy_from_slice(&marking[..WIDTH]);
+    for (four, given) in counts.iter_mut().zip(&*marking) {
+        *four = Four(*given);
+    }
     let mut accepted = 0;
     for movement in list {
         let Some(row) = rows.get(usize::from(u16::from_be_bytes(*movement))) else { break };
@@ -120,12 +115,14 @@ fn narrow<const WIDTH: usize>(layout: &Layout, list: &[[u8; 2]], marking: &mut [
         }
         accepted += 1;
     }
-    marking[..WIDTH].copy_from_slice(&counts);
+    for (four, given) in counts.iter().zip(marking) {
+        *given = four.0;
+    }
     accepted
 }
 
 /// Rows of any width.
-fn wide(layout: &Layout, list: &[[u8; 2]], counts: &mut [Four]) -> usize {
+fn wide(layout: &Layout, list: &[[u8; 2]], counts: &mut [[u32; 4]]) -> usize {
     let width = counts.len();
     let blocks = blocks_of(layout, width);
     for (accepted, movement) in list.iter().enumerate() {
@@ -133,11 +130,11 @@ fn wide(layout: &Layout, list: &[[u8; 2]], counts: &mut [Four]) -> usize {
         let Some(row) = blocks.get(from..from + width) else { return accepted };
         let mut faults = Four([0; 4]);
         for (block, four) in row.iter().zip(&mut *counts) {
-            *four = block.fired(*four, &mut faults);
+            *four = block.fired(Four(*four), &mut faults).0;
         }
         if faults.any_below_zero() {
             for (block, four) in row.iter().zip(counts) {
-                *four = block.unfired(*four);
+                *four = block.unfired(Four(*four)).0;
             }
             return accepted;
         }

@@ -38,21 +38,29 @@ impl Step {
     }
 }
 
+/// Each mode's steps begin at a four of their own, and are put at their places one after another.
 fn steps_of(layout: &Layout) -> Steps {
     let capacities = capacities(layout);
-    let mut steps = Vec::with_capacity(layout.arcs.len() / TOGETHER + layout.modes);
+    let mut ends = [0; 256];
+    for (end, bytes) in (1..).zip(layout.arcs) {
+        ends[Arc::of(bytes).mode() & 255] = end;
+    }
+    // How far each mode's steps stand behind its arcs.
+    let mut behind = [0; 256];
     let mut spans = [(0, 0); 256];
-    for arcs in layout.arcs.chunk_by(|a, b| a[..2] == b[..2]) {
-        let mode = Arc::of(&arcs[0]).mode();
-        let from = steps.len() as u16;
-        for arcs in arcs.chunks(TOGETHER) {
-            let mut four = FILLERS;
-            for (step, bytes) in four.iter_mut().zip(arcs) {
-                *step = Step::of(Arc::of(bytes), &capacities);
-            }
-            steps.push(four);
-        }
-        spans[mode & 255] = (from, steps.len() as u16);
+    let (mut arcs, mut fours) = (0u16, 0u16);
+    for mode in 0..layout.modes & 511 {
+        let end = arcs.max(ends[mode & 255]);
+        let to = fours + (end - arcs).div_ceil(TOGETHER as u16);
+        spans[mode & 255] = (fours, to);
+        behind[mode & 255] = TOGETHER as u16 * fours - arcs;
+        (arcs, fours) = (end, to);
+    }
+    let mut steps = vec![FILLERS; usize::from(fours)];
+    let places = steps.as_flattened_mut();
+    for (at, bytes) in layout.arcs.iter().enumerate() {
+        let arc = Arc::of(bytes);
+        places[at + usize::from(behind[arc.mode() & 255])] = Step::of(arc, &capacities);
     }
     Steps { steps, spans }
 }
