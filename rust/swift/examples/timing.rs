@@ -55,9 +55,8 @@ fn times(name: &str, net: &PlainNet, length: usize, random: &mut Random) {
     let complement = best(tries, || swift::complement(black_box(&sheet), &mut output));
     let replay = best(tries, || swift::replay(black_box(&input)));
     let plain = best(3, || reference::run(&sheet, &list, &mut first.clone()));
-    println!(
-        "{name:<28} read {read:8.2}  run {run:8.2}  complement {complement:8.2}  replay {replay:8.2}  (reference run {plain:10.1})"
-    );
+    print!("{name:<26} read {read:8.2}  run {run:8.2}  complement {complement:8.2}  replay {replay:8.2}");
+    println!("  (reference run {plain:10.1})");
 }
 
 fn main() {

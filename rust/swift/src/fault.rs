@@ -1,12 +1,14 @@
 //! The first fault of a refused sheet or movement, by document 01's orders.
 
+use std::convert::Infallible;
+
 use crate::answer::{Answer, LARGEST, MOVEMENTS, NET, UNBOUNDED};
 use crate::layout::{Arc, Layout};
 use crate::sheet::{four, two};
 
 /// The first fault of a net sheet that has one after its version byte, "the fields left to right".
 pub fn of_net(sheet: &[u8]) -> Answer {
-    let Err(answer) = fields(sheet) else { unreachable!("a refused sheet has a fault") };
+    let Err(answer) = fields(sheet);
     answer
 }
 
@@ -14,7 +16,8 @@ fn refuse<V>(number: u32, offset: usize) -> Result<V, Answer> {
     Err(Answer::refused(number, NET, offset))
 }
 
-fn fields(sheet: &[u8]) -> Result<(), Answer> {
+/// The fields of a sheet that has a fault: where none is found in them, bytes are left over.
+fn fields(sheet: &[u8]) -> Result<Infallible, Answer> {
     let places = count(sheet, 5, 1, 64)?;
     let transitions = count(sheet, 7, 0, 64)?;
     let pairs = counts(sheet, 9, places)?;
