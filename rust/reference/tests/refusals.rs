@@ -308,6 +308,14 @@ fn number_10_the_complement_exceeds_the_sheets_limits() {
     assert_eq!(answer_of(&finite(&[1; 33])), too_large);
     assert_eq!(answer_of(&finite(&[64, 64])), ACCEPTED);
     assert_eq!(answer_of(&finite(&[64, 64, 1])), too_large);
+    // One pair of unbounded K: 65 places, then 257 pairs.
+    for colours in [&[1; 33][..], &[64, 64, 1]] {
+        let mut net = finite(colours);
+        net.pairs[0].0 = OPEN;
+        assert_eq!(answer_of(&net), too_large);
+        net.pairs[1].0 = OPEN;
+        assert_eq!(answer_of(&net), ACCEPTED);
+    }
     let mut net = finite(&[8]);
     net.modes = vec![64, 64, 1];
     net.arcs = (0..1_024).map(|n| arc(n / 8, n % 8, 1, 0, OPEN)).collect();
@@ -315,6 +323,8 @@ fn number_10_the_complement_exceeds_the_sheets_limits() {
     net.arcs.push(arc(128, 0, 1, 0, OPEN));
     assert_eq!(answer_of(&net), too_large);
     // An arc that becomes blank is left out: the 2,048 counts what is written.
+    net.arcs[1_024] = arc(128, 0, 0, 0, 0);
+    assert_eq!(answer_of(&net), too_large);
     net.arcs[1_024] = arc(128, 0, 0, 0, 1);
     assert_eq!(answer_of(&net), ACCEPTED);
 }

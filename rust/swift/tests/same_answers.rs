@@ -290,3 +290,45 @@ fn the_largest_figure_prints_the_same() {
         assert!(text.contains("256000000000000\n"));
     }
 }
+
+/// Places of these colours, every pair of K 5.
+fn finite(colours: Vec<u16>) -> PlainNet {
+    let pairs = vec![(5, 2); total(&colours)];
+    PlainNet { colours, modes: vec![64, 64, 1], pairs, arcs: vec![] }
+}
+
+#[test]
+fn at_the_complements_limits_the_answers_are_the_same() {
+    let mut seen = BTreeSet::new();
+    for colours in [vec![1; 32], vec![1; 33], vec![64; 2], vec![64, 64, 1], vec![4; 32], vec![2; 64]] {
+        let mut net = finite(colours);
+        same_complement(&net.sheet(), 36_000, &mut seen);
+        // One complement pair, and often one place, fewer.
+        net.pairs[0].0 = u32::MAX;
+        same_complement(&net.sheet(), 36_000, &mut seen);
+    }
+    for arcs in [1_023, 1_024, 1_025] {
+        let mut net = finite(vec![8]);
+        net.arcs = (0..arcs).map(|n| reference::build::arc(n / 8, n % 8, 1, 0, u32::MAX)).collect();
+        same_complement(&net.sheet(), 36_000, &mut seen);
+        // This one is blank at its original pair.
+        net.arcs.push(reference::build::arc(128, 7, 0, 0, 4));
+        same_complement(&net.sheet(), 36_000, &mut seen);
+    }
+    assert_eq!(seen, [0, 10].into());
+}
+
+#[test]
+fn at_the_limits_of_lists_and_arcs_the_answers_are_the_same() {
+    let mut seen = BTreeSet::new();
+    let mut net = finite(vec![20]);
+    for length in [8_191, 8_192, 8_193] {
+        same_run(&net.sheet(), &movements(&vec![1; length]), &[2; 20], &mut seen);
+    }
+    for arcs in [2_047, 2_048, 2_049] {
+        net.arcs = (0..arcs).map(|n| reference::build::arc(n / 20, n % 20, 1, 0, u32::MAX)).collect();
+        same_read(&net.sheet(), &mut seen);
+        same_run(&net.sheet(), &movements(&[0, 50, 102, 128, 0]), &[2; 20], &mut seen);
+    }
+    assert_eq!(seen, [0, 4, 11].into());
+}
