@@ -9,3 +9,5 @@ pub mod Accepted
 pub mod Shapes
 pub mod Opening
 pub mod Segments
+pub mod Lists
+pub mod TwosComplement

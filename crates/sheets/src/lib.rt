@@ -4,6 +4,7 @@ mod arcs;
 pub mod bytes;
 mod counts;
 pub mod head;
+pub mod listed;
 pub mod movements;
 pub mod net;
 mod numbers;
