@@ -19,3 +19,6 @@ pub mod Accepts
 pub mod NetAccepts
 pub mod Puts
 pub mod Opening
+pub mod Segments
+pub mod Lists
+pub mod TwosComplement

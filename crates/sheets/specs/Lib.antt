@@ -13,3 +13,5 @@ pub mod Written
 pub mod Promises
 pub mod Puts
 pub mod Opened
+pub mod Starts
+pub mod Listed
