@@ -22,3 +22,4 @@ pub mod Opening
 pub mod Segments
 pub mod Lists
 pub mod TwosComplement
+pub mod RefusalTables

@@ -11,6 +11,7 @@ pub mod Accepted
 pub mod Shape
 pub mod Written
 pub mod Promises
+pub mod RefusalTables
 pub mod Puts
 pub mod Opened
 pub mod Starts
