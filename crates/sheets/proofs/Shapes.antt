@@ -112,4 +112,4 @@ module _ {s : List ℕ} {net : NetShape} (o : Open s net) where
       let is : netArc a ≡ arcNo (netOf s .arcs) k = e ∙ sym (arc-at s k (rw (← shaped .arcs) h)) in
       let w : ArcOf (netOf s) (netArc a) = rw is (sizes .wellFormed .eachArc k (rw (← sizes .arcs) h)) in
       let z = sizes in
-      record { is = is; mode = omega arith; pair = omega arith; pre = w .pre; post = w .post }
+      record { is = is; mode = omega arith; pair = omega arith; pre = w .pre; post = w .post; inhibitor = w .inhibitor }

@@ -3,6 +3,7 @@
 mod arcs;
 pub mod bytes;
 mod counts;
+pub mod finite;
 pub mod head;
 pub mod listed;
 pub mod movements;
