@@ -8,7 +8,7 @@ pub mod head;
 pub mod listed;
 pub mod movements;
 pub mod net;
-mod numbers;
+pub mod numbers;
 pub mod opened;
 mod pairs;
 pub mod shape;
