@@ -2,6 +2,7 @@ pub mod Heads
 pub mod Signs
 pub mod RunningTotals
 pub mod Bounds
+pub mod BoundNumbers
 pub mod PairFields
 pub mod Valid
 pub mod Meaning
