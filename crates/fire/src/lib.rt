@@ -1,0 +1,1 @@
+// Movements over a lent marking.
