@@ -1,1 +1,2 @@
-// Movements over a lent marking.
+// Movements over a lent marking: begin, test, fire, run, certify.
+mod rule;
