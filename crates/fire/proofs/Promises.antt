@@ -18,7 +18,7 @@ use Rattle.model.proofs.First.{left-none, right-none, none-then}
 use Rattle.model.proofs.Markings.{marking-test, marking-kept}
 use Rattle.model.proofs.Runs.{runs, certificates}
 use Rattle.sheets.specs.Nets.{netRefusal}
-use Rattle.sheets.specs.Whole.{whole, wholeNet, wholeMovements}
+use Rattle.sheets.specs.Whole.{wholeNet, wholeMovements}
 use Rattle.sheets.specs.Decoded.{netOf, movementsOf}
 use Rattle.sheets.proofs.Accepted.{well-formed}
 use Rattle.fire.specs.Calls.{beginRefusal, begun, testRefusal, firedBy, beforeRun, runOf, certifyRefusal}
@@ -50,7 +50,7 @@ runs-leave net movements marking = go (beforeRun net movements marking) refl
 
 -- an accepted net sheet's first marking
 pub start-marks : (net : List ℕ) → wholeNet net ≡ none → Marking (netOf net) (netOf net .start)
-unfolding whole
+unfolding wholeNet
 start-marks net e = well-formed net (left-none (netRefusal net) _ e) .start
 
 leads-keep : {net : PNet} {ts : List Mode} {m m′ : List ℕ} → Leads net ts m m′ → Marking net m → Marking net m′
