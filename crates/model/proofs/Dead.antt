@@ -6,14 +6,15 @@ use mathlib.Core.Logic.{_⊎_, inl, inr, ⊎-elim}
 use mathlib.Core.Option.{Option, none, some, Option·map}
 use native.Mathlib.Omega.{arith}
 use Rattle.model.specs.declared.Mode.{Mode}
-use Rattle.model.specs.First.{Lowest}
-use Rattle.model.specs.Numbers.{ℕ∞, above}
+use Rattle.model.specs.First.{onlyIf, lowest, Lowest}
+use Rattle.model.specs.Numbers.{ℕ∞, fin, ∞, _≤∞_, above}
 use Rattle.model.specs.Rows.{Entry}
-use Rattle.model.specs.Nets.{PNet, pairs, modes, pairNo, modeNo, K, row}
+use Rattle.model.specs.Nets.{NetArc, PNet, pairs, modes, pairNo, modeNo, K, row}
 use Rattle.model.specs.Dead.{Kills, kills, deadPair, isDead, DeadMode, firstDead}
 use Rattle.model.specs.Promises.{KillsAt, DeadModes, FirstDead}
-use Rattle.model.proofs.First.{Decides, lowest-or-none, lowest-some, some-lowest, first-each, first-all, first-at, first-found}
-use Rattle.model.proofs.Numbers.{above-true, true-above}
+use Rattle.model.proofs.First.{Decides, lowest-or-none, lowest-some, some-lowest, first-each, first-all, first-ext, first-at, first-found, first-sparse}
+use Rattle.model.proofs.ByArcs.{Listing}
+use Rattle.model.proofs.Numbers.{above-true, true-above, false-above}
 
 either : (a b : Bool) → a || b ≡ true → (a ≡ true) ⊎ (b ≡ true)
 either true b e = inl refl
@@ -58,6 +59,19 @@ module _ (net : PNet) (t : Mode) where
   dead-alive r =
       ⊎-elim (λ (l : (p : ℕ) × Lowest (pairs net) (KillsAt net t) p). pair-dead (l .0) (lowest-dead (l .0) (l .1)))
       (λ nowhere. absurd (nowhere (r .0) (r .1) (r .2))) (lowest-or-none decides-dead (λ p. p) (pairs net))
+
+zero-le : (k : ℕ∞) → 0 ≤∞ k
+zero-le (fin k) = omega arith
+zero-le ∞ = tt
+
+-- a mode's own arcs are enough: where no arc is written nothing is above K
+pub dead-by-arcs : (net : PNet) (t : Mode) {c : ℕ} {arc : ℕ → NetArc} → Listing (pairs net) (row net t) c arc
+    → deadPair net t ≡ lowest c (λ k. kills (arc k .entry) (K net (arc k .pair .0))) (λ k. arc k .pair .0)
+unfolding deadPair
+dead-by-arcs net t {c} {arc} listing =
+    first-sparse (pairs net) c (λ p. onlyIf (kills (row net t p) (K net p)) p) (λ k. arc k .pair .0) (listing .inside) (listing .rising)
+    (λ p h elsewhere. rw (listing .unwritten p h elsewhere, false-above 0 (K net p) (zero-le (K net p))))
+    ∙ first-ext c _ _ (λ k h. rw (listing .written k h))
 
 pub dead-modes : DeadModes
 dead-modes net t = (alive-dead net t, dead-alive net t)
