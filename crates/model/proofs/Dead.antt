@@ -2,11 +2,11 @@
 use Prim.Native.Nat.{ℕ, _<_}
 use mathlib.Core.Path.{_≡_, refl, sym, _∙_, ap}
 use mathlib.Core.Bool.{Bool, true, false, _||_, or-true}
-use mathlib.Core.Logic.{_⊎_, inl, inr, ⊎-elim}
+use mathlib.Core.Logic.{_↔_, _⊎_, inl, inr, ⊎-elim}
 use mathlib.Core.Option.{Option, none, some, Option·map}
 use native.Mathlib.Omega.{arith}
 use Rattle.model.specs.declared.Mode.{Mode}
-use Rattle.model.specs.First.{onlyIf, lowest, Lowest}
+use Rattle.model.specs.First.{onlyIf, lowest, Lowest, NoneBelow}
 use Rattle.model.specs.Numbers.{ℕ∞, fin, ∞, _≤∞_, above}
 use Rattle.model.specs.Rows.{Entry}
 use Rattle.model.specs.Nets.{NetArc, PNet, pairs, modes, pairNo, modeNo, K, row}
@@ -130,3 +130,10 @@ module _ (net : PNet) where
 
 pub first-dead : FirstDead
 first-dead net t p = (first-lowest net t p, λ r. lowest-first net t p (r .0) (r .1))
+
+pub none-dead : (net : PNet) → (firstDead net ≡ none) ↔ NoneBelow (modes net) (λ t. isDead net (modeNo t) ≡ true)
+unfolding firstDead
+none-dead net = (
+  λ e t h. alive net t (first-each (modes net) (deadAt net) e t h),
+  λ no. first-all (modes net) (deadAt net) (λ t h. not-dead net t (no t h)),
+)

@@ -4,6 +4,7 @@ pub mod Billington
 pub mod Numbers
 pub mod First
 pub mod Refusals
+pub mod Replies
 pub mod Rows
 pub mod Nets
 pub mod WellFormed
