@@ -1,5 +1,5 @@
 -- The promises about the figure.
-use mathlib.Core.Path.{_≡_, refl, ap, _∙_}
+use mathlib.Core.Path.{_≡_, ap, _∙_}
 use mathlib.Core.List.{List}
 use mathlib.Core.Option.{Option, none, some}
 use Prim.Native.Nat.{ℕ}
@@ -7,8 +7,7 @@ use lib.IntN.{ℤ}
 use Rattle.model.specs.declared.Mode.{Mode}
 use Rattle.model.specs.declared.Thing.the-variants.{Argument}
 use Rattle.model.specs.declared.Refusal.{Refusal}
-use Rattle.model.specs.Markings.{markingRefusal}
-use Rattle.model.specs.Firing.{absent, modeRefusal, fired}
+use Rattle.model.specs.Firing.{modeRefusal, fired}
 use Rattle.model.specs.Figures.{figure, change}
 use Rattle.model.proofs.First.{left-none, right-none, none-then}
 use Rattle.model.proofs.Markings.{marking-test, marking-kept}
@@ -16,7 +15,7 @@ use Rattle.model.proofs.Firing.{accepted-enough}
 use Rattle.model.proofs.Figures as model
 use Rattle.sheets.specs.Decoded.{netOf, weightsOf}
 use Rattle.fire.specs.Calls.{testRefusal}
-use Rattle.weigh.specs.Calls.{figured, told, sheetsRefusal, figureRefusal, changeRefusal}
+use Rattle.weigh.specs.Calls.{figured, told, figureRefusal, changeRefusal}
 use Rattle.weigh.specs.Promises.{FigureIsSum, FigureFired}
 
 -- an accepted call has its value

@@ -1,7 +1,7 @@
 -- Neither the difference nor the product wraps.
 use borrow.Author.Needs.{needs}
 use Prim.Native.Nat.{_≤_}
-use mathlib.Core.Path.{_≡_, _∙_}
+use mathlib.Core.Path.{_≡_}
 use lib.IntN.{ℤ, pos, natAbs, _*ℤ_, _-ℤ_}
 use lib.Signed.{natAbs-le}
 use mir.Syntax.{w32, w64}
