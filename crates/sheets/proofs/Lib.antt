@@ -8,3 +8,4 @@ pub mod Meaning
 pub mod Accepted
 pub mod Shapes
 pub mod Opening
+pub mod Segments

@@ -10,3 +10,4 @@ pub mod Held
 pub mod Accepted
 pub mod Shape
 pub mod Opened
+pub mod Starts

@@ -10,5 +10,6 @@ mod numbers;
 pub mod opened;
 mod pairs;
 pub mod shape;
+pub mod starts;
 pub mod weights;
 pub mod whole;
