@@ -6,7 +6,7 @@ mod counts;
 pub mod head;
 pub mod movements;
 pub mod net;
-mod numbers;
+pub mod numbers;
 pub mod opened;
 mod pairs;
 pub mod shape;
