@@ -7,3 +7,5 @@ pub mod Valid
 pub mod Meaning
 pub mod Accepted
 pub mod Shapes
+pub mod Opening
+pub mod Segments

@@ -76,7 +76,7 @@ all-running s start (suc n) h e =
     (omega arith, rw add-one at (last .inTotal))
 
 pub counted : (s : List ℕ) → Headed s → countFields s ≡ none → Counted s
-unfolding countFields eachCount modesAt pairCount modeCount pairsAt
+unfolding countFields eachCount pairCount modeCount
 counted s h e =
     let e₁ = right-none _ _ e in
     let size = sized s h (left-none _ _ e) (left-none _ _ e₁) in

@@ -10,7 +10,7 @@ use Rattle.model.specs.Nets.{pairs, modes, K, count, arcNo}
 use Rattle.model.specs.WellFormed.{ArcOf, Counted, WellFormed}
 use Rattle.sheets.specs.declared.shape.NetShape.{NetShape}
 use Rattle.sheets.specs.Bytes.{u16At, u32At}
-use Rattle.sheets.specs.Layout.{coloursAt, modesAt, counts, placeCount, transitionCount, pairCount, modeCount, arcCount, pairsAt, arcsAt, countAt, pairAt, arcAt, arcSize, capacityAt, startAt}
+use Rattle.sheets.specs.Layout.{coloursAt, modesAt, counts, placeCount, transitionCount, pairCount, modeCount, arcCount, pairsAt, arcsAt, countAt, pairAt, arcAt, arcSize, arcModeAt, capacityAt, startAt}
 use Rattle.sheets.specs.Nets.{bound}
 use Rattle.sheets.specs.Decoded.{netArcAt, netOf}
 use Rattle.sheets.specs.Shape.{shapeOf, Open, netArc, ArcIs, arcOffset}
@@ -101,6 +101,10 @@ module _ {s : List ℕ} {net : NetShape} (o : Open s net) where
   start-read p r h e =
       let is : r ≡ count (netOf s .start) p = e ∙ sym (start-at s p (rw (← shaped .pairs) h)) in
       (is, rw is (sizes .wellFormed .start .inRange p (rw (← sizes .pairs) h)))
+
+  pub arc-mode-is : (k : ℕ) {m : ℕ} → k < net .arcs → m ≡ u16At s (arcModeAt (arcOffset s k)) → m ≡ arcNo (netOf s .arcs) k .mode .0
+  unfolding arcOffset netArcAt
+  arc-mode-is k h e = e ∙ sym (ap (λ a. a .mode .0) (arc-at s k (rw (← shaped .arcs) h)))
 
   pub arc-read : (k : ℕ) (a : Arc) → k < net .arcs → netArc a ≡ netArcAt s (arcOffset s k) → ArcIs s net k a
   unfolding arcOffset

@@ -9,3 +9,5 @@ pub mod Decoded
 pub mod Held
 pub mod Accepted
 pub mod Shape
+pub mod Opened
+pub mod Starts

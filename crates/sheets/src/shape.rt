@@ -13,7 +13,7 @@ ghost use mathlib.Core.Option.{none};
 ghost use Prim.Native.Nat.{_+_, _≤_, _<_};
 ghost use lib.ListN.{length, getD};
 ghost use Rattle.model.specs.Numbers.{limit};
-ghost use Rattle.model.specs.Nets.{K, count};
+ghost use Rattle.model.specs.Nets.{K, count, arcNo};
 ghost use Rattle.sheets.specs.Layout.{pairsAt, pairAt, arcSize};
 ghost use Rattle.sheets.specs.Nets.{bound, netRefusal};
 ghost use Rattle.sheets.specs.Decoded.{netOf};
@@ -101,6 +101,15 @@ pub fn arc_offset(s: &[u8], net: NetShape, k: usize) -> usize
     ensures { λ r. ⌜ (r ≡ arcOffset (now (s .entry)) k) × (r + arcSize ≤ length (now (s .entry))) ⌝ }
 {
     net.arcs_at + 16 * k
+}
+
+// The mode of an arc, as a number.
+pub(crate) fn arc_mode(s: &[u8], net: NetShape, k: usize) -> usize
+    requires { ⌜ Open (now s) net ⌝ }
+    requires { ⌜ k < net .arcs ⌝ }
+    ensures { λ r. ⌜ r ≡ arcNo (netOf (now (s .entry)) .arcs) k .mode .0 ⌝ }
+{
+    count_at(s, arc_offset(s, net, k))
 }
 
 pub fn arc(s: &[u8], net: NetShape, k: usize) -> Arc

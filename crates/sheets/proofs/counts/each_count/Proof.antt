@@ -1,7 +1,6 @@
 -- The colours of each place, then the modes of each transition.
 use borrow.Author.Needs.{needs}
 use Rattle.model.proofs.Refusals.{answer-stops, answer-goes-on}
-use Rattle.sheets.specs.Layout.{modesAt}
 use Rattle.sheets.specs.Nets.{eachCount}
 use Rattle.sheets.proofs.counts.each_count.Statement.{statement}
 use Rattle.sheets.proofs.counts.each_count.Tie as tie
@@ -12,7 +11,7 @@ returns c =
     answer-stops _ _ (rw (c .before .before .before .count-at .ensures .0) at (c .before .before .read-counts .ensures)) (c .enum-told .given .1)
 
 returns-2 : tie.Need-returns-2
-unfolding eachCount modesAt
+unfolding eachCount
 returns-2 c =
     let b = c .before .before .before .before in
     let places = b .before .count-at .ensures .0 in

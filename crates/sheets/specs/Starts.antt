@@ -1,0 +1,27 @@
+-- Where the arcs of each mode stand among a net's arcs, which rise by mode.
+use Prim.Native.Nat.{ℕ, _+_, _≤_, _<_}
+use mathlib.Core.Path.{_≡_}
+use mathlib.Core.List.{List}
+use lib.ListN.{length, getD}
+use Rattle.model.specs.declared.Mode.{Mode}
+use Rattle.model.specs.Nets.{NetArc, arcNo}
+
+-- the first k arcs have modes below t
+pub record ModesBelow (arcs : List NetArc) (t k : ℕ) : Type 0 where
+  pub each : (j : ℕ) → j < k → arcNo arcs j .mode .0 < t
+
+-- the k-th arc is the first whose mode is at least t, or there is none and k is the arc count
+pub record FirstFrom (arcs : List NetArc) (t k : ℕ) : Type 0 where
+  pub inside : k ≤ length arcs
+  pub before : ModesBelow arcs t k
+  pub after : (j : ℕ) → k ≤ j → j < length arcs → t ≤ arcNo arcs j .mode .0
+
+-- a table with such an entry for each t from 0 to 256
+pub record StartsAre (arcs : List NetArc) (starts : List ℕ) : Type 0 where
+  pub each : (t : ℕ) → t < 257 → FirstFrom arcs t (getD starts t 0)
+
+-- the arcs of a mode: `count` of them from `start` on, and no other
+pub record ModeArcs (arcs : List NetArc) (t : Mode) (start count : ℕ) : Type 0 where
+  pub fits : start + count ≤ length arcs
+  pub own : (k : ℕ) → k < count → arcNo arcs (start + k) .mode .0 ≡ t .0
+  pub all : (k : ℕ) → k < length arcs → arcNo arcs k .mode .0 ≡ t .0 → (start ≤ k) × (k < start + count)
