@@ -9,8 +9,9 @@ use Rattle.model.specs.declared.Arc.{Arc}
 use Rattle.model.specs.Numbers.{ℕ∞, fin, ∞, above, limit}
 use Rattle.model.proofs.PassBelow.{least, room, passBelow}
 use Rattle.sheets.specs.Nets.{unbounded, bound}
+use Rattle.sheets.specs.Shape.{netArc}
 use Rattle.sheets.proofs.Bounds.{bound-unbounded, bound-finite}
-use Rattle.fire.specs.Parts.{entryOf, InRange}
+use Rattle.fire.specs.Parts.{InRange}
 
 by-bound : (P : ℕ∞ → Type 0) (x : ℕ) → (x ≡ unbounded → P ∞) → P (fin x) → P (bound x)
 by-bound P x infinite finite = go (eqb x unbounded) refl
@@ -31,12 +32,12 @@ room-least x n h l = by-bound (λ b. least (room b n) h ≡ min (x - n) h) x (λ
 
 -- the number of an arc, from what its sheet writes
 module _ (a : Arc) (x : ℕ) (read : InRange a) where
-  pub never-passes : x < a .post → passBelow (entryOf a) (bound x) ≡ 0
+  pub never-passes : x < a .post → passBelow (netArc a .entry) (bound x) ≡ 0
   unfolding passBelow
   never-passes h = rw (bound-above (a .post) x (omega arith), lt-ltb x (a .post) h)
 
   pub passes-below : a .post ≤ x
-      → passBelow (entryOf a) (bound x) ≡ min (x - a .post) (min (a .inhibitor) (limit + a .pre - a .post)) + 1
+      → passBelow (netArc a .entry) (bound x) ≡ min (x - a .post) (min (a .inhibitor) (limit + a .pre - a .post)) + 1
   unfolding passBelow
   passes-below h =
       rw

@@ -1,3 +1,4 @@
 pub mod Bounds
 pub mod FourTests
+pub mod Opened
 pub mod Promises

@@ -9,10 +9,11 @@ ghost use Rattle.model.specs.Numbers.{limit, above};
 ghost use Rattle.model.specs.Firing.{after, stops};
 ghost use Rattle.model.proofs.PassBelow.{passBelow};
 ghost use Rattle.sheets.specs.Nets.{bound};
-ghost use Rattle.fire.specs.Parts.{entryOf, InRange, Unstopped};
+ghost use Rattle.sheets.specs.Shape.{netArc};
+ghost use Rattle.fire.specs.Parts.{InRange, Unstopped};
 
 // Nothing of 32 bits is above the largest such number, which means unbounded.
-fn is_above(number: u32, most: u32) -> bool
+pub(crate) fn is_above(number: u32, most: u32) -> bool
     ensures { λ r. ⌜ r ≡ above number (bound most) ⌝ }
 {
     most < number
@@ -22,7 +23,7 @@ fn is_above(number: u32, most: u32) -> bool
 pub(crate) fn moved(arc: Arc, count: u32) -> u32
     requires { ⌜ InRange arc ⌝ }
     requires { ⌜ count ≤ limit ⌝ }
-    ensures { λ r. ⌜ r ≡ after (entryOf arc) count ⌝ }
+    ensures { λ r. ⌜ r ≡ after (netArc arc .entry) count ⌝ }
 {
     if count < arc.pre {
         return arc.post;
@@ -33,7 +34,7 @@ pub(crate) fn moved(arc: Arc, count: u32) -> u32
 pub(crate) fn is_stopped(why: Why, arc: Arc, capacity: u32, count: u32) -> bool
     requires { ⌜ InRange arc ⌝ }
     requires { ⌜ count ≤ limit ⌝ }
-    ensures { λ r. ⌜ r ≡ stops why (entryOf arc) (bound capacity) count ⌝ }
+    ensures { λ r. ⌜ r ≡ stops why (netArc arc .entry) (bound capacity) count ⌝ }
 {
     match why {
         Why::Lacking => count < arc.pre,
@@ -47,7 +48,7 @@ pub(crate) fn is_stopped(why: Why, arc: Arc, capacity: u32, count: u32) -> bool
 pub(crate) fn is_free(arc: Arc, capacity: u32, count: u32) -> bool
     requires { ⌜ InRange arc ⌝ }
     requires { ⌜ count ≤ limit ⌝ }
-    ensures { λ r. ⌜ (r ≡ true) ↔ Unstopped (entryOf arc) (bound capacity) count ⌝ }
+    ensures { λ r. ⌜ (r ≡ true) ↔ Unstopped (netArc arc .entry) (bound capacity) count ⌝ }
 {
     if is_stopped(Why::Lacking, arc, capacity, count) {
         return false;
@@ -76,7 +77,7 @@ fn least(a: u32, b: u32) -> u32
 // The counts below this number, from Pre on, are those that pass all four tests.
 pub(crate) fn pass_below(arc: Arc, capacity: u32) -> u32
     requires { ⌜ InRange arc ⌝ }
-    ensures { λ r. ⌜ r ≡ passBelow (entryOf arc) (bound capacity) ⌝ }
+    ensures { λ r. ⌜ r ≡ passBelow (netArc arc .entry) (bound capacity) ⌝ }
 {
     if capacity < arc.post {
         return 0;
