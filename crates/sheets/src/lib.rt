@@ -3,7 +3,9 @@
 mod arcs;
 pub mod bytes;
 mod counts;
+pub mod finite;
 pub mod head;
+pub mod listed;
 pub mod movements;
 pub mod net;
 pub mod numbers;
