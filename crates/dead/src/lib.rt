@@ -104,7 +104,10 @@ fn mode_answer(s: &[u8], net: NetShape, mode: Mode) -> Deadness
     ensures { λ r. ⌜ r ≡ deadness (absent Argument (netOf (now (s .entry))) mode) (isDead (netOf (now (s .entry))) mode) ⌝ }
 {
     if net.modes <= mode.0 as usize {
-        return Deadness::Refused(Refusal { thing: Thing::Argument, fault: Fault::NotThere });
+        return Deadness::Refused(Refusal {
+            thing: Thing::Argument,
+            fault: Fault::NotThere,
+        });
     }
     if dead_at(s, net, mode) {
         return Deadness::Dead;

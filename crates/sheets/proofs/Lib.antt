@@ -12,3 +12,4 @@ pub mod Opening
 pub mod Segments
 pub mod Lists
 pub mod TwosComplement
+pub mod Modes

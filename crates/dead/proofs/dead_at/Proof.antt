@@ -33,7 +33,7 @@ loop-again c = (
   search needs,
   search needs,
   below-more _ _ (c .before .before .before .before .loop .inv .2)
-  (λ _. sym (arc-kills (c .before .before .arc .ensures) (c .before .kills .ensures)) ∙ c .if1 .left),
+      (λ _. sym (arc-kills (c .before .before .arc .ensures) (c .before .kills .ensures)) ∙ c .if1 .left),
 )
 
 returns-2 : tie.Need-returns-2 Inv-loop μ-loop

@@ -1,36 +1,19 @@
+-- The net's refusals, then the search.
 use borrow.Author.Needs.{needs}
+use Rattle.sheets.proofs.Opening.{opened-refused, opened-shape, opens}
 use Rattle.dead.proofs.first_dead.Statement.{statement}
 use Rattle.dead.proofs.first_dead.Tie as tie
-use Rattle.dead.proofs.first_dead.Reads as reads
-use Rattle.dead.proofs.first_dead.Lts as lts
-use Rattle.dead.proofs.search.Reads as search-reads
-use Rattle.sheets.proofs.opened.open_net.Reads as open-net-reads
-
-open-net-requires : tie.Need-open-net-requires
-open-net-requires c κs = search needs
-
-enum-known-opened : tie.Need-enum-known-opened
-enum-known-opened c = search needs
-
-enum-known-opened-2 : tie.Need-enum-known-opened-2
-enum-known-opened-2 c = search needs
 
 search-requires : tie.Need-search-requires
-search-requires c κs = ?
+search-requires c κs = opens _ (c .before .before .before .open-net .ensures) (c .before .opened2 .given .1)
 
 returns : tie.Need-returns
-returns c = ?
+returns c = rw (opened-refused _ _ (c .before .before .before .open-net .ensures) (c .before .opened .given .1))
 
 returns-2 : tie.Need-returns-2
-returns-2 c = ?
+returns-2 c =
+    rw (opened-shape _ _ (c .before .before .before .before .open-net .ensures) (c .before .before .opened2 .given .1) .0) (c .search .ensures)
 
 pub first-dead-spec : {M : Type 1} → statement M
 first-dead-spec =
-    tie.close
-    (tie.spec
-    open-net-requires
-    enum-known-opened
-    enum-known-opened-2
-    search-requires
-    returns
-    returns-2)
+    tie.close (tie.spec (λ c κs. search needs) (λ c. search needs) (λ c. search needs) search-requires returns returns-2)

@@ -64,7 +64,7 @@ loop-again c = (
   search needs,
   search needs,
   below-more _ _ (c .before .before .before .before .loop .inv .3)
-  (λ _. sym (arc-kills (c .before .before .arc .ensures) (c .before .kills .ensures)) ∙ c .if1 .left),
+      (λ _. sym (arc-kills (c .before .before .arc .ensures) (c .before .kills .ensures)) ∙ c .if1 .left),
 )
 
 add-t : tie.Need-add-t Inv-loop μ-loop Inv-search μ-search
@@ -76,12 +76,11 @@ search-less c = search needs
 search-again : tie.Need-search-again Inv-loop μ-loop Inv-search μ-search
 search-again c =
     let b = c .before .before .before in
-    let l = c .before .loop in
-    (
+    let l = c .before .loop in (
       search needs,
       search needs,
       below-more _ _ (b .before .before .before .search .inv .2)
-      (none-kills (b .before .before .before .before .before .before .pre) _ _ _ (b .arcs-of .ensures .0) (λ i h. l .inv .3 i (omega (arith, c .loop-test .left)))),
+          (none-kills (b .before .before .before .before .before .before .pre) _ _ _ (b .arcs-of .ensures .0) (λ i h. l .inv .3 i (omega (arith, c .loop-test .left)))),
     )
 
 returns : tie.Need-returns Inv-loop μ-loop Inv-search μ-search
