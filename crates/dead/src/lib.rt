@@ -11,18 +11,20 @@ use sheets::opened::open_net;
 use sheets::shape::NetShape;
 use sheets::shape::arc;
 use sheets::shape::capacity;
+use sheets::starts::Segment;
 use sheets::starts::arcs_of;
 use sheets::starts::find_arcs;
 use sheets::starts::starts;
 ghost use mathlib.Core.Path.{_≡_};
 ghost use mathlib.Core.Option.{none};
-ghost use Prim.Native.Nat.{_<_};
-ghost use Rattle.model.specs.Nets.{K};
+ghost use Prim.Native.Nat.{_+_, _≤_, _<_};
+ghost use Rattle.model.specs.Nets.{modeNo, K};
 ghost use Rattle.model.specs.declared.Thing.the-variants.{Argument};
 ghost use Rattle.model.specs.Firing.{absent};
 ghost use Rattle.model.specs.Dead.{kills as killsHere, isDead, firstDead};
 ghost use Rattle.sheets.specs.Decoded.{netOf};
 ghost use Rattle.sheets.specs.Shape.{Open, netArc};
+ghost use Rattle.sheets.specs.Starts.{StartsAre, ModeArcs};
 ghost use Rattle.dead.specs.IsDead.{deadness, deadnessOf};
 ghost use Rattle.dead.specs.FirstDead.{named, firstDeadOf};
 
@@ -71,6 +73,16 @@ pub fn dead_at(s: &[u8], net: NetShape, mode: Mode) -> bool
     false
 }
 
+// The arcs of the t-th mode.
+fn arcs_at(s: &[u8], net: NetShape, table: &[u16; 257], t: usize) -> Segment
+    requires { ⌜ Open (now s) net ⌝ }
+    requires { ⌜ StartsAre (netOf (now s) .arcs) (now table) ⌝ }
+    requires { ⌜ (t < net .modes) × (net .modes ≤ 256) ⌝ }
+    ensures { λ r. ⌜ ModeArcs (netOf (now (s .entry)) .arcs) (modeNo t) (r .start) (r .count) × (r .start + r .count ≤ net .arcs) ⌝ }
+{
+    arcs_of(s, net, table, Mode(t as u16))
+}
+
 // The searches over modes and over their arcs both stop at the first fault; each arc is visited at most once.
 fn search(s: &[u8], net: NetShape) -> FirstDead
     requires { ⌜ Open (now s) net ⌝ }
@@ -81,7 +93,7 @@ fn search(s: &[u8], net: NetShape) -> FirstDead
     let mut found = FirstDead::None;
     let mut t = 0;
     'search: while t < modes {
-        let arcs = arcs_of(s, net, &table, Mode(t as u16));
+        let arcs = arcs_at(s, net, &table, t);
         let end = arcs.start + arcs.count;
         let mut k = arcs.start;
         while k < end {

@@ -27,13 +27,9 @@ abbrev μ-search : tie.MeasureT-search
 search-holds : tie.Need-search-holds Inv-loop μ-loop Inv-search μ-search
 search-holds c = (search needs, search needs, λ u h. absurd (omega arith))
 
-cast-t16 : tie.Need-cast-t16 Inv-loop μ-loop Inv-search μ-search
-cast-t16 c =
-    let o = c .before .before .before .before .before .pre in
-    record { fits = omega (arith, sizes o .modes, sizes o .wellFormed .transitions .inTotal) }
-
-arcs-of-requires : tie.Need-arcs-of-requires Inv-loop μ-loop Inv-search μ-search
-arcs-of-requires c κs = search needs
+arcs-at-requires : tie.Need-arcs-at-requires Inv-loop μ-loop Inv-search μ-search
+arcs-at-requires c κs =
+    (search needs, (search needs, (search needs, sizes (c .before .before .before .before .before .pre) .modesWithin)))
 
 add-end : tie.Need-add-end Inv-loop μ-loop Inv-search μ-search
 add-end c = search needs
@@ -50,10 +46,8 @@ kills-requires c κs = search needs
 add-k : tie.Need-add-k Inv-loop μ-loop Inv-search μ-search
 add-k c =
     let b = c .before .before .before .before .before .before in
-    let o = b .before .before .before .before .before .before .pre in
-    record {
-      fits = omega (arith, c .before .before .before .loop-test .taken, b .arcs-of .ensures .1, sizes o .arcs, sizes o .wellFormed .arcCount);
-    }
+    let most = sizes (b .before .before .before .before .before .before .pre) .arcsWithin in
+    record { fits = omega (arith, c .before .before .before .loop-test .taken, b .arcs-at .ensures .1) }
 
 loop-less : tie.Need-loop-less Inv-loop μ-loop Inv-search μ-search
 loop-less c = search needs
@@ -80,7 +74,7 @@ search-again c =
       search needs,
       search needs,
       below-more _ _ (b .before .before .before .search .inv .2)
-          (none-kills (b .before .before .before .before .before .before .pre) _ _ _ (b .arcs-of .ensures .0) (λ i h. l .inv .3 i (omega (arith, c .loop-test .left)))),
+          (none-kills (b .before .before .before .before .before .before .pre) _ _ _ (b .arcs-at .ensures .0) (λ i h. l .inv .3 i (omega (arith, c .loop-test .left)))),
     )
 
 returns : tie.Need-returns Inv-loop μ-loop Inv-search μ-search
@@ -91,7 +85,7 @@ returns-2 : tie.Need-returns-2 Inv-loop μ-loop Inv-search μ-search
 returns-2 c =
     let b = c .before .before .before .before in
     let l = b .before .before .loop in
-    let a = b .before .before .before .before .arcs-of in
+    let a = b .before .before .before .before .arcs-at in
     let m = b .before .before .before .before .before .before .before .search in
     one-named (b .before .before .before .before .before .before .before .before .before .before .pre) (m .t) _ _ (l .k) (b .before .before .before .before .before .before .search-test .taken) (m .inv .2) (a .ensures .0) (l .inv .0) (b .before .loop-test .taken) (l .inv .3) (b .arc .ensures)
     (sym (arc-kills (b .arc .ensures) (c .before .before .before .kills .ensures)) ∙ c .before .before .if1 .taken)
@@ -106,8 +100,7 @@ search-spec =
     μ-search
     (λ c κs. search needs)
     search-holds
-    cast-t16
-    arcs-of-requires
+    arcs-at-requires
     add-end
     loop-holds
     arc-requires
