@@ -12,7 +12,9 @@ use Rattle.model.specs.declared.Thing.{Thing}
 use Rattle.model.specs.declared.Thing.the-variants.{Argument}
 use Rattle.model.specs.declared.Fault.the-variants.{MarkingOutside, MarkingAboveCapacity}
 use Rattle.model.specs.declared.Refusal.{Refusal}
+use Rattle.model.specs.declared.Answer.{Answer}
 use Rattle.model.specs.First.{_▸_, onlyIf}
+use Rattle.model.specs.Refusals.{answer}
 use Rattle.model.specs.Numbers.{ℕ∞, fin, above, limit}
 use Rattle.model.specs.Rows.{Entry}
 use Rattle.model.specs.Nets.{PNet, pairs, pairNo, K, count, arcNo, row}
@@ -26,6 +28,7 @@ use Rattle.sheets.specs.Decoded.{netOf}
 use Rattle.sheets.specs.Shape.{Open, netArc}
 use Rattle.sheets.specs.Starts.{ModeArcs}
 use Rattle.fire.specs.declared.rule.AtPair.{AtPair}
+use Rattle.fire.specs.Calls.{written}
 
 -- the count of a marking at pair p: "pair by pair 5 before 9"
 unfoldable pub countRefusal : PNet → List ℕ → ℕ → Option Refusal
@@ -100,3 +103,8 @@ refusalOf thing net m t = rowRefusal thing (pairs net) (K net) (row net t) (coun
 -- none of 11 to 14 is found
 abbrev pub Accepts : PNet → List ℕ → Mode → Type 0
 Accepts net m t = (thing : Thing) → refusalOf thing net m t ≡ none
+
+-- a call that is refused by o, or by nothing: what it answers, and what it leaves in the marking that it found
+pub record Leaves (o : Option Refusal) (new found : List ℕ) (a : Answer) (left : List ℕ) : Type 0 where
+  pub answers : a ≡ answer o
+  pub leaves : left ≡ written o new found

@@ -20,7 +20,7 @@ ghost use Rattle.model.specs.Markings.{Marking};
 ghost use Rattle.model.specs.Firing.{fired};
 ghost use Rattle.sheets.specs.Decoded.{netOf};
 ghost use Rattle.sheets.specs.Shape.{Open};
-ghost use Rattle.fire.specs.Parts.{Free, Writable, writtenAt, AtMode, OfMode, stopAt, stopOf, refusalOf, Accepts};
+ghost use Rattle.fire.specs.Parts.{Free, Writable, writtenAt, AtMode, OfMode, stopAt, stopOf, refusalOf, Accepts, Leaves};
 
 fn arc_stop(s: &[u8], net: NetShape, k: usize, thing: Thing, why: Why, marking: &[u32]) -> Answer
     requires { ⌜ Open (now s) net ⌝ }
@@ -130,4 +130,40 @@ pub(crate) fn write_arcs(s: &[u8], net: NetShape, arcs: Segment, marking: &mut [
         write_arc(s, net, start + i, marking);
         i += 1;
     }
+}
+
+// One pass to test; only where it fails a second look for which of 11 to 14 it is.
+pub(crate) fn row_answer(
+    s: &[u8],
+    net: NetShape,
+    arcs: Segment,
+    thing: Thing,
+    marking: &[u32],
+) -> Answer
+    requires { ⌜ AtMode (now s) net arcs (now marking) ⌝ }
+    ensures { λ r. ⌜ OfMode (now (s .entry)) arcs (λ t. r ≡ answer (refusalOf thing (netOf (now (s .entry))) (now (marking .entry)) t)) ⌝ }
+{
+    if arcs_free(s, net, arcs, marking) {
+        return Answer::Accepted;
+    }
+    find_refusal(s, net, arcs, thing, marking)
+}
+
+// Tested first, then written: a refused movement writes nothing.
+pub(crate) fn fire_arcs(
+    s: &[u8],
+    net: NetShape,
+    arcs: Segment,
+    thing: Thing,
+    marking: &mut [u32],
+) -> Answer
+    requires { ⌜ AtMode (now s) net arcs (now marking) ⌝ }
+    ensures { λ r. ⌜ OfMode (now (s .entry)) arcs (λ t. Leaves (refusalOf thing (netOf (now (s .entry))) (now (marking .entry)) t) (fired (netOf (now (s .entry))) t (now (marking .entry))) (now (marking .entry)) r (now (marking .exit))) ⌝ }
+{
+    let answer = row_answer(s, net, arcs, thing, marking);
+    if let Answer::Refused(_) = answer {
+        return answer;
+    }
+    write_arcs(s, net, arcs, marking);
+    answer
 }
