@@ -5,12 +5,13 @@ use mathlib.Core.Bool.{false}
 use mathlib.Core.List.{List}
 use mathlib.Core.Option.{Option, none}
 use lib.ListN.{length, set}
+use lib.Dec.{leb}
 use Rattle.model.specs.declared.Arc.{Arc}
 use Rattle.model.specs.declared.Mode.{Mode}
 use Rattle.model.specs.declared.Why.{Why}
 use Rattle.model.specs.declared.Thing.{Thing}
 use Rattle.model.specs.declared.Thing.the-variants.{Argument}
-use Rattle.model.specs.declared.Fault.the-variants.{MarkingOutside, MarkingAboveCapacity}
+use Rattle.model.specs.declared.Fault.the-variants.{MarkingOutside, MarkingAboveCapacity, NotThere}
 use Rattle.model.specs.declared.Refusal.{Refusal}
 use Rattle.model.specs.declared.Answer.{Answer}
 use Rattle.model.specs.First.{_▸_, onlyIf}
@@ -108,3 +109,7 @@ Accepts net m t = (thing : Thing) → refusalOf thing net m t ≡ none
 pub record Leaves (o : Option Refusal) (new found : List ℕ) (a : Answer) (left : List ℕ) : Type 0 where
   pub answers : a ≡ answer o
   pub leaves : left ≡ written o new found
+
+-- 6: "a movement's mode is not there", of n modes
+unfoldable pub absent : Thing → ℕ → Mode → Option Refusal
+absent thing n t = onlyIf (leb n (t .0)) (wrong thing NotThere)
