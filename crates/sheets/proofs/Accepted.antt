@@ -6,17 +6,17 @@ use mathlib.Core.List.{List}
 use mathlib.Core.Logic.{_⊎_, inl, inr}
 use lib.Dec.{ltb, eqb}
 use native.Mathlib.Omega.{arith}
-use borrow.Author.Tests.{ltb-true, ltb-false, eqb-true, eqb-false, eq-eqb}
+use borrow.Author.Tests.{ltb-true, ltb-false, eqb-true, eq-eqb}
 use Rattle.model.specs.Numbers.{ℕ∞, fin, ∞}
 use Rattle.model.specs.Nets.{K, count}
 use Rattle.model.specs.WellFormed.{InRange, Blank, ArcOf, Rises, Counted}
 use Rattle.model.proofs.Numbers.{above-false}
 use Rattle.sheets.specs.Layout.{totalOf, counts, pairCount, modeCount, arcCount, arcsAt, arcAt}
-use Rattle.sheets.specs.Nets.{unbounded, bound, outside, risesTo, isBlank}
+use Rattle.sheets.specs.Nets.{bound, outside, risesTo, isBlank}
 use Rattle.sheets.specs.Decoded.{netArcAt, netOf}
 use Rattle.sheets.specs.Accepted.{AcceptedNet}
 use Rattle.sheets.proofs.RunningTotals.{RunningRead}
-use Rattle.sheets.proofs.Bounds.{bound-finite}
+use Rattle.sheets.proofs.BoundNumbers.{unbounded-only}
 use Rattle.sheets.proofs.Valid.{ArcRead, counts-hold, colours-hold, modes-hold, capacity-holds, start-holds, arcs-within, arc-holds}
 use Rattle.sheets.proofs.Meaning.{counts-length, counts-at, colours-are, modes-of-are, pairs-are, modes-are, capacities-length, capacity-at, start-length, start-at, arcs-length, arc-at}
 
@@ -26,13 +26,6 @@ in-range x = go (bound x)
     go : (b : ℕ∞) → outside b ≡ false → InRange b
     go (fin n) e = ltb-false _ _ e
     go ∞ e = tt
-
-unbounded-only : (x : ℕ) → bound x ≡ ∞ → x ≡ unbounded
-unbounded-only x e = go (eqb x unbounded) refl
-  where
-    go : (t : Bool) → eqb x unbounded ≡ t → x ≡ unbounded
-    go true h = eqb-true x unbounded h
-    go false h = let z : fin x ≡ ∞ = sym (bound-finite x (eqb-false x unbounded h)) ∙ e in let y : _≡_ {A = ℕ} 0 1 = cc in absurd (omega arith)
 
 counts-counted : (s : List ℕ) (start n : ℕ) → n ≤ 64 → totalOf s start n ≤ 256 → ((i : ℕ) → i < n → RunningRead s start i) → Counted (counts s start n)
 counts-counted s start n h within each =

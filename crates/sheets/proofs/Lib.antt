@@ -2,6 +2,7 @@ pub mod Heads
 pub mod Signs
 pub mod RunningTotals
 pub mod Bounds
+pub mod BoundNumbers
 pub mod PairFields
 pub mod Valid
 pub mod Meaning
@@ -9,3 +10,5 @@ pub mod Accepted
 pub mod Shapes
 pub mod Opening
 pub mod Segments
+pub mod Lists
+pub mod TwosComplement

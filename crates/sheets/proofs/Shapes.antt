@@ -14,7 +14,7 @@ use Rattle.sheets.specs.Layout.{coloursAt, modesAt, counts, placeCount, 
 use Rattle.sheets.specs.Nets.{bound}
 use Rattle.sheets.specs.Decoded.{netArcAt, netOf}
 use Rattle.sheets.specs.Shape.{shapeOf, Open, netArc, ArcIs, arcOffset}
-use Rattle.sheets.proofs.Valid.{headed, colours-hold, modes-hold, start-holds, arc-holds}
+use Rattle.sheets.proofs.Valid.{headed, counts-hold, arcs-within, colours-hold, modes-hold, start-holds, arc-holds}
 use Rattle.sheets.proofs.Meaning.{counts-length, counts-at, colours-are, modes-of-are, pairs-are, modes-are, capacity-at, start-at, arcs-length, arc-at}
 use Rattle.sheets.proofs.Accepted.{well-formed}
 
@@ -35,6 +35,9 @@ pub record Sizes (s : List ℕ) (net : NetShape) : Type 0 where
   pub pairs : net .pairs ≡ pairs (netOf s)
   pub modes : net .modes ≡ modes (netOf s)
   pub arcs : net .arcs ≡ length (netOf s .arcs)
+  pub pairsWithin : net .pairs ≤ 256
+  pub modesWithin : net .modes ≤ 256
+  pub arcsWithin : net .arcs ≤ 2048
   pub wellFormed : WellFormed (netOf s)
 
 -- one of a net's counts, from where it stands
@@ -67,6 +70,9 @@ module _ {s : List ℕ} {net : NetShape} (o : Open s net) where
         pairs = shaped .pairs ∙ sym (pairs-are s);
         modes = shaped .modes ∙ sym (modes-are s);
         arcs = shaped .arcs ∙ sym (arcs-length s);
+        pairsWithin = rw (shaped .pairs) (counts-hold s (o .accepted) .pairs);
+        modesWithin = rw (shaped .modes) (counts-hold s (o .accepted) .modes);
+        arcsWithin = rw (shaped .arcs) (arcs-within s (o .accepted));
         wellFormed = well-formed s (o .accepted);
       }
 
@@ -112,4 +118,4 @@ module _ {s : List ℕ} {net : NetShape} (o : Open s net) where
       let is : netArc a ≡ arcNo (netOf s .arcs) k = e ∙ sym (arc-at s k (rw (← shaped .arcs) h)) in
       let w : ArcOf (netOf s) (netArc a) = rw is (sizes .wellFormed .eachArc k (rw (← sizes .arcs) h)) in
       let z = sizes in
-      record { is = is; mode = omega arith; pair = omega arith; pre = w .pre; post = w .post }
+      record { is = is; mode = omega arith; pair = omega arith; pre = w .pre; post = w .post; inhibitor = w .inhibitor }

@@ -11,3 +11,4 @@ pub mod Accepted
 pub mod Shape
 pub mod Opened
 pub mod Starts
+pub mod Listed

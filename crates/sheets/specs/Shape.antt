@@ -6,6 +6,7 @@ use mathlib.Core.Option.{none}
 use Rattle.model.specs.declared.Arc.{Arc}
 use Rattle.model.specs.Numbers.{limit}
 use Rattle.model.specs.Nets.{NetArc, arcNo}
+use Rattle.model.specs.WellFormed.{InRange}
 use Rattle.sheets.specs.declared.shape.NetShape.{NetShape}
 use Rattle.sheets.specs.Layout.{placeCount, transitionCount, pairCount, modeCount, arcCount, pairsAt, arcsAt, arcAt}
 use Rattle.sheets.specs.Nets.{bound, netRefusal}
@@ -40,6 +41,7 @@ pub record ArcIs (s : List ℕ) (net : NetShape) (k : ℕ) (a : Arc) : Type 0 wh
   pub pair : a .pair .0 < net .pairs
   pub pre : a .pre ≤ limit
   pub post : a .post ≤ limit
+  pub inhibitor : InRange (bound (a .inhibitor))
 
 -- "the position of a field, an arc or a byte is the offset of its first byte"
 unfoldable pub arcOffset : List ℕ → ℕ → ℕ

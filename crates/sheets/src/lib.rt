@@ -3,10 +3,12 @@
 mod arcs;
 pub mod bytes;
 mod counts;
+pub mod finite;
 pub mod head;
+pub mod listed;
 pub mod movements;
 pub mod net;
-mod numbers;
+pub mod numbers;
 pub mod opened;
 mod pairs;
 pub mod shape;

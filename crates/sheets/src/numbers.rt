@@ -13,7 +13,7 @@ pub(crate) fn bound_outside(x: u32) -> bool
 }
 
 // A count above a finite K.
-pub(crate) fn above_bound(count: u32, x: u32) -> bool
+pub fn above_bound(count: u32, x: u32) -> bool
     ensures { λ r. ⌜ r ≡ above count (bound x) ⌝ }
 {
     if x == 0xffff_ffff {
