@@ -1,11 +1,12 @@
 // What a mode meets at one of its pairs: refusals 11 to 14, the count after firing, and the one number that stands for all four tests.
 use model::Arc;
 use model::Why;
+use sheets::numbers::above_bound;
 ghost use mathlib.Core.Path.{_≡_};
 ghost use mathlib.Core.Bool.{true};
 ghost use mathlib.Core.Logic.{_↔_};
 ghost use Prim.Native.Nat.{_≤_, min};
-ghost use Rattle.model.specs.Numbers.{above, limit};
+ghost use Rattle.model.specs.Numbers.{limit};
 ghost use Rattle.model.specs.Firing.{after, stops};
 ghost use Rattle.model.proofs.PassBelow.{passBelow};
 ghost use Rattle.sheets.specs.Nets.{bound};
@@ -17,13 +18,6 @@ pub struct AtPair {
     pub arc: Arc,
     pub capacity: u32,
     pub count: u32,
-}
-
-// Nothing of 32 bits is above the largest such number, which means unbounded.
-pub(crate) fn is_above(number: u32, most: u32) -> bool
-    ensures { λ r. ⌜ r ≡ above number (bound most) ⌝ }
-{
-    most < number
 }
 
 // "Firing gives M - Pre + Post."
@@ -45,8 +39,8 @@ pub(crate) fn is_stopped(why: Why, at: AtPair) -> bool
     let arc = at.arc;
     match why {
         Why::Lacking => at.count < arc.pre,
-        Why::OverCapacity => is_above(at.count + arc.post, at.capacity),
-        Why::Inhibited => is_above(at.count, arc.inhibitor),
+        Why::OverCapacity => above_bound(at.count + arc.post, at.capacity),
+        Why::Inhibited => above_bound(at.count, arc.inhibitor),
         Why::OverLimit => 1_000_000 < moved(arc, at.count),
     }
 }
