@@ -20,7 +20,7 @@ by-bound P x infinite finite = go (eqb x unbounded) refl
     go true e = let q = eqb-true x unbounded e in rw (bound-unbounded x q) (infinite q)
     go false e = rw (bound-finite x (eqb-false x unbounded e)) finite
 
-pub bound-above : (n x : ℕ) → n ≤ unbounded → above n (bound x) ≡ ltb x n
+bound-above : (n x : ℕ) → n ≤ unbounded → above n (bound x) ≡ ltb x n
 bound-above n x h = by-bound (λ b. above n b ≡ ltb x n) x (λ q. sym (le-ltb x n (omega arith))) refl
 
 -- the least of two numbers, where the second is not near 4,294,967,295

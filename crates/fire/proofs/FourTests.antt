@@ -11,7 +11,7 @@ use Rattle.model.specs.Rows.{Entry}
 use Rattle.model.specs.Firing.{stops}
 use Rattle.fire.specs.Parts.{Unstopped}
 
-clash : {A : Type 0} → true ≡ false → A
+pub clash : {A : Type 0} → true ≡ false → A
 clash e = let z : _≡_ {A = ℕ} 0 1 = cc in absurd (omega arith)
 
 module _ (e : Entry) (k : ℕ∞) (m : ℕ) where

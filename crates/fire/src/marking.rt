@@ -1,10 +1,10 @@
 // The test of a marking that a call takes: one count for each pair (17), then pair by pair 5 before 9.
-use crate::rule::is_above;
 use model::Answer;
 use model::Fault;
 use model::Pair;
 use model::Thing;
 use sheets::head::refused;
+use sheets::numbers::above_bound;
 use sheets::shape::NetShape;
 use sheets::shape::capacity;
 ghost use mathlib.Core.Path.{_≡_};
@@ -27,7 +27,7 @@ fn count_answer(s: &[u8], net: NetShape, p: usize, marking: &[u32]) -> Answer
     if 1_000_000 < count {
         return refused(Thing::Argument, Fault::MarkingOutside(pair));
     }
-    if is_above(count, capacity(s, net, pair)) {
+    if above_bound(count, capacity(s, net, pair)) {
         return refused(Thing::Argument, Fault::MarkingAboveCapacity(pair));
     }
     Answer::Accepted

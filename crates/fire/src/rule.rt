@@ -1,22 +1,23 @@
-// What one arc compares at its pair: refusals 11 to 14, the count after firing, and the one number that stands for all four tests.
+// What a mode meets at one of its pairs: refusals 11 to 14, the count after firing, and the one number that stands for all four tests.
 use model::Arc;
 use model::Why;
+use sheets::numbers::above_bound;
 ghost use mathlib.Core.Path.{_≡_};
 ghost use mathlib.Core.Bool.{true};
 ghost use mathlib.Core.Logic.{_↔_};
 ghost use Prim.Native.Nat.{_≤_, min};
-ghost use Rattle.model.specs.Numbers.{limit, above};
+ghost use Rattle.model.specs.Numbers.{limit};
 ghost use Rattle.model.specs.Firing.{after, stops};
 ghost use Rattle.model.proofs.PassBelow.{passBelow};
 ghost use Rattle.sheets.specs.Nets.{bound};
 ghost use Rattle.sheets.specs.Shape.{netArc};
-ghost use Rattle.fire.specs.Parts.{InRange, Unstopped};
+ghost use Rattle.fire.specs.Parts.{InRange, Counted, Unstopped};
 
-// Nothing of 32 bits is above the largest such number, which means unbounded.
-pub(crate) fn is_above(number: u32, most: u32) -> bool
-    ensures { λ r. ⌜ r ≡ above number (bound most) ⌝ }
-{
-    most < number
+// An arc, K of its pair as the sheet writes it, and the count there.
+pub struct AtPair {
+    pub arc: Arc,
+    pub capacity: u32,
+    pub count: u32,
 }
 
 // "Firing gives M - Pre + Post."
@@ -31,35 +32,34 @@ pub(crate) fn moved(arc: Arc, count: u32) -> u32
     count - arc.pre + arc.post
 }
 
-pub(crate) fn is_stopped(why: Why, arc: Arc, capacity: u32, count: u32) -> bool
-    requires { ⌜ InRange arc ⌝ }
-    requires { ⌜ count ≤ limit ⌝ }
-    ensures { λ r. ⌜ r ≡ stops why (netArc arc .entry) (bound capacity) count ⌝ }
+pub(crate) fn is_stopped(why: Why, at: AtPair) -> bool
+    requires { ⌜ Counted at ⌝ }
+    ensures { λ r. ⌜ r ≡ stops why (netArc (at .arc) .entry) (bound (at .capacity)) (at .count) ⌝ }
 {
+    let arc = at.arc;
     match why {
-        Why::Lacking => count < arc.pre,
-        Why::OverCapacity => is_above(count + arc.post, capacity),
-        Why::Inhibited => is_above(count, arc.inhibitor),
-        Why::OverLimit => 1_000_000 < moved(arc, count),
+        Why::Lacking => at.count < arc.pre,
+        Why::OverCapacity => above_bound(at.count + arc.post, at.capacity),
+        Why::Inhibited => above_bound(at.count, arc.inhibitor),
+        Why::OverLimit => 1_000_000 < moved(arc, at.count),
     }
 }
 
-// All four tests at one arc.
-pub(crate) fn is_free(arc: Arc, capacity: u32, count: u32) -> bool
-    requires { ⌜ InRange arc ⌝ }
-    requires { ⌜ count ≤ limit ⌝ }
-    ensures { λ r. ⌜ (r ≡ true) ↔ Unstopped (netArc arc .entry) (bound capacity) count ⌝ }
+// All four tests.
+pub(crate) fn is_free(at: AtPair) -> bool
+    requires { ⌜ Counted at ⌝ }
+    ensures { λ r. ⌜ (r ≡ true) ↔ Unstopped (netArc (at .arc) .entry) (bound (at .capacity)) (at .count) ⌝ }
 {
-    if is_stopped(Why::Lacking, arc, capacity, count) {
+    if is_stopped(Why::Lacking, at) {
         return false;
     }
-    if is_stopped(Why::OverCapacity, arc, capacity, count) {
+    if is_stopped(Why::OverCapacity, at) {
         return false;
     }
-    if is_stopped(Why::Inhibited, arc, capacity, count) {
+    if is_stopped(Why::Inhibited, at) {
         return false;
     }
-    if is_stopped(Why::OverLimit, arc, capacity, count) {
+    if is_stopped(Why::OverLimit, at) {
         return false;
     }
     true

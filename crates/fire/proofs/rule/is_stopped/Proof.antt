@@ -4,13 +4,13 @@ use Rattle.fire.proofs.rule.is_stopped.Statement.{statement}
 use Rattle.fire.proofs.rule.is_stopped.Tie as tie
 
 returns : tie.Need-returns
-returns c = rw (c .before .enum-told .given .1)
+returns c = rw (c .before .before .enum-told .given .1)
 
 returns-2 : tie.Need-returns-2
-returns-2 c = rw (c .before .before .enum-told2 .given .1) (c .is-above .ensures)
+returns-2 c = rw (c .before .before .before .enum-told2 .given .1) (c .above-bound .ensures)
 
 returns-3 : tie.Need-returns-3
-returns-3 c = rw (c .before .enum-told3 .given .1) (c .is-above2 .ensures)
+returns-3 c = rw (c .before .enum-told3 .given .1) (c .above-bound2 .ensures)
 
 returns-4 : tie.Need-returns-4
 returns-4 c = rw (c .before .enum-told4 .given .1, c .moved .ensures)
