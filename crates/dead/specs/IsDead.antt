@@ -8,6 +8,7 @@ use Rattle.model.specs.declared.Thing.the-variants.{Argument}
 use Rattle.model.specs.declared.Refusal.{Refusal}
 use Rattle.model.specs.First.{_▸_}
 use Rattle.model.specs.Replies.{Reply, yields, refuses}
+use Rattle.model.specs.Nets.{modes}
 use Rattle.model.specs.Firing.{absent}
 use Rattle.model.specs.Dead.{isDead}
 use Rattle.sheets.specs.Whole.{wholeNet}
@@ -28,7 +29,7 @@ told Alive = yields false
 told (Refused r) = refuses r
 
 unfoldable pub deadRefusal : List ℕ → Mode → Option Refusal
-deadRefusal net t = wholeNet net ▸ absent Argument (netOf net) t
+deadRefusal net t = wholeNet net ▸ absent Argument (modes (netOf net)) t
 
 abbrev pub deadnessOf : List ℕ → Mode → Deadness
 deadnessOf net t = deadness (deadRefusal net t) (isDead (netOf net) t)

@@ -18,7 +18,7 @@ use sheets::starts::starts;
 ghost use mathlib.Core.Path.{_≡_};
 ghost use mathlib.Core.Option.{none};
 ghost use Prim.Native.Nat.{_+_, _≤_, _<_};
-ghost use Rattle.model.specs.Nets.{modeNo, K};
+ghost use Rattle.model.specs.Nets.{modes, modeNo, K};
 ghost use Rattle.model.specs.declared.Thing.the-variants.{Argument};
 ghost use Rattle.model.specs.Firing.{absent};
 ghost use Rattle.model.specs.Dead.{kills as killsHere, isDead, firstDead};
@@ -113,7 +113,7 @@ fn search(s: &[u8], net: NetShape) -> FirstDead
 
 fn mode_answer(s: &[u8], net: NetShape, mode: Mode) -> Deadness
     requires { ⌜ Open (now s) net ⌝ }
-    ensures { λ r. ⌜ r ≡ deadness (absent Argument (netOf (now (s .entry))) mode) (isDead (netOf (now (s .entry))) mode) ⌝ }
+    ensures { λ r. ⌜ r ≡ deadness (absent Argument (modes (netOf (now (s .entry)))) mode) (isDead (netOf (now (s .entry))) mode) ⌝ }
 {
     if net.modes <= mode.0 as usize {
         return Deadness::Refused(Refusal {

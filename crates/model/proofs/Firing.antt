@@ -97,11 +97,11 @@ module _ (about : Thing) (n : ℕ) (k : Capacities) (r : Row) (M : Counts) where
       (λ p l. not-above (M p) (r p .inhibitor) (h .uninhibited p l))
 
 -- 6: whether a mode is there
-pub mode-there : (about : Thing) (net : PNet) (t : Mode) → t .0 < modes net → absent about net t ≡ none
-mode-there about net t h = rw (lt-leb (modes net) (t .0) h)
+pub mode-there : (about : Thing) (n : ℕ) (t : Mode) → t .0 < n → absent about n t ≡ none
+mode-there about n t h = rw (lt-leb n (t .0) h)
 
-pub mode-missing : (about : Thing) (net : PNet) (t : Mode) → modes net ≤ t .0 → absent about net t ≡ some (record { thing = about; fault = NotThere })
-mode-missing about net t h = rw (le-leb (modes net) (t .0) h)
+pub mode-missing : (about : Thing) (n : ℕ) (t : Mode) → n ≤ t .0 → absent about n t ≡ some (record { thing = about; fault = NotThere })
+mode-missing about n t h = rw (le-leb n (t .0) h)
 
 -- The rows of the table, for one call.
 module _ (about : Thing) (net : PNet) (t : Mode) (m : List ℕ) where
@@ -119,11 +119,11 @@ module _ (about : Thing) (net : PNet) (t : Mode) (m : List ℕ) where
 
   pub there : Here → refusal ≡ rowRefusal about (pairs net) (K net) (row net t) (count m)
   unfolding modeRefusal
-  there h = none-then (mode-there about net t h) refl
+  there h = none-then (mode-there about (modes net) t h) refl
 
   pub missing : modes net ≤ t .0 → refusal ≡ some (record { thing = about; fault = NotThere })
   unfolding modeRefusal
-  missing h = some-then _ (mode-missing about net t h)
+  missing h = some-then _ (mode-missing about (modes net) t h)
 
   here : {o : Option Refusal} → Here → rowRefusal about (pairs net) (K net) (row net t) (count m) ≡ o → refusal ≡ o
   here h e = there h ∙ e

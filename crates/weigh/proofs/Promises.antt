@@ -33,14 +33,15 @@ module _ (net weights marking : List ℕ) (t : Mode) (e : figureRefusal net weig
 
   change-accepted : changeRefusal net weights t ≡ none
   unfolding figureRefusal changeRefusal modeRefusal
-  change-accepted = none-then (left-none _ _ e) (left-none _ _ mode-accepted)
+  change-accepted = none-then (left-none _ _ e) (none-then (left-none _ _ (right-none _ _ e)) (left-none _ _ mode-accepted))
 
   after-accepted : figureRefusal net weights (fired (netOf net) t marking) ≡ none
   unfolding figureRefusal
   after-accepted =
       none-then (left-none _ _ e)
+      (none-then (left-none _ _ (right-none _ _ e))
       (marking-test (netOf net) _ .1
-      (marking-kept Argument (netOf net) t marking (marking-test (netOf net) marking .0 (right-none _ _ e)) mode-accepted))
+      (marking-kept Argument (netOf net) t marking (marking-test (netOf net) marking .0 (right-none _ _ (right-none _ _ e))) mode-accepted)))
 
 pub figure-fired : FigureFired
 figure-fired net weights marking t e f =

@@ -27,11 +27,3 @@ size-product a b {m} {n} h l = rw (size-mul a b) (le-trans (mul-le-mul-right (na
 pub size-difference : (a b : ℕ) {n : ℕ} → a ≤ n → b ≤ n → natAbs (pos a -ℤ pos b) ≤ n
 size-difference a b {n} h l =
     ⊎-elim (λ (q : a < b). rw (minus-below a b q) (omega arith)) (λ (q : b ≤ a). rw (minus-is a b q) (omega arith)) (below-or a b)
-
--- one term more: a sum of at most 4,096 terms, each within 10^12, fits
-pub next-fits : (f : ℕ → ℤ) (n i : ℕ) {a b : ℤ} → i < n → n ≤ 4096 → ((k : ℕ) → k < n → natAbs (f k) ≤ 1000000000000)
-    → a ≡ sum i f → b ≡ f i → SFits w64 (a +ℤ b)
-next-fits f n i {a} {b} h l each p q =
-    rw (p, q)
-    (fits-size w64 (sum i f +ℤ f i)
-    (omega (arith, size-add (sum i f) (f i), size-sum i f 1000000000000 (λ k b. each k (omega arith)), each i h)))

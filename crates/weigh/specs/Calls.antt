@@ -9,7 +9,7 @@ use Rattle.model.specs.declared.Thing.the-variants.{Argument}
 use Rattle.model.specs.declared.Refusal.{Refusal}
 use Rattle.model.specs.First.{_▸_}
 use Rattle.model.specs.Replies.{Reply, yields, refuses}
-use Rattle.model.specs.Nets.{pairs}
+use Rattle.model.specs.Nets.{pairs, modes}
 use Rattle.model.specs.Markings.{markingRefusal}
 use Rattle.model.specs.Firing.{absent}
 use Rattle.model.specs.Figures.{figure, change}
@@ -28,15 +28,11 @@ abbrev pub told : Figured → Reply ℤ
 told (Is value) = yields value
 told (Refused r) = refuses r
 
--- the net's sheet and a weight sheet for its pairs
-unfoldable pub sheetsRefusal : List ℕ → List ℕ → Option Refusal
-sheetsRefusal net weights = wholeNet net ▸ wholeWeights (pairs (netOf net)) weights
-
 unfoldable pub figureRefusal : List ℕ → List ℕ → List ℕ → Option Refusal
-figureRefusal net weights marking = sheetsRefusal net weights ▸ markingRefusal (netOf net) marking
+figureRefusal net weights marking = wholeNet net ▸ wholeWeights (pairs (netOf net)) weights ▸ markingRefusal (netOf net) marking
 
 unfoldable pub changeRefusal : List ℕ → List ℕ → Mode → Option Refusal
-changeRefusal net weights t = sheetsRefusal net weights ▸ absent Argument (netOf net) t
+changeRefusal net weights t = wholeNet net ▸ wholeWeights (pairs (netOf net)) weights ▸ absent Argument (modes (netOf net)) t
 
 abbrev pub figureOf : List ℕ → List ℕ → List ℕ → Figured
 figureOf net weights marking = figured (figureRefusal net weights marking) (figure (netOf net) (weightsOf weights) marking)

@@ -9,10 +9,10 @@ use mir.Val.{SFits, toZ, ofZ}
 use mir.Facts.{toZ-ofZ, toZ-pos, sfits-widen}
 use native.Mathlib.Omega.{arith}
 use Rattle.weigh.proofs.Sizes.{fits-size, size-product, size-difference}
-use Rattle.weigh.proofs.gain.Statement.{statement}
-use Rattle.weigh.proofs.gain.Tie as tie
-use Rattle.weigh.proofs.gain.Reads as reads
-use Rattle.weigh.proofs.gain.Lts as lts
+use Rattle.weigh.proofs.sums.gain.Statement.{statement}
+use Rattle.weigh.proofs.sums.gain.Tie as tie
+use Rattle.weigh.proofs.sums.gain.Reads as reads
+use Rattle.weigh.proofs.sums.gain.Lts as lts
 
 cast-result : tie.Need-cast-result
 cast-result c = rw (toZ-ofZ (c .fits .weight)) (sfits-widen tt (c .fits .weight))
