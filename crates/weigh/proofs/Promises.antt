@@ -20,6 +20,7 @@ use Rattle.weigh.specs.Promises.{FigureIsSum, FigureFired}
 
 -- an accepted call has its value
 value-is : {o : Option Refusal} {z : ℤ} → o ≡ none → told (figured o z) .value ≡ some z
+unfolding figured
 value-is e = rw e
 
 pub figure-is-sum : FigureIsSum

@@ -1,17 +1,14 @@
 -- Sizes: what keeps an exact product and an exact sum within 64 bits.
 use Prim.Native.Nat.{ℕ, _*_, _^_, _≤_, _<_}
-use mathlib.Core.Path.{_≡_}
 use mathlib.Core.Logic.{⊎-elim}
-use lib.IntN.{ℤ, pos, negsuc, natAbs, _+ℤ_, _*ℤ_, _-ℤ_}
+use lib.IntN.{ℤ, pos, negsuc, natAbs, _*ℤ_, _-ℤ_}
 use lib.Signed.{mag}
-use mir.Syntax.{Width, w64}
+use mir.Syntax.{Width}
 use mir.Val.{SFits, hbits}
 use native.Mathlib.Omega.{arith}
 use native.Mathlib.Nat.{le-trans, mul-le-mul-left, mul-le-mul-right}
 use Rattle.model.proofs.First.{below-or}
-use Rattle.model.specs.Figures.{sum}
-use Rattle.model.proofs.Integers.{size-add, size-mul}
-use Rattle.model.proofs.Figures.{size-sum}
+use Rattle.model.proofs.Integers.{size-mul}
 use Rattle.model.proofs.Numbers.{minus-is, minus-below}
 
 mag-size : (z : ℤ) → mag z ≤ natAbs z

@@ -1,6 +1,6 @@
 -- A sum that the machine adds up term by term: each of its steps is exact.
 use Prim.Native.Nat.{ℕ, _+_, _*_, _^_, _≤_, _<_}
-use mathlib.Core.Path.{_≡_, sym, _∙_, ap, ap₂}
+use mathlib.Core.Path.{_≡_, sym, _∙_, ap₂}
 use mathlib.Core.List.{List}
 use mathlib.Core.Option.{none}
 use lib.IntN.{ℤ, pos, natAbs, _+ℤ_, _*ℤ_}
@@ -9,15 +9,18 @@ use mir.Syntax.{w64}
 use mir.Val.{SFits, hbits, toZ, ofZ}
 use mir.Facts.{toZ-ofZ}
 use native.Mathlib.Omega.{arith}
+use Rattle.model.specs.declared.Mode.{Mode}
 use Rattle.model.specs.Nets.{arcNo, count}
 use Rattle.model.specs.Markings.{Marking}
-use Rattle.model.specs.Figures.{sum, weight}
+use Rattle.model.specs.Figures.{sum, weight, change}
 use Rattle.model.proofs.Integers.{size-add}
-use Rattle.model.proofs.Figures.{sum-more, size-sum, gain}
+use Rattle.model.proofs.Figures.{sum-more, size-sum, gain, change-by-arcs}
 use Rattle.sheets.specs.declared.shape.NetShape.{NetShape}
 use Rattle.sheets.specs.Weights.{weightsRefusal}
 use Rattle.sheets.specs.Decoded.{netOf, weightsOf}
 use Rattle.sheets.specs.Shape.{Open}
+use Rattle.sheets.specs.Starts.{ModeArcs}
+use Rattle.sheets.proofs.Segments.{mode-lists}
 use Rattle.sheets.proofs.Lists.{weights-within}
 use Rattle.sheets.proofs.Shapes.{sizes}
 use Rattle.weigh.proofs.Sizes.{fits-size, size-product, size-difference}
@@ -63,3 +66,9 @@ module _ {s : List ℕ} {net : NetShape} (o : Open s net) (w : List ℕ) (accept
             (weights-within (net .pairs) w accepted .1 _ (rw (sizes o .pairs) (arc .pair)))
             (size-difference _ _ (arc .post) (arc .pre));
       }
+
+-- what a mode's own arcs add up to is its weight change
+pub gains-change : {s : List ℕ} {net : NetShape} → Open s net → (w : List ℕ) (t : Mode) (start count : ℕ) → ModeArcs (netOf s .arcs) t start count
+    → sum count (λ k. gain (weightsOf w) (arcNo (netOf s .arcs) (start + k))) ≡ change (netOf s) (weightsOf w) t
+gains-change {s} o w t start count arcs =
+    sym (change-by-arcs (netOf s) (weightsOf w) t (mode-lists (netOf s) (sizes o .wellFormed) t start count arcs))

@@ -19,7 +19,7 @@ use Rattle.weigh.specs.declared.Figured.{Figured}
 use Rattle.weigh.specs.declared.Figured.the-variants.{Is, Refused}
 
 -- the first refusal, if there is one, or the value
-abbrev pub figured : Option Refusal → ℤ → Figured
+unfoldable pub figured : Option Refusal → ℤ → Figured
 figured none value = Is value
 figured (some r) value = Refused r
 

@@ -1,7 +1,5 @@
 -- Pre is looked at first, then Post.
 use borrow.Author.Needs.{needs}
-use mathlib.Core.Path.{sym}
-use Rattle.model.specs.Numbers.{above}
 use Rattle.dead.proofs.kills.Statement.{statement}
 use Rattle.dead.proofs.kills.Tie as tie
 

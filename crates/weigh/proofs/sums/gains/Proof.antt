@@ -1,15 +1,13 @@
 -- The sum so far is that of the first k arcs.
 use borrow.Author.Needs.{needs}
 use Prim.Native.Nat.{_+_, _≤_, _-_}
-use mathlib.Core.Path.{_≡_, refl, _∙_, ap}
+use mathlib.Core.Path.{_≡_, refl}
 use mir.Syntax.{w64}
 use mir.Val.{toZ}
-use native.Mathlib.Omega.{arith}
 use Rattle.model.specs.Nets.{arcNo}
 use Rattle.model.specs.Figures.{sum as sumTo}
 use Rattle.model.proofs.Figures.{sum-end, gain}
 use Rattle.sheets.specs.Decoded.{netOf, weightsOf}
-use Rattle.sheets.proofs.Shapes.{sizes}
 use Rattle.weigh.proofs.Terms.{next-fits, next-is, change-terms}
 use Rattle.weigh.proofs.sums.gains.Statement.{statement}
 use Rattle.weigh.proofs.sums.gains.Tie as tie

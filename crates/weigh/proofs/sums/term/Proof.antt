@@ -1,6 +1,6 @@
 -- A count less none is the count.
 use borrow.Author.Needs.{needs}
-use mathlib.Core.Path.{_∙_, ap, ap₂}
+use mathlib.Core.Path.{_∙_, ap₂}
 use lib.IntN.{pos, _*ℤ_, +ℤ-idr}
 use mir.Facts.{toZ-ofZ}
 use Rattle.weigh.proofs.sums.term.Statement.{statement}
