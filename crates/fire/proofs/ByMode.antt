@@ -12,15 +12,20 @@ use Rattle.model.specs.declared.Thing.the-variants.{Argument}
 use Rattle.model.specs.declared.Why.{Why}
 use Rattle.model.specs.declared.Why.the-variants.{Lacking, OverCapacity, Inhibited, OverLimit}
 use Rattle.model.specs.declared.Answer.{Answer}
+use Rattle.model.specs.declared.Answer.the-variants.{Accepted}
 use Rattle.model.specs.First.{_▸_, first}
 use Rattle.model.specs.Refusals.{answer}
 use Rattle.model.specs.Nets.{NetArc, PNet, pairs, K, count, arcNo, row}
+use Rattle.model.specs.Markings.{markingRefusal}
 use Rattle.model.specs.Firing.{ruleRefusal, rowRefusal, fired}
 use Rattle.model.proofs.First.{then-assoc}
+use Rattle.model.proofs.Markings.{marking-test}
+use Rattle.model.proofs.Refusals.{answer-none}
 use Rattle.model.proofs.ByArcs.{Listing, arcs-stop, arcs-accept, writeArcs, write-next, write-length, write-keeps, fired-by-arcs}
 use Rattle.sheets.specs.declared.shape.NetShape.{NetShape}
 use Rattle.sheets.specs.declared.starts.Segment.{Segment}
 use Rattle.sheets.specs.Decoded.{netOf}
+use Rattle.sheets.specs.Shape.{Open}
 use Rattle.sheets.specs.Starts.{ModeArcs}
 use Rattle.sheets.proofs.Shapes.{sizes}
 use Rattle.sheets.proofs.Segments.{mode-lists}
@@ -71,6 +76,12 @@ module _ {s : List ℕ} {net : NetShape} {arcs : Segment} {m : List ℕ} (h : At
 
   pub fires : (i : ℕ) → i ≤ arcs .count → arcs .count ≤ i → writeArcs arc i m ≡ fired (netOf s) t m
   fires i b l = let e : i ≡ arcs .count = omega arith in rw e (sym (fired-by-arcs (netOf s) t m (h .marking) listing))
+
+-- the arcs of a mode, once the net is open and the marking accepted
+pub at-mode : {s : List ℕ} {net : NetShape} {arcs : Segment} {m : List ℕ} {a : Answer} → Open s net → a ≡ answer (markingRefusal (netOf s) m) → a ≡ Accepted
+    → (t : Mode) → ModeArcs (netOf s .arcs) t (arcs .start) (arcs .count) × (arcs .start + arcs .count ≤ net .arcs) → AtMode s net arcs m
+at-mode {s} {m = m} o e h t own =
+    record { opened = o; marking = marking-test (netOf s) m .0 (answer-none _ e h); inside = own .1; mode = t; own = own .0 }
 
 -- "6, 11 over all pairs, 12, 13, 14": the answer is that of the four in turn
 pub in-order : {a : Answer} (thing : Thing) (net : PNet) (m : List ℕ) (t : Mode)

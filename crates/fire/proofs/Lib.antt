@@ -4,4 +4,5 @@ pub mod FourTests
 pub mod Leaving
 pub mod Meets
 pub mod Opened
+pub mod Opening
 pub mod Promises

@@ -19,8 +19,8 @@ use Rattle.model.specs.Refusals.{answer}
 use Rattle.model.specs.Numbers.{ℕ∞, fin, above, limit}
 use Rattle.model.specs.Rows.{Entry}
 use Rattle.model.specs.Nets.{PNet, pairs, pairNo, K, count, arcNo, row}
-use Rattle.model.specs.Markings.{Marking}
-use Rattle.model.specs.Firing.{after, stops, stopped, lowestStop, rowRefusal}
+use Rattle.model.specs.Markings.{Marking, markingRefusal}
+use Rattle.model.specs.Firing.{after, stops, stopped, lowestStop, rowRefusal, modeRefusal}
 use Rattle.sheets.specs.declared.shape.NetShape.{NetShape}
 use Rattle.sheets.specs.declared.starts.Segment.{Segment}
 use Rattle.sheets.specs.Nets.{bound}
@@ -113,3 +113,7 @@ pub record Leaves (o : Option Refusal) (new found : List ℕ) (a : Answer) (left
 -- 6: "a movement's mode is not there", of n modes
 unfoldable pub absent : Thing → ℕ → Mode → Option Refusal
 absent thing n t = onlyIf (leb n (t .0)) (wrong thing NotThere)
+
+-- the marking, then the mode, of a call that takes both
+abbrev pub argumentRefusal : PNet → List ℕ → Mode → Option Refusal
+argumentRefusal net m t = markingRefusal net m ▸ modeRefusal Argument net t m

@@ -1,6 +1,80 @@
 // Movements over a lent marking: begin, test, fire, run, certify.
+// What each call answers, and what it leaves in the marking, is said in specs/Calls.antt.
+use crate::advance::mode_answer;
+use crate::marking::marking_answer;
+use crate::mode::fire_arcs;
+use crate::mode::row_answer;
+use model::Answer;
+use model::Mode;
+use model::Thing;
+use sheets::opened::Opened;
+use sheets::opened::open_net;
+use sheets::shape::NetShape;
+use sheets::starts::find_arcs;
+ghost use mathlib.Core.Path.{_≡_};
+ghost use Rattle.model.specs.Refusals.{answer};
+ghost use Rattle.model.specs.Firing.{fired};
+ghost use Rattle.sheets.specs.Decoded.{netOf};
+ghost use Rattle.sheets.specs.Shape.{Open};
+ghost use Rattle.fire.specs.Calls.{testRefusal, firedBy};
+ghost use Rattle.fire.specs.Parts.{argumentRefusal, Leaves};
+
 pub mod advance;
 mod arcs;
 pub mod marking;
 mod mode;
 mod rule;
+
+fn test_open(s: &[u8], net: NetShape, marking: &[u32], mode: Mode) -> Answer
+    requires { ⌜ Open (now s) net ⌝ }
+    ensures { λ r. ⌜ r ≡ answer (argumentRefusal (netOf (now (s .entry))) (now (marking .entry)) mode) ⌝ }
+{
+    let answer = marking_answer(s, net, marking);
+    if let Answer::Refused(_) = answer {
+        return answer;
+    }
+    let there = mode_answer(net, Thing::Argument, mode);
+    if let Answer::Refused(_) = there {
+        return there;
+    }
+    row_answer(s, net, find_arcs(s, net, mode), Thing::Argument, marking)
+}
+
+// Whether the mode may fire.
+pub fn test(net: &[u8], marking: &[u32], mode: Mode) -> Answer
+    ensures { λ r. ⌜ r ≡ answer (testRefusal (now (net .entry)) (now (marking .entry)) mode) ⌝ }
+{
+    let opened = open_net(net);
+    match opened {
+        Opened::Refused(refusal) => Answer::Refused(refusal),
+        Opened::Open(shape) => test_open(net, shape, marking, mode),
+    }
+}
+
+fn fire_open(s: &[u8], net: NetShape, marking: &mut [u32], mode: Mode) -> Answer
+    requires { ⌜ Open (now s) net ⌝ }
+    ensures { λ r. ⌜ Leaves (argumentRefusal (netOf (now (s .entry))) (now (marking .entry)) mode) (fired (netOf (now (s .entry))) mode (now (marking .entry))) (now (marking .entry)) r (now (marking .exit)) ⌝ }
+{
+    let answer = marking_answer(s, net, marking);
+    if let Answer::Refused(_) = answer {
+        return answer;
+    }
+    let there = mode_answer(net, Thing::Argument, mode);
+    if let Answer::Refused(_) = there {
+        return there;
+    }
+    let arcs = find_arcs(s, net, mode);
+    fire_arcs(s, net, arcs, Thing::Argument, marking)
+}
+
+// Fires the mode where it may, and writes nothing where it may not.
+pub fn fire(net: &[u8], marking: &mut [u32], mode: Mode) -> Answer
+    ensures { λ r. ⌜ r ≡ answer (testRefusal (now (net .entry)) (now (marking .entry)) mode) ⌝ }
+    ensures { λ r. ⌜ now (marking .exit) ≡ firedBy (now (net .entry)) (now (marking .entry)) mode ⌝ }
+{
+    let opened = open_net(net);
+    match opened {
+        Opened::Refused(refusal) => Answer::Refused(refusal),
+        Opened::Open(shape) => fire_open(net, shape, marking, mode),
+    }
+}
