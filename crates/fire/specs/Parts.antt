@@ -1,17 +1,17 @@
 -- What the private functions and the shared parts of this crate speak of, beyond the calls.
 use Prim.Native.Nat.{ℕ, _+_, _≤_, _<_}
 use mathlib.Core.Path.{_≡_}
-use mathlib.Core.Bool.{false}
+use mathlib.Core.Bool.{false, not}
 use mathlib.Core.List.{List}
 use mathlib.Core.Option.{Option, none}
 use lib.ListN.{length, set}
-use lib.Dec.{leb}
+use lib.Dec.{eqb, leb}
 use Rattle.model.specs.declared.Arc.{Arc}
 use Rattle.model.specs.declared.Mode.{Mode}
 use Rattle.model.specs.declared.Why.{Why}
 use Rattle.model.specs.declared.Thing.{Thing}
 use Rattle.model.specs.declared.Thing.the-variants.{Argument}
-use Rattle.model.specs.declared.Fault.the-variants.{MarkingOutside, MarkingAboveCapacity, NotThere}
+use Rattle.model.specs.declared.Fault.the-variants.{MarkingOutside, MarkingAboveCapacity, NotThere, NotOneEach}
 use Rattle.model.specs.declared.Refusal.{Refusal}
 use Rattle.model.specs.declared.Answer.{Answer}
 use Rattle.model.specs.First.{_▸_, onlyIf}
@@ -117,3 +117,7 @@ absent thing n t = onlyIf (leb n (t .0)) (wrong thing NotThere)
 -- the marking, then the mode, of a call that takes both
 abbrev pub argumentRefusal : PNet → List ℕ → Mode → Option Refusal
 argumentRefusal net m t = markingRefusal net m ▸ modeRefusal Argument net t m
+
+-- 17: "marking or weights not one for each pair"
+abbrev pub unequal : PNet → List ℕ → Option Refusal
+unequal net m = onlyIf (not (eqb (length m) (pairs net))) (wrong Argument (NotOneEach 0))

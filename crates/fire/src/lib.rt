@@ -4,9 +4,12 @@ use crate::advance::mode_answer;
 use crate::marking::marking_answer;
 use crate::mode::fire_arcs;
 use crate::mode::row_answer;
+use crate::start::write_start;
 use model::Answer;
+use model::Fault;
 use model::Mode;
 use model::Thing;
+use sheets::head::refused;
 use sheets::opened::Opened;
 use sheets::opened::open_net;
 use sheets::shape::NetShape;
@@ -16,14 +19,38 @@ ghost use Rattle.model.specs.Refusals.{answer};
 ghost use Rattle.model.specs.Firing.{fired};
 ghost use Rattle.sheets.specs.Decoded.{netOf};
 ghost use Rattle.sheets.specs.Shape.{Open};
-ghost use Rattle.fire.specs.Calls.{testRefusal, firedBy};
-ghost use Rattle.fire.specs.Parts.{argumentRefusal, Leaves};
+ghost use Rattle.fire.specs.Calls.{beginRefusal, begun, testRefusal, firedBy};
+ghost use Rattle.fire.specs.Parts.{unequal, argumentRefusal, Leaves};
 
 pub mod advance;
 mod arcs;
 pub mod marking;
 mod mode;
 mod rule;
+mod start;
+
+fn begin_open(s: &[u8], net: NetShape, marking: &mut [u32]) -> Answer
+    requires { ⌜ Open (now s) net ⌝ }
+    ensures { λ r. ⌜ Leaves (unequal (netOf (now (s .entry))) (now (marking .entry))) (netOf (now (s .entry)) .start) (now (marking .entry)) r (now (marking .exit)) ⌝ }
+{
+    if marking.len() != net.pairs {
+        return refused(Thing::Argument, Fault::NotOneEach(0));
+    }
+    write_start(s, net, marking);
+    Answer::Accepted
+}
+
+// Writes the net's first marking.
+pub fn begin(net: &[u8], marking: &mut [u32]) -> Answer
+    ensures { λ r. ⌜ r ≡ answer (beginRefusal (now (net .entry)) (now (marking .entry))) ⌝ }
+    ensures { λ r. ⌜ now (marking .exit) ≡ begun (now (net .entry)) (now (marking .entry)) ⌝ }
+{
+    let opened = open_net(net);
+    match opened {
+        Opened::Refused(refusal) => Answer::Refused(refusal),
+        Opened::Open(shape) => begin_open(net, shape, marking),
+    }
+}
 
 fn test_open(s: &[u8], net: NetShape, marking: &[u32], mode: Mode) -> Answer
     requires { ⌜ Open (now s) net ⌝ }
