@@ -1,6 +1,6 @@
 -- A mode's own arcs say what its row says, at a marking that was accepted.
 use Prim.Native.Nat.{ℕ, _+_, _≤_, _<_}
-use mathlib.Core.Path.{_≡_, refl, sym, _∙_}
+use mathlib.Core.Path.{_≡_, refl, sym, _∙_, ap}
 use mathlib.Core.Bool.{Bool, true, false}
 use mathlib.Core.Logic.{_↔_}
 use mathlib.Core.Option.{none}
@@ -8,7 +8,6 @@ use native.Mathlib.Omega.{arith}
 use mathlib.Core.List.{List}
 use Rattle.model.specs.declared.Mode.{Mode}
 use Rattle.model.specs.declared.Thing.{Thing}
-use Rattle.model.specs.declared.Thing.the-variants.{Argument}
 use Rattle.model.specs.declared.Why.{Why}
 use Rattle.model.specs.declared.Why.the-variants.{Lacking, OverCapacity, Inhibited, OverLimit}
 use Rattle.model.specs.declared.Answer.{Answer}
@@ -29,8 +28,9 @@ use Rattle.sheets.specs.Shape.{Open}
 use Rattle.sheets.specs.Starts.{ModeArcs}
 use Rattle.sheets.proofs.Shapes.{sizes}
 use Rattle.sheets.proofs.Segments.{mode-lists}
-use Rattle.fire.specs.Parts.{Free, Writable, writtenAt, AtMode, stopAt, stopOf, refusalOf, Accepts}
+use Rattle.fire.specs.Parts.{Free, Writable, writtenAt, AtMode, stopAt, stopOf, refusalOf, Decides, Leaves}
 use Rattle.fire.proofs.FourTests.{clash}
+use Rattle.fire.proofs.Leaving.{leaves-some, leaves-written}
 
 module _ {s : List ℕ} {net : NetShape} {arcs : Segment} {m : List ℕ} (h : AtMode s net arcs m) (t : Mode)
     (own : ModeArcs (netOf s .arcs) t (arcs .start) (arcs .count)) where
@@ -51,11 +51,11 @@ module _ {s : List ℕ} {net : NetShape} {arcs : Segment} {m : List ℕ} (h : At
   accepts thing = arcs-accept listing thing (K (netOf s)) (count m) (h .marking .inRange) (h .marking .within)
 
   pub one-not-free : {free : Bool} (i : ℕ) → i < arcs .count → (free ≡ true) ↔ Free (netOf s) m (arcs .start + i) → free ≡ false
-      → (false ≡ true) ↔ Accepts (netOf s) m t
-  one-not-free i l is e = (λ z. clash (sym z), λ all. clash (sym (is .1 (accepts Argument .0 (all Argument) i l)) ∙ e))
+      → Decides false (netOf s) m t
+  one-not-free i l is e = record { each = λ thing. (λ z. clash (sym z), λ none. clash (sym (is .1 (accepts thing .0 none i l)) ∙ e)) }
 
-  pub all-free : Each → (true ≡ true) ↔ Accepts (netOf s) m t
-  all-free each = (λ _ thing. accepts thing .1 each, λ _. refl)
+  pub all-free : Each → Decides true (netOf s) m t
+  all-free each = record { each = λ thing. (λ _. accepts thing .1 each, λ _. refl) }
 
   -- the arcs write one after the other, and in the end the mode has fired
   abbrev arc : ℕ → NetArc
@@ -89,3 +89,11 @@ pub in-order : {a : Answer} (thing : Thing) (net : PNet) (m : List ℕ) (t : Mod
     → a ≡ answer (refusalOf thing net m t)
 unfolding stopOf refusalOf rowRefusal ruleRefusal
 in-order thing net m t e = rw (then-assoc, then-assoc) e
+
+-- tested first, then written
+module _ {test : Bool} {net : PNet} {m : List ℕ} {t : Mode} (decides : Decides test net m t) (thing : Thing) {new : List ℕ} where
+  pub decides-not : {a : Answer} → test ≡ false → a ≡ answer (refusalOf thing net m t) → Leaves (refusalOf thing net m t) new m a m
+  decides-not f e = leaves-some _ e (λ none. clash (sym (decides .each thing .1 none) ∙ f))
+
+  pub decides-so : {left : List ℕ} → test ≡ true → left ≡ new → Leaves (refusalOf thing net m t) new m Accepted left
+  decides-so f q = leaves-written _ (ap answer (sym (decides .each thing .0 f))) refl q

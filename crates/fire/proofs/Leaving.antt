@@ -8,7 +8,7 @@ use Rattle.model.specs.declared.Answer.{Answer}
 use Rattle.model.specs.declared.Answer.the-variants.{Accepted, Refused}
 use Rattle.model.specs.First.{_▸_}
 use Rattle.model.specs.Refusals.{answer}
-use Rattle.model.proofs.First.{none-then, some-then}
+use Rattle.model.proofs.First.{none-then}
 use Rattle.model.proofs.Refusals.{answer-refused, answer-none, answer-stops}
 use Rattle.fire.specs.Calls.{written}
 use Rattle.fire.specs.Parts.{Leaves}
@@ -20,10 +20,12 @@ module _ {new found : List ℕ} where
   pub leaves-written : {a : Answer} {left : List ℕ} (o : Option Refusal) → a ≡ answer o → a ≡ Accepted → left ≡ new → Leaves o new found a left
   leaves-written o e h q = record { answers = e; leaves = q ∙ sym (ap (λ o. written o new found) (answer-none o e h)) }
 
-  -- the first part is known, by itself or by its answer
-  pub leaves-found : {r : Refusal} (o p : Option Refusal) → o ≡ some r → Leaves (o ▸ p) new found (Refused r) found
-  leaves-found o p e = leaves-refused (o ▸ p) (ap answer (sym (some-then p e))) refl
+  -- refused, whatever by
+  pub leaves-some : {a : Answer} (o : Option Refusal) → a ≡ answer o → ¬ (o ≡ none) → Leaves o new found a found
+  leaves-some none e h = absurd (h refl)
+  leaves-some (some r) e h = record { answers = e; leaves = refl }
 
+  -- the first part has passed
   pub leaves-after : {a : Answer} {left : List ℕ} (o p : Option Refusal) → o ≡ none → Leaves p new found a left → Leaves (o ▸ p) new found a left
   leaves-after {a} {left} o p e l = subst (λ (q : Option Refusal). Leaves q new found a left) (sym (none-then e refl)) l
 

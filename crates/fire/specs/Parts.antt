@@ -1,7 +1,8 @@
 -- What the private functions and the shared parts of this crate speak of, beyond the calls.
 use Prim.Native.Nat.{ℕ, _+_, _≤_, _<_}
 use mathlib.Core.Path.{_≡_}
-use mathlib.Core.Bool.{false, not}
+use mathlib.Core.Bool.{Bool, true, false, not}
+use mathlib.Core.Logic.{_↔_}
 use mathlib.Core.List.{List}
 use mathlib.Core.Option.{Option, none}
 use lib.ListN.{length, set}
@@ -101,9 +102,9 @@ stopOf thing why net m t = lowestStop thing (pairs net) (K net) (row net t) (cou
 unfoldable pub refusalOf : Thing → PNet → List ℕ → Mode → Option Refusal
 refusalOf thing net m t = rowRefusal thing (pairs net) (K net) (row net t) (count m)
 
--- none of 11 to 14 is found
-abbrev pub Accepts : PNet → List ℕ → Mode → Type 0
-Accepts net m t = (thing : Thing) → refusalOf thing net m t ≡ none
+-- a test that passes exactly when none of 11 to 14 is found
+pub record Decides (test : Bool) (net : PNet) (m : List ℕ) (t : Mode) : Type 0 where
+  pub each : (thing : Thing) → (test ≡ true) ↔ (refusalOf thing net m t ≡ none)
 
 -- a call that is refused by o, or by nothing: what it answers, and what it leaves in the marking that it found
 pub record Leaves (o : Option Refusal) (new found : List ℕ) (a : Answer) (left : List ℕ) : Type 0 where
