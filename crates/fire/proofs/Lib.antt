@@ -1,5 +1,6 @@
 pub mod Bounds
 pub mod ByMode
+pub mod ByNumbers
 pub mod Filling
 pub mod FourTests
 pub mod Leaving

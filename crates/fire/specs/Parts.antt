@@ -5,7 +5,7 @@ use mathlib.Core.Bool.{Bool, true, false, not}
 use mathlib.Core.Logic.{_↔_}
 use mathlib.Core.List.{List}
 use mathlib.Core.Option.{Option, none}
-use lib.ListN.{length, set}
+use lib.ListN.{length, getD, set}
 use lib.Dec.{eqb, leb}
 use Rattle.model.specs.declared.Arc.{Arc}
 use Rattle.model.specs.declared.Mode.{Mode}
@@ -22,6 +22,7 @@ use Rattle.model.specs.Rows.{Entry}
 use Rattle.model.specs.Nets.{PNet, pairs, pairNo, K, count, arcNo, row}
 use Rattle.model.specs.Markings.{Marking, markingRefusal}
 use Rattle.model.specs.Firing.{after, stops, stopped, lowestStop, rowRefusal, modeRefusal}
+use Rattle.model.proofs.PassBelow.{passBelow}
 use Rattle.sheets.specs.declared.shape.NetShape.{NetShape}
 use Rattle.sheets.specs.declared.starts.Segment.{Segment}
 use Rattle.sheets.specs.Nets.{bound}
@@ -122,3 +123,12 @@ argumentRefusal net m t = markingRefusal net m ▸ modeRefusal Argument net t m
 -- 17: "marking or weights not one for each pair"
 abbrev pub unequal : PNet → List ℕ → Option Refusal
 unequal net m = onlyIf (not (eqb (length m) (pairs net))) (wrong Argument (NotOneEach 0))
+
+-- the number of the k-th arc of a net, below which its counts pass; and a table of them
+unfoldable pub numberOf : PNet → ℕ → ℕ
+numberOf net k =
+    let a = arcNo (net .arcs) k in
+    passBelow (a .entry) (K net (a .pair .0))
+
+pub record NumbersAre (net : PNet) (numbers : List ℕ) : Type 0 where
+  pub each : (k : ℕ) → k < length (net .arcs) → getD numbers k 0 ≡ numberOf net k

@@ -26,6 +26,7 @@ pub mod advance;
 mod arcs;
 pub mod marking;
 mod mode;
+pub mod numbers;
 mod rule;
 mod start;
 

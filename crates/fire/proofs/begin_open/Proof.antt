@@ -1,6 +1,6 @@
 -- 17, or the first marking.
 use borrow.Author.Needs.{needs}
-use mathlib.Core.Path.{refl, sym, _∙_, ap}
+use mathlib.Core.Path.{refl}
 use Rattle.fire.proofs.Leaving.{leaves-refused, leaves-written}
 use Rattle.fire.proofs.Opened.{one-each, not-one-each}
 use Rattle.fire.proofs.begin_open.Statement.{statement}
