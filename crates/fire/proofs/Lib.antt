@@ -8,3 +8,4 @@ pub mod Meets
 pub mod Opened
 pub mod Opening
 pub mod Promises
+pub mod Running

@@ -22,6 +22,7 @@ use Rattle.model.specs.Rows.{Entry}
 use Rattle.model.specs.Nets.{PNet, pairs, pairNo, K, count, arcNo, row}
 use Rattle.model.specs.Markings.{Marking, markingRefusal}
 use Rattle.model.specs.Firing.{after, stops, stopped, lowestStop, rowRefusal, modeRefusal}
+use Rattle.model.specs.Runs.{Outcome}
 use Rattle.model.proofs.PassBelow.{passBelow}
 use Rattle.sheets.specs.declared.shape.NetShape.{NetShape}
 use Rattle.sheets.specs.declared.starts.Segment.{Segment}
@@ -29,9 +30,10 @@ use Rattle.sheets.specs.Nets.{bound}
 use Rattle.sheets.specs.Checks.{wrong}
 use Rattle.sheets.specs.Decoded.{netOf}
 use Rattle.sheets.specs.Shape.{Open, netArc}
-use Rattle.sheets.specs.Starts.{ModeArcs}
+use Rattle.sheets.specs.Starts.{StartsAre, ModeArcs}
 use Rattle.fire.specs.declared.rule.AtPair.{AtPair}
-use Rattle.fire.specs.Calls.{written}
+use Rattle.fire.specs.declared.Ran.{Ran}
+use Rattle.fire.specs.Calls.{written, ranOf}
 
 -- the count of a marking at pair p: "pair by pair 5 before 9"
 unfoldable pub countRefusal : PNet → List ℕ → ℕ → Option Refusal
@@ -132,3 +134,14 @@ numberOf net k =
 
 pub record NumbersAre (net : PNet) (numbers : List ℕ) : Type 0 where
   pub each : (k : ℕ) → k < length (net .arcs) → getD numbers k 0 ≡ numberOf net k
+
+-- an open net with both tables of a run
+pub record Tables (s : List ℕ) (net : NetShape) (starts numbers : List ℕ) : Type 0 where
+  pub opened : Open s net
+  pub startsAre : StartsAre (netOf s .arcs) starts
+  pub numbersAre : NumbersAre (netOf s) numbers
+
+-- a run with this outcome: what it tells, and what it leaves in the marking
+pub record Reports (o : Outcome) (told : Ran) (left : List ℕ) : Type 0 where
+  pub tells : told ≡ ranOf o
+  pub leaves : left ≡ o .marking

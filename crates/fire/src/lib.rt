@@ -26,9 +26,16 @@ pub mod advance;
 mod arcs;
 pub mod marking;
 mod mode;
+pub mod movements;
 pub mod numbers;
 mod rule;
 mod start;
+
+// How many movements of a run were accepted, and the answer to the first that was not.
+pub struct Ran {
+    pub accepted: usize,
+    pub answer: Answer,
+}
 
 fn begin_open(s: &[u8], net: NetShape, marking: &mut [u32]) -> Answer
     requires { ⌜ Open (now s) net ⌝ }

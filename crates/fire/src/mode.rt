@@ -62,7 +62,13 @@ fn find_stop(
 }
 
 // "11 over all pairs, 12, 13, 14": each is looked for before the next.
-fn find_refusal(s: &[u8], net: NetShape, arcs: Segment, thing: Thing, marking: &[u32]) -> Answer
+pub(crate) fn find_refusal(
+    s: &[u8],
+    net: NetShape,
+    arcs: Segment,
+    thing: Thing,
+    marking: &[u32],
+) -> Answer
     requires { ⌜ AtMode (now s) net arcs (now marking) ⌝ }
     ensures { λ r. ⌜ OfMode (now (s .entry)) arcs (λ t. r ≡ answer (refusalOf thing (netOf (now (s .entry))) (now (marking .entry)) t)) ⌝ }
 {

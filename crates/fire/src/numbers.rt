@@ -1,6 +1,10 @@
 // One number for each arc of a net, made once for a run: a count passes all four tests when it is at least Pre and below that number.
 use crate::arcs::meet;
+use crate::mode::find_refusal;
+use crate::mode::write_arcs;
 use crate::rule::pass_below;
+use model::Answer;
+use model::Thing;
 use sheets::shape::NetShape;
 use sheets::shape::arc;
 use sheets::shape::capacity;
@@ -9,10 +13,12 @@ ghost use mathlib.Core.Path.{_≡_};
 ghost use mathlib.Core.Bool.{true};
 ghost use mathlib.Core.Logic.{_↔_};
 ghost use Prim.Native.Nat.{_<_};
+ghost use Rattle.model.specs.declared.Thing.the-variants.{Movements};
 ghost use Rattle.model.specs.Markings.{Marking};
+ghost use Rattle.model.specs.Firing.{fired};
 ghost use Rattle.sheets.specs.Decoded.{netOf};
 ghost use Rattle.sheets.specs.Shape.{Open};
-ghost use Rattle.fire.specs.Parts.{numberOf, NumbersAre, Free, AtMode, OfMode, Decides};
+ghost use Rattle.fire.specs.Parts.{numberOf, NumbersAre, Free, AtMode, OfMode, refusalOf, Decides, Leaves};
 
 fn arc_number(s: &[u8], net: NetShape, k: usize) -> u32
     requires { ⌜ Open (now s) net ⌝ }
@@ -53,7 +59,7 @@ fn arc_within(s: &[u8], net: NetShape, numbers: &[u32; 2048], k: usize, marking:
 }
 
 // One pass over the arcs of a mode, each tested by its number.
-pub(crate) fn arcs_within(
+fn arcs_within(
     s: &[u8],
     net: NetShape,
     numbers: &[u32; 2048],
@@ -74,4 +80,23 @@ pub(crate) fn arcs_within(
         i += 1;
     }
     true
+}
+
+// Tested by the numbers first, then written; only a refused movement is looked through again.
+pub(crate) fn fire_within(
+    s: &[u8],
+    net: NetShape,
+    numbers: &[u32; 2048],
+    arcs: Segment,
+    marking: &mut [u32],
+) -> Answer
+    requires { ⌜ NumbersAre (netOf (now s)) (now numbers) ⌝ }
+    requires { ⌜ AtMode (now s) net arcs (now marking) ⌝ }
+    ensures { λ r. ⌜ OfMode (now (s .entry)) arcs (λ t. Leaves (refusalOf Movements (netOf (now (s .entry))) (now (marking .entry)) t) (fired (netOf (now (s .entry))) t (now (marking .entry))) (now (marking .entry)) r (now (marking .exit))) ⌝ }
+{
+    if !arcs_within(s, net, numbers, arcs, marking) {
+        return find_refusal(s, net, arcs, Thing::Movements, marking);
+    }
+    write_arcs(s, net, arcs, marking);
+    Answer::Accepted
 }
