@@ -8,4 +8,5 @@ pub mod Meets
 pub mod Opened
 pub mod Opening
 pub mod Promises
+pub mod Reporting
 pub mod Running

@@ -22,7 +22,7 @@ use Rattle.model.specs.Rows.{Entry}
 use Rattle.model.specs.Nets.{PNet, pairs, pairNo, K, count, arcNo, row}
 use Rattle.model.specs.Markings.{Marking, markingRefusal}
 use Rattle.model.specs.Firing.{after, stops, stopped, lowestStop, rowRefusal, modeRefusal}
-use Rattle.model.specs.Runs.{Outcome}
+use Rattle.model.specs.Runs.{Outcome, goOn}
 use Rattle.model.proofs.PassBelow.{passBelow}
 use Rattle.sheets.specs.declared.shape.NetShape.{NetShape}
 use Rattle.sheets.specs.declared.starts.Segment.{Segment}
@@ -145,3 +145,7 @@ pub record Tables (s : List ℕ) (net : NetShape) (starts numbers : List ℕ) : 
 pub record Reports (o : Outcome) (told : Ran) (left : List ℕ) : Type 0 where
   pub tells : told ≡ ranOf o
   pub leaves : left ≡ o .marking
+
+-- a run that is refused by o before its first movement, or has the outcome `next`
+pub record Begins (o : Option Refusal) (m : List ℕ) (next : Outcome) (told : Ran) (left : List ℕ) : Type 0 where
+  pub reports : Reports (goOn o 0 m next) told left

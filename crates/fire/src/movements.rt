@@ -1,19 +1,26 @@
 // A list of movements: mode by mode, up to the first that is refused.
 use crate::Ran;
 use crate::advance::mode_answer;
+use crate::numbers::arc_numbers;
 use crate::numbers::fire_within;
 use model::Answer;
 use model::Mode;
 use model::Thing;
 use sheets::listed::mode_at;
+use sheets::listed::movements_at;
+use sheets::movements::movement_count;
 use sheets::shape::NetShape;
 use sheets::starts::arcs_of;
+use sheets::starts::starts;
 ghost use mathlib.Core.Path.{_≡_};
+ghost use mathlib.Core.Option.{none};
 ghost use Rattle.model.specs.declared.Thing.the-variants.{Movements};
 ghost use Rattle.model.specs.Markings.{Marking};
 ghost use Rattle.model.specs.Firing.{modeRefusal, fired};
 ghost use Rattle.model.specs.Runs.{run};
-ghost use Rattle.sheets.specs.Decoded.{netOf};
+ghost use Rattle.sheets.specs.Decoded.{netOf, movementsOf};
+ghost use Rattle.sheets.specs.Movements.{movementsRefusal};
+ghost use Rattle.sheets.specs.Shape.{Open};
 ghost use Rattle.sheets.specs.Listed.{modesFrom, ModesStand};
 ghost use Rattle.fire.specs.Parts.{Leaves, Tables, Reports};
 
@@ -76,4 +83,26 @@ pub fn run_modes(
         accepted: k,
         answer: Answer::Accepted,
     }
+}
+
+// The whole list of a movement sheet that was accepted, with both tables made once.
+pub(crate) fn run_sheet(s: &[u8], net: NetShape, movements: &[u8], marking: &mut [u32]) -> Ran
+    requires { ⌜ Open (now s) net ⌝ }
+    requires { ⌜ movementsRefusal (now movements) ≡ none ⌝ }
+    requires { ⌜ Marking (netOf (now s)) (now marking) ⌝ }
+    ensures { λ r. ⌜ Reports (run (netOf (now (s .entry))) (movementsOf (now (movements .entry))) (now (marking .entry))) r (now (marking .exit)) ⌝ }
+{
+    let starts = starts(s, net);
+    let numbers = arc_numbers(s, net);
+    let count = movement_count(movements);
+    run_modes(
+        s,
+        net,
+        &starts,
+        &numbers,
+        movements,
+        movements_at(),
+        count,
+        marking,
+    )
 }
