@@ -1,0 +1,4 @@
+pub mod Decimals
+pub mod LastDigits
+pub mod Puts
+pub mod Sizes

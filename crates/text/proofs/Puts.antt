@@ -1,0 +1,148 @@
+-- The laws of puts: with room and without, and a put after a put.
+use Prim.Native.Nat.{ℕ, suc, _+_, _≤_, _<_}
+use mathlib.Core.Path.{_≡_, refl, sym, _∙_, ap}
+use mathlib.Core.Bool.{Bool, true, false}
+use mathlib.Core.Logic.{_⊎_, inl, inr, ⊎-elim}
+use mathlib.Core.List.{List, [], _∷_, _++_, append-assoc}
+use lib.Dec.{leb}
+use lib.ListN.{length, getD, take, drop, set, length-append, length-take, length-drop}
+use lib.Seq.{paste, paste-suc, take-length, take-at, drop-append-add, drop-drop, set-split, append-snoc}
+use native.Mathlib.Nat.{add-assoc}
+use native.Mathlib.Numerals.{add-one}
+use native.Mathlib.Omega.{arith}
+use borrow.Author.Tests.{leb-true, leb-false, le-leb, lt-leb}
+use Rattle.text.specs.declared.Put.{Put}
+use Rattle.text.specs.declared.Put.the-variants.{To, Full}
+use Rattle.text.specs.Puts.{endWithin, putTo, putInto, Puts}
+
+le-or-lt : (a b : ℕ) → (a ≤ b) ⊎ (b < a)
+le-or-lt a b = go (leb a b) refl
+  where
+    go : (t : Bool) → leb a b ≡ t → (a ≤ b) ⊎ (b < a)
+    go true e = inl (leb-true a b e)
+    go false e = inr (leb-false a b e)
+
+module _ (size at count : ℕ) where
+  pub end-within : at + count ≤ size → endWithin size at count ≡ To (at + count)
+  unfolding endWithin
+  end-within h = rw (le-leb _ _ h)
+
+  pub end-beyond : size < at + count → endWithin size at count ≡ Full
+  unfolding endWithin
+  end-beyond h = rw (lt-leb _ _ h)
+
+  -- the other way: what the answer tells
+  pub end-found : {next : ℕ} → endWithin size at count ≡ To next → (at + count ≤ size) × (next ≡ at + count)
+  end-found {next} e =
+      ⊎-elim (λ (l : at + count ≤ size). let f = end-within l in (l, cc))
+      (λ (l : size < at + count). let f = end-beyond l in let z : _≡_ {A = ℕ} 0 1 = cc in absurd (omega arith))
+      (le-or-lt (at + count) size)
+
+  pub end-full : endWithin size at count ≡ Full → size < at + count
+  end-full e =
+      ⊎-elim (λ (l : at + count ≤ size). let f = end-within l in let z : _≡_ {A = ℕ} 0 1 = cc in absurd (omega arith))
+      (λ (l : size < at + count). l)
+      (le-or-lt (at + count) size)
+
+module _ (out : List ℕ) (at : ℕ) (bytes : List ℕ) where
+  pub into-within : at + length bytes ≤ length out → putInto out at bytes ≡ take at out ++ bytes ++ drop (at + length bytes) out
+  unfolding putInto
+  into-within h = rw (le-leb _ _ h)
+
+  pub into-beyond : length out < at + length bytes → putInto out at bytes ≡ out
+  unfolding putInto
+  into-beyond h = rw (lt-leb _ _ h)
+
+  pub to-within : at + length bytes ≤ length out → putTo out at bytes ≡ To (at + length bytes)
+  unfolding putTo
+  to-within h = end-within _ _ _ h
+
+  pub to-beyond : length out < at + length bytes → putTo out at bytes ≡ Full
+  unfolding putTo
+  to-beyond h = end-beyond _ _ _ h
+
+  pub to-found : {next : ℕ} → putTo out at bytes ≡ To next → (at + length bytes ≤ length out) × (next ≡ at + length bytes)
+  unfolding putTo
+  to-found e = end-found _ _ _ e
+
+  pub to-full : putTo out at bytes ≡ Full → length out < at + length bytes
+  unfolding putTo
+  to-full e = end-full _ _ _ e
+
+  -- the answer of a put by the number of its bytes
+  pub to-counted : (count : ℕ) {answer : Put} → count ≡ length bytes → answer ≡ endWithin (length out) at count → answer ≡ putTo out at bytes
+  unfolding putTo
+  to-counted count e f = rw e at f
+
+  pub into-full : {answer : Put} → answer ≡ putTo out at bytes → answer ≡ Full → out ≡ putInto out at bytes
+  into-full e f = sym (into-beyond (to-full (sym e ∙ f)))
+
+  pub into-length : length (putInto out at bytes) ≡ length out
+  into-length =
+      ⊎-elim (λ (l : at + length bytes ≤ length out). rw (into-within l) (simp (length-append, length-take, length-drop) (omega arith)))
+      (λ (l : length out < at + length bytes). rw (into-beyond l))
+      (le-or-lt (at + length bytes) (length out))
+
+  -- the laws of a loop that copies: a turn, and the end
+  pub one-copied : (now : List ℕ) (i : ℕ) → at + length bytes ≤ length out → i < length bytes → now ≡ paste out at bytes i
+      → set now (at + i) (getD bytes i 0) ≡ paste out at bytes (i + 1)
+  one-copied now i h l e = rw (e, add-one) (paste-suc out at bytes i 0 (omega arith) l)
+
+  pub all-copied : (i : ℕ) → at + length bytes ≤ length out → i ≤ length bytes → length bytes ≤ i → paste out at bytes i ≡ putInto out at bytes
+  all-copied i h l g = let e : i ≡ length bytes = omega arith in rw (e, take-length, into-within h)
+
+-- what was put at the front stands there
+pub taken-back : (out bytes : List ℕ) → length bytes ≤ length out → take (length bytes) (putInto out 0 bytes) ≡ bytes
+taken-back out bytes h = rw (into-within out 0 bytes (omega arith)) (take-at bytes (drop (0 + length bytes) out) (length bytes) refl)
+
+drop-past : (xs ys : List ℕ) (n k : ℕ) → length xs ≡ n → drop (n + k) (xs ++ ys) ≡ drop k ys
+drop-past xs ys n k e = rw (← e) (drop-append-add xs ys k)
+
+module _ (out : List ℕ) (at : ℕ) (xs ys : List ℕ) where
+  -- a put where the one before ended
+  pub to-more : putTo (putInto out at xs) (at + length xs) ys ≡ putTo out at (xs ++ ys)
+  unfolding putTo endWithin
+  to-more = rw (into-length out at xs, length-append, add-assoc)
+
+  pub into-more : at + length (xs ++ ys) ≤ length out → putInto (putInto out at xs) (at + length xs) ys ≡ putInto out at (xs ++ ys)
+  into-more h =
+      let n = at + length xs in
+      let room : n + length ys ≤ length out = omega (arith, length-append xs ys) in
+      let head = take at out ++ xs in
+      let tail = drop n out in
+      let first : putInto out at xs ≡ head ++ tail = into-within out at xs (omega arith) in
+      let long : length head ≡ n = simp (length-append, length-take) (omega arith) in
+      let second = into-within (putInto out at xs) n ys (rw into-length room) in
+      rw (second, into-within out at (xs ++ ys) h, first, take-at head tail n long, drop-past head tail n (length ys) long, drop-drop)
+      (rw (length-append xs ys, add-assoc) (simp append-assoc))
+
+-- a byte stored before the rest is put
+pub into-cons : (out : List ℕ) (at b : ℕ) (bytes : List ℕ) → at + suc (length bytes) ≤ length out
+    → putInto (set out at b) (at + 1) bytes ≡ putInto out at (b ∷ bytes)
+into-cons out at b bytes h =
+    let one : set out at b ≡ putInto out at (b ∷ []) =
+    rw (into-within out at (b ∷ []) (omega arith), append-snoc, add-one) (set-split out at b (omega arith)) in
+    rw one (into-more out at (b ∷ []) bytes h)
+
+module _ {out : List ℕ} {at : ℕ} {first : Put} {now : List ℕ} where
+  pub one-put : {bytes : List ℕ} → first ≡ putTo out at bytes → now ≡ putInto out at bytes → Puts out at bytes first now
+  one-put {bytes} e f = record { answers = e; writes = λ h. f; long = ap length f ∙ into-length out at bytes }
+
+  -- puts, and more of them where they ended
+  pub put-more : {next : ℕ} {xs ys : List ℕ} {answer : Put} {then : List ℕ}
+      → Puts out at xs first now → first ≡ To next → Puts now next ys answer then → Puts out at (xs ++ ys) answer then
+  put-more {xs = xs} {ys} p found q =
+      let room = to-found out at xs (sym (p .answers) ∙ found) in
+      let e = p .writes (room .0) in
+      record {
+        answers = q .answers ∙ rw (e, room .1) (to-more out at xs ys);
+        writes = λ h. q .writes (rw (room .1, p .long) (omega (arith, length-append xs ys))) ∙ rw (e, room .1) (into-more out at xs ys h);
+        long = q .long ∙ p .long;
+      }
+
+  -- puts that found no room, and those that were to follow
+  pub put-stops : {xs : List ℕ} (ys : List ℕ) → first ≡ Full → Puts out at xs first now → Puts out at (xs ++ ys) first now
+  put-stops {xs} ys full p =
+      let short = to-full out at xs (sym (p .answers) ∙ full) in
+      let beyond : length out < at + length (xs ++ ys) = omega (arith, length-append xs ys) in
+      record { answers = full ∙ sym (to-beyond out at (xs ++ ys) beyond); writes = λ h. absurd (omega arith); long = p .long }

@@ -1,0 +1,28 @@
+-- A run of bytes put into a slice at a position: where the slice has room for it, the answer is the position after it; otherwise nothing is written.
+use Prim.Native.Nat.{ℕ, _+_, _≤_}
+use mathlib.Core.Path.{_≡_}
+use mathlib.Core.Bool.{cond}
+use mathlib.Core.List.{List, _++_}
+use lib.Dec.{leb}
+use lib.ListN.{length, take, drop}
+use Rattle.text.specs.declared.Put.{Put}
+use Rattle.text.specs.declared.Put.the-variants.{To, Full}
+
+-- the position after `count` bytes from `at`, where they lie within `size`
+unfoldable pub endWithin : ℕ → ℕ → ℕ → Put
+endWithin size at count = cond (leb (at + count) size) (To (at + count)) Full
+
+-- the answer
+unfoldable pub putTo : List ℕ → ℕ → List ℕ → Put
+putTo out at bytes = endWithin (length out) at (length bytes)
+
+-- what the slice then holds
+unfoldable pub putInto : List ℕ → ℕ → List ℕ → List ℕ
+putInto out at bytes = cond (leb (at + length bytes) (length out)) (take at out ++ bytes ++ drop (at + length bytes) out) out
+
+-- Puts one after another, each where the one before ended, up to the first without room: the answer is that of one put of all the bytes, and
+-- where there is room for all of them, so is what the slice then holds.
+pub record Puts (out : List ℕ) (at : ℕ) (bytes : List ℕ) (answer : Put) (now : List ℕ) : Type 0 where
+  pub answers : answer ≡ putTo out at bytes
+  pub writes : at + length bytes ≤ length out → now ≡ putInto out at bytes
+  pub long : length now ≡ length out

@@ -1,0 +1,103 @@
+// Runs of bytes and numbers in decimal, put into a slice that the caller lends: the parts of a line of `replay` (document 01, "`replay`").
+mod digits;
+
+use crate::digits::digit_count;
+use crate::digits::write_digits;
+ghost use mathlib.Core.Path.{_≡_};
+ghost use mathlib.Core.List.{_∷_};
+ghost use Prim.Native.Nat.{_+_, _≤_};
+ghost use lib.IntN.{natAbs};
+ghost use lib.ListN.{length};
+ghost use Rattle.text.specs.Decimals.{decimal, signedDecimal, minus};
+ghost use Rattle.text.specs.Puts.{endWithin, putTo, putInto};
+
+// The position after what was put, or no room: then nothing is written.
+pub enum Put {
+    To(usize),
+    Full,
+}
+
+// The position after `count` bytes from `at`, where they lie within `len`: no sum wraps.
+fn end_within(len: usize, at: usize, count: usize) -> Put
+    ensures { λ r. ⌜ r ≡ endWithin len at count ⌝ }
+{
+    if len < at {
+        return Put::Full;
+    }
+    if len - at < count {
+        return Put::Full;
+    }
+    Put::To(at + count)
+}
+
+fn write_bytes(out: &mut [u8], at: usize, bytes: &[u8])
+    requires { ⌜ at + length (now bytes) ≤ length (now out) ⌝ }
+    ensures { λ _. ⌜ now (out .exit) ≡ putInto (now (out .entry)) at (now (bytes .entry)) ⌝ }
+{
+    let mut i = 0;
+    while i < bytes.len() {
+        out[at + i] = bytes[i];
+        i += 1;
+    }
+}
+
+// All of the bytes or none.
+pub fn put_bytes(out: &mut [u8], at: usize, bytes: &[u8]) -> Put
+    ensures { λ r. ⌜ r ≡ putTo (now (out .entry)) at (now (bytes .entry)) ⌝ }
+    ensures { λ _. ⌜ now (out .exit) ≡ putInto (now (out .entry)) at (now (bytes .entry)) ⌝ }
+{
+    let answer = end_within(out.len(), at, bytes.len());
+    if let Put::Full = answer {
+        return answer;
+    }
+    write_bytes(out, at, bytes);
+    answer
+}
+
+// No leading zeros; zero is `0`.
+pub fn put_decimal(out: &mut [u8], at: usize, n: u64) -> Put
+    ensures { λ r. ⌜ r ≡ putTo (now (out .entry)) at (decimal n) ⌝ }
+    ensures { λ _. ⌜ now (out .exit) ≡ putInto (now (out .entry)) at (decimal n) ⌝ }
+{
+    let count = digit_count(n);
+    let answer = end_within(out.len(), at, count);
+    if let Put::Full = answer {
+        return answer;
+    }
+    write_digits(out, at, count, n);
+    answer
+}
+
+// '-' and the digits of n.
+fn put_negative(out: &mut [u8], at: usize, n: u64) -> Put
+    ensures { λ r. ⌜ r ≡ putTo (now (out .entry)) at (minus ∷ decimal n) ⌝ }
+    ensures { λ _. ⌜ now (out .exit) ≡ putInto (now (out .entry)) at (minus ∷ decimal n) ⌝ }
+{
+    let count = digit_count(n);
+    let answer = end_within(out.len(), at, count + 1);
+    if let Put::Full = answer {
+        return answer;
+    }
+    out[at] = b'-';
+    write_digits(out, at + 1, count, n);
+    answer
+}
+
+// How far from zero: for a negative number, the least too, one more than -1 less it, so that nothing wraps.
+fn size(z: i64) -> u64
+    ensures { λ r. ⌜ r ≡ natAbs z ⌝ }
+{
+    if z < 0 { (-1 - z) as u64 + 1 } else { z as u64 }
+}
+
+// A figure may be negative (document 01, "Sheets": "A weight may be negative"): then '-' and the digits of its size.
+pub fn put_signed(out: &mut [u8], at: usize, z: i64) -> Put
+    ensures { λ r. ⌜ r ≡ putTo (now (out .entry)) at (signedDecimal z) ⌝ }
+    ensures { λ _. ⌜ now (out .exit) ≡ putInto (now (out .entry)) at (signedDecimal z) ⌝ }
+{
+    if z < 0 {
+        put_negative(out, at, size(z))
+    } else {
+        put_decimal(out, at, size(z))
+    }
+}
