@@ -41,14 +41,14 @@ add-sum : tie.Need-add-sum Inv-loop μ-loop
 add-sum c =
     let b = c .before .before .before .before .before .before .before in
     let l = c .before .before .before .loop in
-    next-fits (figure-terms (b .pre .0) _ (b .pre .1 .0) (b .pre .1 .1)) (l .p) (c .before .before .loop-test .taken) (c .term .ok) (l .inv .1) (c .term .ensures)
+    next-fits (figure-terms (b .pre .0) _ (b .pre .1 .0) (b .pre .1 .1)) (l .p) (omega (arith, c .before .before .loop-test .taken)) (c .term .ok) (l .inv .1) (c .term .ensures)
 
 loop-again : tie.Need-loop-again Inv-loop μ-loop
 loop-again c =
     let b = c .before .before .before .before .before .before .before in
     let l = c .before .before .before .loop in (
       search needs,
-      next-is (figure-terms (b .pre .0) _ (b .pre .1 .0) (b .pre .1 .1)) (l .p) (c .before .before .loop-test .taken) (c .term .ok) (l .inv .1)
+      next-is (figure-terms (b .pre .0) _ (b .pre .1 .0) (b .pre .1 .1)) (l .p) (omega (arith, c .before .before .loop-test .taken)) (c .term .ok) (l .inv .1)
           (c .term .ensures),
     )
 
