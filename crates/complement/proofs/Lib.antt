@@ -1,2 +1,9 @@
 pub mod Entries
 pub mod Read
+pub mod Below
+pub mod Counts
+pub mod Puts
+pub mod PlaceHalves
+pub mod PairHalves
+pub mod ModeHalves
+pub mod SheetParts

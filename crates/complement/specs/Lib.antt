@@ -1,1 +1,6 @@
+pub mod Bounded
 pub mod Arcs
+pub mod Places
+pub mod Pairs
+pub mod Sizes
+pub mod Puts

@@ -1,0 +1,38 @@
+-- How large the complement is, which refusal 10 and the length of its sheet go by; and its sheet in three parts.
+use Prim.Native.Nat.{ℕ, _≤_}
+use mathlib.Core.Path.{_≡_}
+use mathlib.Core.Bool.{Bool, _&&_}
+use mathlib.Core.List.{List, _++_, flatMap}
+use lib.Dec.{leb}
+use lib.ListN.{length}
+use Rattle.model.specs.Nets.{PNet, pairs}
+use Rattle.model.specs.Complement.{complement}
+use Rattle.sheets.specs.Written.{bytes16, arcBytes, headBytes, pairsBytes, lengthOf}
+use Rattle.complement.specs.declared.sheet.Sizes.{Sizes}
+
+pub record SizesAre (net : PNet) (sizes : Sizes) : Type 0 where
+  pub places : sizes .places ≡ length (complement net .colours)
+  pub pairs : sizes .pairs ≡ pairs (complement net)
+  pub arcs : sizes .arcs ≡ length (complement net .arcs)
+
+-- at most twice what a sheet may hold
+pub record Few (sizes : Sizes) : Type 0 where
+  pub places : sizes .places ≤ 128
+  pub pairs : sizes .pairs ≤ 512
+  pub arcs : sizes .arcs ≤ 4096
+
+-- "complement exceeds the sheet's limits"
+abbrev pub inLimits : Sizes → Bool
+inLimits sizes = leb (sizes .places) 64 && leb (sizes .pairs) 256 && leb (sizes .arcs) 2048
+
+-- "a 4-byte length L .., a version byte 1 ..; Place count ..; transition count"
+abbrev pub countsBytes : PNet → List ℕ
+countsBytes net = headBytes (lengthOf net) ++ (bytes16 (length (net .colours)) ++ bytes16 (length (net .modesOf)))
+
+-- "colours of each place ..; modes of each transition ..; for each pair K and the first marking"
+abbrev pub recordsBytes : PNet → List ℕ
+recordsBytes net = flatMap bytes16 (net .colours) ++ (flatMap bytes16 (net .modesOf) ++ pairsBytes net)
+
+-- "arc count ..; the arcs"
+abbrev pub arcsBytes : PNet → List ℕ
+arcsBytes net = bytes16 (length (net .arcs)) ++ flatMap arcBytes (net .arcs)
