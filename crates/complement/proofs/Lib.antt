@@ -7,3 +7,4 @@ pub mod PlaceHalves
 pub mod PairHalves
 pub mod ModeHalves
 pub mod SheetParts
+pub mod Answers

@@ -1,5 +1,5 @@
 -- The sheet of the complement, part by part, and how long it is.
-use Prim.Native.Nat.{ℕ, _+_, _-_}
+use Prim.Native.Nat.{ℕ, _-_}
 use mathlib.Core.Path.{_≡_, refl}
 use mathlib.Core.List.{List, _++_, append-assoc, append-nil, flatten}
 use lib.ListN.{length}

@@ -1,3 +1,4 @@
+pub mod Complemented
 pub mod Bounded
 pub mod Arcs
 pub mod Places

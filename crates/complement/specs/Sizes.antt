@@ -1,12 +1,21 @@
 -- How large the complement is, which refusal 10 and the length of its sheet go by; and its sheet in three parts.
 use Prim.Native.Nat.{ℕ, _≤_}
 use mathlib.Core.Path.{_≡_}
-use mathlib.Core.Bool.{Bool, _&&_}
+use mathlib.Core.Bool.{Bool, not, _&&_}
 use mathlib.Core.List.{List, _++_, flatMap}
-use lib.Dec.{leb}
+use mathlib.Core.Option.{Option}
+use lib.Dec.{leb, ltb}
 use lib.ListN.{length}
+use Rattle.model.specs.declared.Thing.the-variants.{Net}
+use Rattle.model.specs.declared.Fault.the-variants.{NoRoom}
+use Rattle.model.specs.declared.Refusal.{Refusal}
+use Rattle.model.specs.declared.Answer.{Answer}
+use Rattle.model.specs.declared.Answer.the-variants.{Accepted, Refused}
+use Rattle.model.specs.First.{_▸_, onlyIf}
 use Rattle.model.specs.Nets.{PNet, pairs}
 use Rattle.model.specs.Complement.{complement}
+use Rattle.sheets.specs.Checks.{wrong}
+use Rattle.sheets.specs.Puts.{sheetSize}
 use Rattle.sheets.specs.Written.{bytes16, arcBytes, headBytes, pairsBytes, lengthOf}
 use Rattle.complement.specs.declared.sheet.Sizes.{Sizes}
 
@@ -24,6 +33,17 @@ pub record Few (sizes : Sizes) : Type 0 where
 -- "complement exceeds the sheet's limits"
 abbrev pub inLimits : Sizes → Bool
 inLimits sizes = leb (sizes .places) 64 && leb (sizes .pairs) 256 && leb (sizes .arcs) 2048
+
+-- 10 by these numbers, where the output slice has this room
+unfoldable pub sizesRefusal : Sizes → ℕ → ℕ → Option Refusal
+sizesRefusal sizes transitions room =
+    onlyIf (not (inLimits sizes)) (wrong Net NoRoom)
+    ▸ onlyIf (ltb room (sheetSize (sizes .places) transitions (sizes .pairs) (sizes .arcs))) (wrong Net NoRoom)
+
+-- this answer, then that
+abbrev pub firstOf : Answer → Answer → Answer
+firstOf Accepted that = that
+firstOf (Refused r) that = Refused r
 
 -- "a 4-byte length L .., a version byte 1 ..; Place count ..; transition count"
 abbrev pub countsBytes : PNet → List ℕ

@@ -1,6 +1,6 @@
 // Pairs of finite K: how many stand below each pair. It numbers the complement pairs and says how many a place has.
-use crate::entry::is_unbounded;
 use model::Pair;
+use sheets::finite::is_finite;
 use sheets::shape::NetShape;
 use sheets::shape::capacity;
 ghost use mathlib.Core.Path.{_≡_};
@@ -18,10 +18,10 @@ fn one_if_bounded(s: &[u8], net: NetShape, p: usize) -> u16
     requires { ⌜ p < net .pairs ⌝ }
     ensures { λ r. ⌜ r ≡ cond (finite (K (netOf (now (s .entry))) p)) 1 0 ⌝ }
 {
-    if is_unbounded(capacity(s, net, Pair(p as u16))) {
-        return 0;
+    if is_finite(capacity(s, net, Pair(p as u16))) {
+        return 1;
     }
-    1
+    0
 }
 
 // The table: entry p is how many pairs below p have a finite K.

@@ -1,19 +1,13 @@
 // One arc of the complement: what an arc leaves at its own pair, and what it puts at the complement pair.
 use model::Arc;
 use model::Pair;
+use sheets::finite::is_finite;
 ghost use mathlib.Core.Path.{_≡_};
-ghost use mathlib.Core.Bool.{not};
 ghost use Prim.Native.Nat.{max};
-ghost use Rattle.model.specs.Complement.{finite, reserve, blank, tooLarge};
+ghost use Rattle.model.specs.Complement.{reserve, blank, tooLarge};
 ghost use Rattle.sheets.specs.Nets.{bound};
 ghost use Rattle.sheets.specs.Shape.{netArc};
 ghost use Rattle.complement.specs.Arcs.{Small, originalOf, complementAt};
-
-pub(crate) fn is_unbounded(x: u32) -> bool
-    ensures { λ r. ⌜ r ≡ not (finite (bound x)) ⌝ }
-{
-    x == 0xffff_ffff
-}
 
 // "K less I, or 0 where I ≥ K or unbounded": the number that means unbounded is the largest of 32 bits.
 fn reserved(capacity: u32, inhibitor: u32) -> u32
@@ -55,7 +49,7 @@ pub(crate) fn complement_arc(arc: Arc, capacity: u32, pair: Pair) -> Arc
     ensures { λ r. ⌜ netArc r ≡ complementAt pair (bound capacity) (netArc arc) ⌝ }
 {
     let mode = arc.mode;
-    if capacity == 0xffff_ffff {
+    if !is_finite(capacity) {
         return Arc {
             mode,
             pair,
@@ -83,7 +77,7 @@ pub(crate) fn is_blank(arc: Arc) -> bool
     if arc.post != 0 {
         return false;
     }
-    is_unbounded(arc.inhibitor)
+    !is_finite(arc.inhibitor)
 }
 
 // "a complement number above 1,000,000"

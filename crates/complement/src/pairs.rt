@@ -1,12 +1,11 @@
 // The pairs of the complement: all K unbounded, the originals with their first marking, each complement pair with K less the original's.
-use crate::entry::is_unbounded;
 use crate::half::Half;
 use model::Pair;
+use sheets::finite::is_finite;
 use sheets::shape::NetShape;
 use sheets::shape::capacity;
 use sheets::shape::start_count;
 use sheets::write::put_pair;
-ghost use mathlib.Core.Path.{_≡_};
 ghost use Prim.Native.Nat.{_<_};
 ghost use Rattle.model.specs.Complement.{joined, complement};
 ghost use Rattle.model.specs.Nets.{K, count};
@@ -24,7 +23,7 @@ fn put_new_pair(s: &[u8], net: NetShape, pair: Pair, out: &mut [u8], at: usize) 
     ensures { λ r. ⌜ Puts (now (out .entry)) at (newPair (K (netOf (now (s .entry))) (pair .0)) (count (netOf (now (s .entry)) .start) (pair .0))) (now (out .exit)) r ⌝ }
 {
     let k = capacity(s, net, pair);
-    if is_unbounded(k) {
+    if !is_finite(k) {
         return at;
     }
     put_pair(out, at, 0xffff_ffff, k - start_count(s, net, pair))

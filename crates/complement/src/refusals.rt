@@ -1,10 +1,10 @@
 // Refusals 15 and 16: "each at its first arc in order", with the arc's offset in the sheet that was given.
 use crate::entry::complement_arc;
-use crate::entry::is_unbounded;
 use crate::entry::too_large;
 use model::Answer;
 use model::Fault;
 use model::Thing;
+use sheets::finite::is_finite;
 use sheets::head::refused;
 use sheets::shape::NetShape;
 use sheets::shape::arc;
@@ -24,11 +24,11 @@ fn inhibitor_answer(s: &[u8], net: NetShape, k: usize) -> Answer
     ensures { λ r. ⌜ r ≡ answer (refusal15At (now (s .entry)) k) ⌝ }
 {
     let a = arc(s, net, k);
-    if is_unbounded(a.inhibitor) {
+    if !is_finite(a.inhibitor) {
         return Answer::Accepted;
     }
     let pair = a.pair;
-    if is_unbounded(capacity(s, net, pair)) {
+    if !is_finite(capacity(s, net, pair)) {
         return refused(Thing::Net, Fault::InhibitedUnbounded(arc_offset(s, net, k)));
     }
     Answer::Accepted

@@ -22,7 +22,7 @@ loop-holds : tie.Need-loop-holds Inv-loop μ-loop
 loop-holds c = (search needs, count-none _, search needs)
 
 add-count : tie.Need-add-count Inv-loop μ-loop
-add-count c = let z = sizes (c .before .before .before .before .pre .0) in omega (arith, z .arcs, z .wellFormed .arcCount)
+add-count c = let z = sizes (c .before .before .before .before .pre .0) in omega (arith, z .arcsWithin)
 
 loop-again : tie.Need-loop-again Inv-loop μ-loop
 loop-again c =
@@ -34,7 +34,7 @@ returns c =
     let l = c .before .loop in
     let z = sizes (c .before .before .before .pre .0) in
     let e : l .k ≡ length (netOf (c .before .before .before .args .s .now) .arcs) = omega (arith, z .arcs) in
-    ((rw e at (l .inv .1)) ∙ sym (arcs-count (netOf (c .before .before .before .args .s .now)) (z .wellFormed)), omega (arith, z .arcs, z .wellFormed .arcCount))
+    ((rw e at (l .inv .1)) ∙ sym (arcs-count (netOf (c .before .before .before .args .s .now)) (z .wellFormed)), omega (arith, z .arcsWithin))
 
 pub count-arcs-spec : {M : Type 1} → statement M
 count-arcs-spec =

@@ -15,7 +15,7 @@ complement-pair-requires c κs =
     let z = sizes o in
     let read = c .before .before .before .before .arc .ensures in
     let few = entry-few o (c .before .before .before .before .before .before .pre .1 .0) (c .before .before .before .before .arc .result .pair .0) (omega (arith, read .pair)) in
-    omega (arith, z .pairs, z .wellFormed .places .inTotal, read .pair, few)
+    omega (arith, z .pairsWithin, read .pair, few)
 
 complement-arc-requires : tie.Need-complement-arc-requires
 complement-arc-requires c κs = small (c .before .before .before .before .before .arc .ensures) (c .before .before .before .before .before .before .before .pre .0) _ (c .before .capacity .ensures)

@@ -1,7 +1,6 @@
 -- The bytes of the arcs passed are put.
 use borrow.Author.Needs.{needs}
 use Prim.Native.Nat.{_≤_, _-_}
-use native.Mathlib.Omega.{arith}
 use Rattle.model.specs.Complement.{joined}
 use Rattle.sheets.specs.Decoded.{netOf}
 use Rattle.complement.specs.Arcs.{halfBytes}

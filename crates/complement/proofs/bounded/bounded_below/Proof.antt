@@ -29,13 +29,13 @@ add-count c =
     let l = c .before .before .loop in
     let k = K (netOf (c .before .before .before .before .args .s .now)) in
     let more = one-more k (l .p) (l .inv .2) (c .one-if-bounded .ensures) in
-    omega (arith, more, below-at-most k (l .p + 1), z .pairs, z .wellFormed .places .inTotal)
+    omega (arith, more, below-at-most k (l .p + 1), z .pairsWithin)
 
 mul-table : tie.Need-mul-table Inv-loop μ-loop
-mul-table c = let z = sizes (c .before .before .before .before .pre) in omega (arith, z .pairs, z .wellFormed .places .inTotal)
+mul-table c = let z = sizes (c .before .before .before .before .pre) in omega (arith, z .pairsWithin)
 
 array-write-table : tie.Need-array-write-table Inv-loop μ-loop
-array-write-table c = let z = sizes (c .before .before .before .before .pre) in omega (arith, z .pairs, z .wellFormed .places .inTotal)
+array-write-table c = let z = sizes (c .before .before .before .before .pre) in omega (arith, z .pairsWithin)
 
 loop-again : tie.Need-loop-again Inv-loop μ-loop
 loop-again c =
@@ -43,7 +43,7 @@ loop-again c =
     let l = c .before .before .loop in
     let k = K (netOf (c .before .before .before .before .args .s .now)) in
     let more = one-more k (l .p) (l .inv .2) (c .one-if-bounded .ensures) in
-    (search needs, length-set (l .table) _ _ ∙ l .inv .1, more, filled k (l .table) (l .p) (omega (arith, z .pairs, z .wellFormed .places .inTotal)) (l .inv .3) more)
+    (search needs, length-set (l .table) _ _ ∙ l .inv .1, more, filled k (l .table) (l .p) (omega (arith, z .pairsWithin)) (l .inv .3) more)
 
 returns : tie.Need-returns Inv-loop μ-loop
 returns c =

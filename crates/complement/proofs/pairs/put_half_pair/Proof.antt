@@ -12,7 +12,7 @@ use Rattle.complement.proofs.pairs.put_half_pair.Statement.{statement}
 use Rattle.complement.proofs.pairs.put_half_pair.Tie as tie
 
 cast-t8 : tie.Need-cast-t8
-cast-t8 c = let z = sizes (c .before .before .pre .0) in omega (arith, z .pairs, z .wellFormed .places .inTotal)
+cast-t8 c = let z = sizes (c .before .before .pre .0) in omega (arith, z .pairsWithin)
 
 put-pair-requires : tie.Need-put-pair-requires
 put-pair-requires c κs =

@@ -31,7 +31,7 @@ add-end c =
     let o = c .before .before .before .before .pre .0 in
     let z = sizes o in
     let next = next-first o (l .place) (c .before .loop-test .taken) (l .inv .1) (c .colours-of .ensures .0) in
-    omega (arith, z .pairs, z .wellFormed .places .inTotal)
+    omega (arith, z .pairsWithin)
 
 half-colours-requires : tie.Need-half-colours-requires Inv-loop μ-loop
 half-colours-requires c κs =

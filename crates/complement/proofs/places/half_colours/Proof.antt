@@ -20,7 +20,7 @@ bounded-between-requires c κs =
 returns : tie.Need-returns
 returns c =
     let z = sizes (c .before .before .before .pre .0) in
-    (rw (c .enum-told .given .1) refl, omega (arith, z .pairs, z .wellFormed .places .inTotal))
+    (rw (c .enum-told .given .1) refl, omega (arith, z .pairsWithin))
 
 returns-2 : tie.Need-returns-2
 returns-2 c =
@@ -31,7 +31,7 @@ returns-2 c =
     let first = entry-is (pre .0) (pre .1 .0) (a .first) (omega arith) in
     let few = entry-few (pre .0) (pre .1 .0) (a .end) (pre .1 .1 .1) in (
       rw (c .before .enum-told2 .given .1) (c .bounded-between .ensures ∙ ap₂ _-_ last first),
-      omega (arith, c .bounded-between .ensures, few, z .pairs, z .wellFormed .places .inTotal),
+      omega (arith, c .bounded-between .ensures, few, z .pairsWithin),
     )
 
 pub half-colours-spec : {M : Type 1} → statement M

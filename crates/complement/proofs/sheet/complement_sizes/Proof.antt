@@ -1,6 +1,5 @@
 -- The originals and what is new.
 use borrow.Author.Needs.{needs}
-use mathlib.Core.Path.{sym, _∙_}
 use native.Mathlib.Omega.{arith}
 use Rattle.sheets.proofs.Shapes.{sizes}
 use Rattle.complement.proofs.Below.{entry-few, entries-rise, pair-count}
@@ -24,7 +23,7 @@ add-t8 : tie.Need-add-t8
 add-t8 c =
     let pre = c .before .before .before .before .pre in
     let z = sizes (pre .0) in
-    omega (arith, z .pairs, z .wellFormed .places .inTotal, c .bounded-between .ensures, entry-few (pre .0) (pre .1) (c .before .before .before .before .args .net .pairs) (omega arith))
+    omega (arith, z .pairsWithin, c .bounded-between .ensures, entry-few (pre .0) (pre .1) (c .before .before .before .before .args .net .pairs) (omega arith))
 
 returns : tie.Need-returns
 returns c =
@@ -36,7 +35,7 @@ returns c =
       record { places = omega (arith, place-count (pre .0), places .0); pairs = pair-count (pre .0) (pre .1) new; arcs = c .count-arcs .ensures .0 },
       record {
         places = omega (arith, z .places, z .wellFormed .places .many, places .1);
-        pairs = omega (arith, z .pairs, z .wellFormed .places .inTotal, new, last);
+        pairs = omega (arith, z .pairsWithin, new, last);
         arcs = c .count-arcs .ensures .1;
       },
     )
