@@ -19,7 +19,7 @@ table-is d xs n f e h =
     (λ i l. let i<n : i < n = omega (arith, table-length n f) in table-at n f d i i<n ∙ h i (omega arith))
 
 module _ {A B : Type 0} (f : A → List B) where
-  section-append : (xs ys : List A) → flatMap f (xs ++ ys) ≡ flatMap f xs ++ flatMap f ys
+  pub section-append : (xs ys : List A) → flatMap f (xs ++ ys) ≡ flatMap f xs ++ flatMap f ys
   unfolding flatMap
   section-append [] ys = refl
   section-append (x ∷ xs) ys = rw (section-append xs ys, append-assoc)

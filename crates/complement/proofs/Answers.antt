@@ -1,0 +1,66 @@
+-- The order of the refusals, and what an accepted call has room for.
+use Prim.Native.Nat.{ℕ, _≤_}
+use mathlib.Core.Path.{_≡_, refl, _∙_, ap, ap₂}
+use mathlib.Core.Bool.{not}
+use mathlib.Core.List.{List}
+use mathlib.Core.Option.{Option, none, some}
+use lib.Dec.{ltb}
+use lib.ListN.{length}
+use borrow.Author.Tests.{ltb-false}
+use native.Mathlib.Omega.{arith}
+use Rattle.model.specs.declared.Thing.the-variants.{Net}
+use Rattle.model.specs.declared.Fault.the-variants.{NoRoom}
+use Rattle.model.specs.declared.Refusal.{Refusal}
+use Rattle.model.specs.declared.Answer.{Answer}
+use Rattle.model.specs.First.{_▸_, onlyIf}
+use Rattle.model.specs.Refusals.{answer}
+use Rattle.model.specs.Complement.{refusal15, refusal16, sheetLimits, complementRefusal}
+use Rattle.model.proofs.First.{then-assoc, right-none, only-if-none}
+use Rattle.sheets.specs.declared.shape.NetShape.{NetShape}
+use Rattle.sheets.specs.Checks.{wrong}
+use Rattle.sheets.specs.Decoded.{netOf}
+use Rattle.sheets.specs.Shape.{Open, arcOffset}
+use Rattle.sheets.proofs.Puts.{from-start}
+use Rattle.complement.specs.declared.Complemented.the-variants.{Length, Refused}
+use Rattle.complement.specs.declared.sheet.Sizes.{Sizes}
+use Rattle.complement.specs.Complemented.{complementSheet, tooShort, roomRefusal, complemented, output}
+use Rattle.complement.specs.Puts.{Puts}
+use Rattle.complement.specs.Sizes.{SizesAre, inLimits, sizesRefusal, firstOf}
+use Rattle.complement.proofs.SheetParts.{size-is}
+
+first-of : (o p : Option Refusal) → firstOf (answer o) (answer p) ≡ answer (o ▸ p)
+unfolding _▸_
+first-of none p = refl
+first-of (some r) p = refl
+
+limits-are : (s : List ℕ) (of : Sizes) → SizesAre (netOf s) of → inLimits of ≡ sheetLimits (netOf s)
+unfolding sheetLimits
+limits-are s of are = rw (are .places, are .pairs, are .arcs)
+
+module _ {s : List ℕ} {net : NetShape} (o : Open s net) {of : Sizes} (are : SizesAre (netOf s) of) (room : ℕ) where
+  sizes-refusal : sizesRefusal of (net .transitions) room ≡ onlyIf (not (sheetLimits (netOf s))) (wrong Net NoRoom) ▸ tooShort s room
+  unfolding sizesRefusal
+  sizes-refusal =
+      ap₂ (λ limits size. onlyIf (not limits) (wrong Net NoRoom) ▸ onlyIf (ltb room size) (wrong Net NoRoom)) (limits-are s of are) (size-is o are refl)
+
+  -- "15, 16, 10"
+  pub in-order : {inhibitors numbers fits later all : Answer} → inhibitors ≡ answer (refusal15 (arcOffset s) (netOf s)) → numbers ≡ answer (refusal16 (arcOffset s) (netOf s))
+      → fits ≡ answer (sizesRefusal of (net .transitions) room) → later ≡ firstOf numbers fits → all ≡ firstOf inhibitors later
+      → all ≡ answer (roomRefusal s room)
+  unfolding roomRefusal complementRefusal
+  in-order e f g h i =
+      let together : refusal15 (arcOffset s) (netOf s) ▸ refusal16 (arcOffset s) (netOf s) ▸ sizesRefusal of (net .transitions) room ≡ roomRefusal s room =
+      rw (then-assoc, then-assoc, sizes-refusal) in
+      i ∙ ap₂ firstOf e (h ∙ ap₂ firstOf f g ∙ first-of _ _) ∙ first-of _ _ ∙ ap answer together
+
+pub room-enough : (s : List ℕ) (room : ℕ) → roomRefusal s room ≡ none → length (complementSheet s) ≤ room
+unfolding roomRefusal
+room-enough s room e = ltb-false _ _ (only-if-none _ _ (right-none _ _ e))
+
+-- a refusal, with nothing written, and a sheet from the first byte on
+pub refused : {o : Option Refusal} {r : Refusal} (n : ℕ) (sheet found : List ℕ) → o ≡ some r → (Refused r ≡ complemented o n) × (found ≡ output o sheet found)
+refused n sheet found e = rw e (refl, refl)
+
+pub written : {o : Option Refusal} {found now : List ℕ} {after : ℕ} (sheet : List ℕ) → o ≡ none → length sheet ≤ length found → Puts found 0 sheet now after
+    → (Length after ≡ complemented o (length sheet)) × (now ≡ output o sheet found)
+written {after = after} sheet e h p = let n : after ≡ length sheet = omega (arith, p .next) in rw e (ap Length n, from-start (p .written) h)

@@ -1,0 +1,42 @@
+-- A refusal, or the sheet from the first byte on.
+use borrow.Author.Needs.{needs}
+use mathlib.Core.Path.{sym, _∙_}
+use lib.ListN.{length}
+use native.Mathlib.Omega.{arith}
+use Rattle.model.proofs.Refusals.{answer-none, answer-refused}
+use Rattle.complement.specs.Complemented.{complementSheet, roomRefusal}
+use Rattle.complement.proofs.Answers.{room-enough, refused, written}
+use Rattle.complement.proofs.complement_open.Statement.{statement}
+use Rattle.complement.proofs.complement_open.Tie as tie
+
+put-sheet-requires : tie.Need-put-sheet-requires
+put-sheet-requires c κs =
+    let a = c .before .before .before .before .before .before .before .before .before .before .args in
+    let accepted = answer-none (roomRefusal (a .s .now) (length (a .out .now))) (c .before .before .before .before .complement-answer .ensures) (c .before .before .enum-told .given .1) in
+    (c .before .before .before .before .before .before .before .before .before .before .pre, (c .before .before .before .before .before .before .before .bounded-below .ensures, (c .before .before .before .before .before .complement-sizes .ensures, record { fits = omega (arith, room-enough _ _ accepted) })))
+
+returns : tie.Need-returns
+returns c =
+    let a = c .before .before .before .before .before .before .before .before .before .args in
+    refused _ (complementSheet (a .s .now)) _
+    (answer-refused (roomRefusal (a .s .now) (length (a .out .now))) (sym (c .before .before .before .complement-answer .ensures) ∙ c .before .answer .given .1))
+
+returns-2 : tie.Need-returns-2
+returns-2 c =
+    let a = c .before .before .before .before .before .before .before .before .before .before .before .before .before .args in
+    let accepted = answer-none (roomRefusal (a .s .now) (length (a .out .now))) (c .before .before .before .before .before .before .before .complement-answer .ensures) (c .before .before .before .before .before .enum-told .given .1) in
+    written _ accepted (room-enough _ _ accepted) (c .before .before .put-sheet .ensures)
+
+pub complement-open-spec : {M : Type 1} → statement M
+complement-open-spec =
+    tie.close
+    (tie.spec
+    (λ c κs. search needs)
+    (λ c κs. search needs)
+    (λ c κs. search needs)
+    (λ c. search needs)
+    (λ c. search needs)
+    put-sheet-requires
+    returns
+    (λ c. search needs)
+    returns-2)

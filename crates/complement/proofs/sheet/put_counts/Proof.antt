@@ -1,0 +1,54 @@
+-- The head, the place count, the transition count.
+use borrow.Author.Needs.{needs}
+use mathlib.Core.Path.{ap}
+use native.Mathlib.Omega.{arith}
+use Rattle.sheets.specs.Written.{bytes16, headBytes}
+use Rattle.sheets.proofs.Puts.{put-length}
+use Rattle.sheets.proofs.Shapes.{sizes}
+use Rattle.complement.proofs.SheetParts.{transitions-are, length-is}
+use Rattle.complement.proofs.Puts.{puts-as, head-fits, count-fits, room-first, room-next, puts-both}
+use Rattle.complement.proofs.sheet.put_counts.Statement.{statement}
+use Rattle.complement.proofs.sheet.put_counts.Tie as tie
+
+sheet-size-requires : tie.Need-sheet-size-requires
+sheet-size-requires c κs = let z = sizes (c .before .before .pre .0) in omega (arith, z .transitions, z .wellFormed .transitions .many)
+
+put-head-requires : tie.Need-put-head-requires
+put-head-requires c κs =
+    let pre = c .before .before .before .before .pre in
+    let z = sizes (pre .0) in
+    let size = c .before .sheet-size .ensures in
+    let few = pre .1 .0 .1 in
+    (omega (arith, head-fits _ (room-first _ _ (pre .1 .1))), omega (arith, size), omega (arith, size, few, z .transitions, z .wellFormed .transitions .many))
+
+put-count-requires : tie.Need-put-count-requires
+put-count-requires c κs =
+    let pre = c .before .before .before .before .before .before .before .before .pre in
+    let head = puts-as (ap headBytes (length-is (pre .0) (pre .1 .0 .0) (c .before .before .before .before .before .sheet-size .ensures))) (put-length (c .before .before .before .put-head .ensures)) in
+    (count-fits _ (room-first _ _ (room-next _ _ (pre .1 .1) head)), omega (arith, pre .1 .0 .1 .places))
+
+put-count-requires-2 : tie.Need-put-count-requires-2
+put-count-requires-2 c κs =
+    let pre = c .before .before .before .before .before .before .before .before .before .before .before .before .pre in
+    let z = sizes (pre .0) in
+    let head = puts-as (ap headBytes (length-is (pre .0) (pre .1 .0 .0) (c .before .before .before .before .before .before .before .before .before .sheet-size .ensures))) (put-length (c .before .before .before .before .before .before .before .put-head .ensures)) in
+    let places = puts-as (ap bytes16 (pre .1 .0 .0 .places)) (put-length (c .before .before .before .put-count .ensures)) in
+    (count-fits _ (room-next _ _ (room-next _ _ (pre .1 .1) head) places), omega (arith, z .transitions, z .wellFormed .transitions .many))
+
+returns : tie.Need-returns
+returns c =
+    let pre = c .before .before .before .before .before .before .before .before .before .before .before .before .before .before .before .pre in
+    let head = puts-as (ap headBytes (length-is (pre .0) (pre .1 .0 .0) (c .before .before .before .before .before .before .before .before .before .before .before .before .sheet-size .ensures))) (put-length (c .before .before .before .before .before .before .before .before .before .before .put-head .ensures)) in
+    let places = puts-as (ap bytes16 (pre .1 .0 .0 .places)) (put-length (c .before .before .before .before .before .before .put-count .ensures)) in
+    puts-both head (puts-both places (puts-as (ap bytes16 (transitions-are (pre .0) (pre .1 .0 .0))) (put-length (c .before .before .put-count2 .ensures))))
+
+pub put-counts-spec : {M : Type 1} → statement M
+put-counts-spec =
+    tie.close
+    (tie.spec
+    sheet-size-requires
+    put-head-requires
+    put-count-requires
+    put-count-requires-2
+    (λ c. search needs)
+    returns)

@@ -1,0 +1,7 @@
+pub mod Complemented
+pub mod Bounded
+pub mod Arcs
+pub mod Places
+pub mod Pairs
+pub mod Sizes
+pub mod Puts

@@ -1,0 +1,58 @@
+-- How large the complement is, which refusal 10 and the length of its sheet go by; and its sheet in three parts.
+use Prim.Native.Nat.{ℕ, _≤_}
+use mathlib.Core.Path.{_≡_}
+use mathlib.Core.Bool.{Bool, not, _&&_}
+use mathlib.Core.List.{List, _++_, flatMap}
+use mathlib.Core.Option.{Option}
+use lib.Dec.{leb, ltb}
+use lib.ListN.{length}
+use Rattle.model.specs.declared.Thing.the-variants.{Net}
+use Rattle.model.specs.declared.Fault.the-variants.{NoRoom}
+use Rattle.model.specs.declared.Refusal.{Refusal}
+use Rattle.model.specs.declared.Answer.{Answer}
+use Rattle.model.specs.declared.Answer.the-variants.{Accepted, Refused}
+use Rattle.model.specs.First.{_▸_, onlyIf}
+use Rattle.model.specs.Nets.{PNet, pairs}
+use Rattle.model.specs.Complement.{complement}
+use Rattle.sheets.specs.Checks.{wrong}
+use Rattle.sheets.specs.Puts.{sheetSize}
+use Rattle.sheets.specs.Written.{bytes16, arcBytes, headBytes, pairsBytes, lengthOf}
+use Rattle.complement.specs.declared.sheet.Sizes.{Sizes}
+
+pub record SizesAre (net : PNet) (sizes : Sizes) : Type 0 where
+  pub places : sizes .places ≡ length (complement net .colours)
+  pub pairs : sizes .pairs ≡ pairs (complement net)
+  pub arcs : sizes .arcs ≡ length (complement net .arcs)
+
+-- at most twice what a sheet may hold
+pub record Few (sizes : Sizes) : Type 0 where
+  pub places : sizes .places ≤ 128
+  pub pairs : sizes .pairs ≤ 512
+  pub arcs : sizes .arcs ≤ 4096
+
+-- "complement exceeds the sheet's limits"
+abbrev pub inLimits : Sizes → Bool
+inLimits sizes = leb (sizes .places) 64 && leb (sizes .pairs) 256 && leb (sizes .arcs) 2048
+
+-- 10 by these numbers, where the output slice has this room
+unfoldable pub sizesRefusal : Sizes → ℕ → ℕ → Option Refusal
+sizesRefusal sizes transitions room =
+    onlyIf (not (inLimits sizes)) (wrong Net NoRoom)
+    ▸ onlyIf (ltb room (sheetSize (sizes .places) transitions (sizes .pairs) (sizes .arcs))) (wrong Net NoRoom)
+
+-- this answer, then that
+abbrev pub firstOf : Answer → Answer → Answer
+firstOf Accepted that = that
+firstOf (Refused r) that = Refused r
+
+-- "a 4-byte length L .., a version byte 1 ..; Place count ..; transition count"
+abbrev pub countsBytes : PNet → List ℕ
+countsBytes net = headBytes (lengthOf net) ++ (bytes16 (length (net .colours)) ++ bytes16 (length (net .modesOf)))
+
+-- "colours of each place ..; modes of each transition ..; for each pair K and the first marking"
+abbrev pub recordsBytes : PNet → List ℕ
+recordsBytes net = flatMap bytes16 (net .colours) ++ (flatMap bytes16 (net .modesOf) ++ pairsBytes net)
+
+-- "arc count ..; the arcs"
+abbrev pub arcsBytes : PNet → List ℕ
+arcsBytes net = bytes16 (length (net .arcs)) ++ flatMap arcBytes (net .arcs)

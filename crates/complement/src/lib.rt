@@ -1,0 +1,57 @@
+// The complementing call: the second form of a net, in which a token left behind shows at once (document 01, "The complemented net").
+// It writes the sheet of the complement straight from the sheet of the net.
+mod arcs;
+mod bounded;
+mod entry;
+mod half;
+mod pairs;
+mod places;
+mod refusals;
+mod room;
+mod sheet;
+
+use crate::bounded::bounded_below;
+use crate::room::complement_answer;
+use crate::sheet::complement_sizes;
+use crate::sheet::put_sheet;
+use model::Answer;
+use model::Refusal;
+use sheets::opened::Opened;
+use sheets::opened::open_net;
+use sheets::shape::NetShape;
+ghost use mathlib.Core.Path.{_≡_};
+ghost use lib.ListN.{length};
+ghost use Rattle.sheets.specs.Shape.{Open};
+ghost use Rattle.complement.specs.Complemented.{complementSheet, roomRefusal, complemented, output, complementOf, outputOf};
+
+// How many bytes were written, or why none.
+pub enum Complemented {
+    Length(usize),
+    Refused(Refusal),
+}
+
+fn complement_open(s: &[u8], net: NetShape, out: &mut [u8]) -> Complemented
+    requires { ⌜ Open (now s) net ⌝ }
+    ensures { λ r. ⌜ r ≡ complemented (roomRefusal (now (s .entry)) (length (now (out .entry)))) (length (complementSheet (now (s .entry)))) ⌝ }
+    ensures { λ _. ⌜ now (out .exit) ≡ output (roomRefusal (now (s .entry)) (length (now (out .entry)))) (complementSheet (now (s .entry))) (now (out .entry)) ⌝ }
+{
+    let below = bounded_below(s, net);
+    let sizes = complement_sizes(s, net, &below);
+    let answer = complement_answer(s, net, sizes, out.len());
+    match answer {
+        Answer::Refused(refusal) => Complemented::Refused(refusal),
+        Answer::Accepted => Complemented::Length(put_sheet(s, net, &below, sizes, out)),
+    }
+}
+
+// Writes the sheet of the net's complement from the first byte of `out` on.
+pub fn complement(net: &[u8], out: &mut [u8]) -> Complemented
+    ensures { λ r. ⌜ r ≡ complementOf (now (net .entry)) (now (out .entry)) ⌝ }
+    ensures { λ _. ⌜ now (out .exit) ≡ outputOf (now (net .entry)) (now (out .entry)) ⌝ }
+{
+    let opened = open_net(net);
+    match opened {
+        Opened::Refused(refusal) => Complemented::Refused(refusal),
+        Opened::Open(shape) => complement_open(net, shape, out),
+    }
+}

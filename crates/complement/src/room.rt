@@ -1,0 +1,76 @@
+// Refusal 10, and the order of the three: "Complementing: net, 15, 16, 10".
+use crate::refusals::inhibitors_answer;
+use crate::refusals::numbers_answer;
+use crate::sheet::Sizes;
+use model::Answer;
+use model::Fault;
+use model::Thing;
+use sheets::head::refused;
+use sheets::shape::NetShape;
+use sheets::write::sheet_size;
+ghost use mathlib.Core.Path.{_≡_};
+ghost use Prim.Native.Nat.{_≤_};
+ghost use lib.Dec.{ltb};
+ghost use Rattle.model.specs.Refusals.{answer};
+ghost use Rattle.sheets.specs.Decoded.{netOf};
+ghost use Rattle.sheets.specs.Shape.{Open};
+ghost use Rattle.complement.specs.Complemented.{roomRefusal};
+ghost use Rattle.complement.specs.Sizes.{SizesAre, Few, inLimits, sizesRefusal, firstOf};
+
+// "complement exceeds the sheet's limits"
+fn within_limits(sizes: Sizes) -> bool
+    ensures { λ r. ⌜ r ≡ inLimits sizes ⌝ }
+{
+    if 64 < sizes.places {
+        return false;
+    }
+    if 256 < sizes.pairs {
+        return false;
+    }
+    sizes.arcs <= 2048
+}
+
+// "or the output slice is shorter than it"
+fn is_short(room: usize, size: usize) -> bool
+    ensures { λ r. ⌜ r ≡ ltb room size ⌝ }
+{
+    room < size
+}
+
+fn room_answer(sizes: Sizes, transitions: usize, room: usize) -> Answer
+    requires { ⌜ Few sizes ⌝ }
+    requires { ⌜ transitions ≤ 64 ⌝ }
+    ensures { λ r. ⌜ r ≡ answer (sizesRefusal sizes transitions room) ⌝ }
+{
+    if !within_limits(sizes) {
+        return refused(Thing::Net, Fault::NoRoom);
+    }
+    if is_short(
+        room,
+        sheet_size(sizes.places, transitions, sizes.pairs, sizes.arcs),
+    ) {
+        return refused(Thing::Net, Fault::NoRoom);
+    }
+    Answer::Accepted
+}
+
+// This, then that.
+fn then(this: Answer, that: Answer) -> Answer
+    ensures { λ r. ⌜ r ≡ firstOf this that ⌝ }
+{
+    if let Answer::Refused(_) = this {
+        return this;
+    }
+    that
+}
+
+pub(crate) fn complement_answer(s: &[u8], net: NetShape, sizes: Sizes, room: usize) -> Answer
+    requires { ⌜ Open (now s) net ⌝ }
+    requires { ⌜ SizesAre (netOf (now s)) sizes × Few sizes ⌝ }
+    ensures { λ r. ⌜ r ≡ answer (roomRefusal (now (s .entry)) room) ⌝ }
+{
+    let inhibitors = inhibitors_answer(s, net);
+    let numbers = numbers_answer(s, net);
+    let sizes_fit = room_answer(sizes, net.transitions, room);
+    then(inhibitors, then(numbers, sizes_fit))
+}

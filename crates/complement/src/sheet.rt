@@ -1,0 +1,102 @@
+// The sheet of the complement: how large it is, and its parts in turn.
+use crate::arcs::count_arcs;
+use crate::arcs::put_arcs;
+use crate::bounded::bounded_between;
+use crate::pairs::put_pairs;
+use crate::places::count_new_places;
+use crate::places::put_modes;
+use crate::places::put_places;
+use sheets::shape::NetShape;
+use sheets::write::put_count;
+use sheets::write::put_head;
+use sheets::write::sheet_size;
+ghost use mathlib.Core.Path.{_≡_};
+ghost use Prim.Native.Nat.{_≤_};
+ghost use lib.ListN.{length};
+ghost use Rattle.model.specs.Complement.{complement};
+ghost use Rattle.sheets.specs.Decoded.{netOf};
+ghost use Rattle.sheets.specs.Shape.{Open};
+ghost use Rattle.sheets.specs.Written.{sheetOf};
+ghost use Rattle.complement.specs.Bounded.{BelowAre};
+ghost use Rattle.complement.specs.Sizes.{SizesAre, Few, countsBytes, recordsBytes, arcsBytes};
+ghost use Rattle.complement.specs.Puts.{Room, Puts};
+
+// How many places, pairs and arcs the complement has.
+pub(crate) struct Sizes {
+    pub places: usize,
+    pub pairs: usize,
+    pub arcs: usize,
+}
+
+pub(crate) fn complement_sizes(s: &[u8], net: NetShape, below: &[u16; 257]) -> Sizes
+    requires { ⌜ Open (now s) net ⌝ }
+    requires { ⌜ BelowAre (netOf (now s)) (now below) ⌝ }
+    ensures { λ r. ⌜ SizesAre (netOf (now (s .entry))) r × Few r ⌝ }
+{
+    let pairs = net.pairs;
+    Sizes {
+        places: net.places + count_new_places(s, net, below),
+        pairs: pairs + bounded_between(below, 0, pairs),
+        arcs: count_arcs(s, net, below),
+    }
+}
+
+// The length, the version and the counts of places and transitions.
+fn put_counts(s: &[u8], net: NetShape, sizes: Sizes, out: &mut [u8]) -> usize
+    requires { ⌜ Open (now s) net ⌝ }
+    requires { ⌜ SizesAre (netOf (now s)) sizes × Few sizes ⌝ }
+    requires { ⌜ Room (now out) 0 (countsBytes (complement (netOf (now s)))) ⌝ }
+    ensures { λ r. ⌜ Puts (now (out .entry)) 0 (countsBytes (complement (netOf (now (s .entry))))) (now (out .exit)) r ⌝ }
+{
+    let size = sheet_size(sizes.places, net.transitions, sizes.pairs, sizes.arcs);
+    let at_places = put_head(out, size);
+    let at_transitions = put_count(out, at_places, sizes.places);
+    put_count(out, at_transitions, net.transitions)
+}
+
+fn put_records(s: &[u8], net: NetShape, below: &[u16; 257], out: &mut [u8], at: usize) -> usize
+    requires { ⌜ Open (now s) net ⌝ }
+    requires { ⌜ BelowAre (netOf (now s)) (now below) ⌝ }
+    requires { ⌜ Room (now out) at (recordsBytes (complement (netOf (now s)))) ⌝ }
+    ensures { λ r. ⌜ Puts (now (out .entry)) at (recordsBytes (complement (netOf (now (s .entry))))) (now (out .exit)) r ⌝ }
+{
+    let at_modes = put_places(s, net, below, out, at);
+    let at_pairs = put_modes(s, net, out, at_modes);
+    put_pairs(s, net, out, at_pairs)
+}
+
+fn put_counted_arcs(
+    s: &[u8],
+    net: NetShape,
+    below: &[u16; 257],
+    arcs: usize,
+    out: &mut [u8],
+    at: usize,
+) -> usize
+    requires { ⌜ Open (now s) net ⌝ }
+    requires { ⌜ BelowAre (netOf (now s)) (now below) ⌝ }
+    requires { ⌜ (arcs ≡ length (complement (netOf (now s)) .arcs)) × (arcs ≤ 4096) ⌝ }
+    requires { ⌜ Room (now out) at (arcsBytes (complement (netOf (now s)))) ⌝ }
+    ensures { λ r. ⌜ Puts (now (out .entry)) at (arcsBytes (complement (netOf (now (s .entry))))) (now (out .exit)) r ⌝ }
+{
+    let at_arcs = put_count(out, at, arcs);
+    put_arcs(s, net, below, out, at_arcs)
+}
+
+pub(crate) fn put_sheet(
+    s: &[u8],
+    net: NetShape,
+    below: &[u16; 257],
+    sizes: Sizes,
+    out: &mut [u8],
+) -> usize
+    requires { ⌜ Open (now s) net ⌝ }
+    requires { ⌜ BelowAre (netOf (now s)) (now below) ⌝ }
+    requires { ⌜ SizesAre (netOf (now s)) sizes × Few sizes ⌝ }
+    requires { ⌜ Room (now out) 0 (sheetOf (complement (netOf (now s)))) ⌝ }
+    ensures { λ r. ⌜ Puts (now (out .entry)) 0 (sheetOf (complement (netOf (now (s .entry))))) (now (out .exit)) r ⌝ }
+{
+    let at_records = put_counts(s, net, sizes, out);
+    let at_arcs = put_records(s, net, below, out, at_records);
+    put_counted_arcs(s, net, below, sizes.arcs, out, at_arcs)
+}
