@@ -1,6 +1,7 @@
 pub mod Bounds
 pub mod ByMode
 pub mod ByNumbers
+pub mod Certifying
 pub mod Filling
 pub mod FourTests
 pub mod Leaving

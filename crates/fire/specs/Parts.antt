@@ -12,17 +12,17 @@ use Rattle.model.specs.declared.Mode.{Mode}
 use Rattle.model.specs.declared.Why.{Why}
 use Rattle.model.specs.declared.Thing.{Thing}
 use Rattle.model.specs.declared.Thing.the-variants.{Argument}
-use Rattle.model.specs.declared.Fault.the-variants.{MarkingOutside, MarkingAboveCapacity, NotThere, NotOneEach}
+use Rattle.model.specs.declared.Fault.the-variants.{MarkingOutside, MarkingAboveCapacity, NotThere, NotOneEach, EndsElsewhere}
 use Rattle.model.specs.declared.Refusal.{Refusal}
 use Rattle.model.specs.declared.Answer.{Answer}
-use Rattle.model.specs.First.{_▸_, onlyIf}
+use Rattle.model.specs.First.{_▸_, first, onlyIf}
 use Rattle.model.specs.Refusals.{answer}
 use Rattle.model.specs.Numbers.{ℕ∞, fin, above, limit}
 use Rattle.model.specs.Rows.{Entry}
 use Rattle.model.specs.Nets.{PNet, pairs, pairNo, K, count, arcNo, row}
 use Rattle.model.specs.Markings.{Marking, markingRefusal}
 use Rattle.model.specs.Firing.{after, stops, stopped, lowestStop, rowRefusal, modeRefusal}
-use Rattle.model.specs.Runs.{Outcome, goOn}
+use Rattle.model.specs.Runs.{Outcome, goOn, run}
 use Rattle.model.proofs.PassBelow.{passBelow}
 use Rattle.sheets.specs.declared.shape.NetShape.{NetShape}
 use Rattle.sheets.specs.declared.starts.Segment.{Segment}
@@ -149,3 +149,10 @@ pub record Reports (o : Outcome) (told : Ran) (left : List ℕ) : Type 0 where
 -- a run that is refused by o before its first movement, or has the outcome `next`
 pub record Begins (o : Option Refusal) (m : List ℕ) (next : Outcome) (told : Ran) (left : List ℕ) : Type 0 where
   pub reports : Reports (goOn o 0 m next) told left
+
+-- 18: "certificate ends at another marking", at pair p; and the run from the first marking before it
+unfoldable pub elsewhere : List ℕ → List ℕ → ℕ → Option Refusal
+elsewhere last claim p = onlyIf (not (eqb (count last p) (count claim p))) (wrong Argument (EndsElsewhere (pairNo p)))
+
+unfoldable pub endsAt : PNet → List Mode → List ℕ → Option Refusal
+endsAt net ts claim = run net ts (net .start) .refusal ▸ first (pairs net) (elsewhere (run net ts (net .start) .marking) claim)

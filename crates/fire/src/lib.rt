@@ -1,6 +1,7 @@
 // Movements over a lent marking: begin, test, fire, run, certify.
 // What each call answers, and what it leaves in the marking, is said in specs/Calls.antt.
 use crate::advance::mode_answer;
+use crate::certificate::certificate_answer;
 use crate::marking::marking_answer;
 use crate::mode::fire_arcs;
 use crate::mode::row_answer;
@@ -21,15 +22,16 @@ ghost use Rattle.model.specs.First.{_▸_};
 ghost use Rattle.model.specs.Refusals.{answer};
 ghost use Rattle.model.specs.Markings.{markingRefusal};
 ghost use Rattle.model.specs.Firing.{fired};
-ghost use Rattle.model.specs.Runs.{run as modelRun};
+ghost use Rattle.model.specs.Runs.{run as modelRun, certificateRefusal};
 ghost use Rattle.sheets.specs.Whole.{wholeMovements};
 ghost use Rattle.sheets.specs.Decoded.{netOf, movementsOf};
 ghost use Rattle.sheets.specs.Shape.{Open};
-ghost use Rattle.fire.specs.Calls.{beginRefusal, begun, testRefusal, firedBy, runOf, ranOf};
+ghost use Rattle.fire.specs.Calls.{beginRefusal, begun, testRefusal, firedBy, runOf, ranOf, certifyRefusal};
 ghost use Rattle.fire.specs.Parts.{unequal, argumentRefusal, Leaves, Begins};
 
 pub mod advance;
 mod arcs;
+mod certificate;
 pub mod marking;
 mod mode;
 pub mod movements;
@@ -153,5 +155,27 @@ pub fn run(net: &[u8], movements: &[u8], marking: &mut [u32]) -> Ran
             answer: Answer::Refused(refusal),
         },
         Opened::Open(shape) => run_open(net, shape, movements, marking),
+    }
+}
+
+fn certify_open(s: &[u8], net: NetShape, movements: &[u8], claim: &[u32]) -> Answer
+    requires { ⌜ Open (now s) net ⌝ }
+    ensures { λ r. ⌜ r ≡ answer (wholeMovements (now (movements .entry)) ▸ certificateRefusal (netOf (now (s .entry))) (movementsOf (now (movements .entry))) (now (claim .entry))) ⌝ }
+{
+    let sheet = whole_movements(movements);
+    if let Answer::Refused(_) = sheet {
+        return sheet;
+    }
+    certificate_answer(s, net, movements, claim)
+}
+
+// Whether a list of movements leads from the net's first marking to the claim.
+pub fn certify(net: &[u8], movements: &[u8], claim: &[u32]) -> Answer
+    ensures { λ r. ⌜ r ≡ answer (certifyRefusal (now (net .entry)) (now (movements .entry)) (now (claim .entry))) ⌝ }
+{
+    let opened = open_net(net);
+    match opened {
+        Opened::Refused(refusal) => Answer::Refused(refusal),
+        Opened::Open(shape) => certify_open(net, shape, movements, claim),
     }
 }
