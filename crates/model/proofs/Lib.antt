@@ -26,3 +26,5 @@ pub mod ArcByArc
 pub mod Integers
 pub mod Figures
 pub mod Refusals
+pub mod Decisions
+pub mod RefusalTables

@@ -4,6 +4,7 @@ pub mod Billington
 pub mod Numbers
 pub mod First
 pub mod Refusals
+pub mod RefusalTables
 pub mod Replies
 pub mod Rows
 pub mod Nets

@@ -9,7 +9,6 @@ use native.Mathlib.Omega.{arith}
 use borrow.Author.Tests.{ltb-false, eqb-false}
 use Rattle.model.specs.declared.Thing.{Thing}
 use Rattle.model.specs.declared.Thing.the-variants.{Net, Weights, Movements}
-use Rattle.model.specs.First.{_▸_}
 use Rattle.model.proofs.First.{left-none, right-none, only-if-none}
 use Rattle.sheets.specs.Layout.{bodyLength, sheetEnd}
 use Rattle.sheets.specs.Checks.{headRefusal}

@@ -1,5 +1,5 @@
 -- What the accepted fields of a pair say.
-use Prim.Native.Nat.{ℕ, _+_, _≤_, _<_}
+use Prim.Native.Nat.{ℕ, _+_, _≤_}
 use mathlib.Core.Path.{_≡_}
 use mathlib.Core.Bool.{false}
 use mathlib.Core.List.{List}
@@ -9,7 +9,7 @@ use Rattle.model.specs.Numbers.{above, limit}
 use Rattle.model.proofs.First.{left-none, right-none, only-if-none}
 use Rattle.sheets.specs.Bytes.{u32At}
 use Rattle.sheets.specs.Layout.{sheetEnd, capacityAt, startAt}
-use Rattle.sheets.specs.Nets.{bound, outside, capacityRefusal, startRefusal, pairRefusal}
+use Rattle.sheets.specs.Nets.{bound, outside, capacityRefusal, startRefusal}
 
 pub record CapacityRead (s : List ℕ) (at : ℕ) : Type 0 where
   pub there : capacityAt at + 4 ≤ sheetEnd s

@@ -1,21 +1,20 @@
 -- What an accepted count says, and the running total.
-use Prim.Native.Nat.{ℕ, zero, suc, _+_, _≤_, _<_}
-use mathlib.Core.Path.{_≡_, refl, sym, _∙_, ap}
+use Prim.Native.Nat.{ℕ, zero, suc, _+_, _≤_}
+use mathlib.Core.Path.{_≡_, refl}
 use mathlib.Core.Bool.{Bool, true, false, _||_}
 use mathlib.Core.List.{List, [], _∷_, _++_}
 use mathlib.Core.Option.{none}
-use lib.Dec.{ltb}
 use native.Mathlib.Omega.{arith}
 use native.Mathlib.Numerals.{add-one}
 use borrow.Author.Tests.{ltb-false}
 use Rattle.model.specs.declared.Thing.{Thing}
 use Rattle.model.specs.declared.Thing.the-variants.{Net}
-use Rattle.model.specs.First.{_▸_, first, onlyIf}
+use Rattle.model.specs.First.{first}
 use Rattle.model.specs.Nets.{total}
 use Rattle.model.specs.Firing.{table}
 use Rattle.model.proofs.First.{left-none, right-none, only-if-none, first-each}
 use Rattle.sheets.specs.Bytes.{u16At}
-use Rattle.sheets.specs.Layout.{sheetEnd, countAt, counts, totalOf, placesAt, transitionsAt, coloursAt, placeCount, transitionCount, modesAt, pairCount, modeCount, pairsAt}
+use Rattle.sheets.specs.Layout.{sheetEnd, countAt, counts, totalOf, placesAt, transitionsAt, coloursAt, placeCount, transitionCount, pairCount, modeCount}
 use Rattle.sheets.specs.Checks.{countRefusal}
 use Rattle.sheets.specs.Held.{Headed, Sized, Counted}
 use Rattle.sheets.specs.Nets.{runningRefusal, eachCount, countFields}

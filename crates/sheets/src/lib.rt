@@ -15,3 +15,4 @@ pub mod shape;
 pub mod starts;
 pub mod weights;
 pub mod whole;
+pub mod write;

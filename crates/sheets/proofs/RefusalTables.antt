@@ -1,0 +1,146 @@
+-- Each chain of checks is read off its table.
+use Prim.Native.Nat.{ℕ, suc, _+_, _*_, _-_, _<_}
+use mathlib.Core.Path.{_≡_, refl, ap, subst}
+use mathlib.Core.Bool.{Bool, true, false, false≢true, cond}
+use mathlib.Core.List.{List}
+use mathlib.Core.Logic.{inl, inr, _≢_}
+use lib.Dec.{ltb, eqb, lt→ltb, ltb→lt}
+use lib.ListN.{length}
+use lib.IntN.{ℤ, pos, negsuc, natAbs}
+use lib.Signed.{ltZ-yes}
+use native.Mathlib.Omega.{arith}
+use borrow.Author.Tests.{eqb-true, eqb-false}
+use Rattle.model.specs.declared.Thing.{Thing}
+use Rattle.model.specs.declared.Thing.the-variants.{Net, Weights, Movements}
+use Rattle.model.specs.declared.Refusal.{Refusal}
+use Rattle.model.specs.declared.Fault.the-variants.{CutShort, WrongLength}
+use Rattle.model.specs.First.{onlyIf}
+use Rattle.model.specs.Numbers.{fin, ∞, limit}
+use Rattle.model.specs.RefusalTables.{row, Reads}
+use Rattle.model.proofs.First.{then-assoc}
+use Rattle.model.proofs.Decisions.{Decided, by-less, by-at-most, by-equal, by-above, by-not, by-or, by-and, by-other}
+use Rattle.model.proofs.RefusalTables.{reads-row, reads-then, reads-each, reads-either}
+use Rattle.sheets.specs.Bytes.{u16At, u32At}
+use Rattle.sheets.specs.Layout.{bodyLength, sheetEnd, weightCountAt, version, countAt, totalOf, pairAt, arcAt, arcCountAt, arcsAfter, placeCount, transitionCount, coloursAt, modesAt, pairCount, pairsAt, modeCount, movementCount, movementAt, weightCount, weightAt}
+use Rattle.sheets.specs.Checks.{wrong, headRefusal, missing, leftOver, countRefusal}
+use Rattle.sheets.specs.Movements.{mostMovements, movementFields, movementsRefusal}
+use Rattle.sheets.specs.Weights.{signed, weightRefusal, weightFields, weightsRefusal}
+use Rattle.sheets.specs.Nets.{unbounded, bound, outside, runningRefusal, capacityRefusal, startRefusal, pairRefusal, risesTo, notRising, isBlank, arcNumbersRefusal, arcNamesRefusal, arcRefusal, arcFields, eachCount, countFields, pairAndArcFields, netFields, netRefusal}
+use Rattle.sheets.specs.RefusalTables.{headTable, pastEnd, leftAfter, countTable, movementTable, Outweighs, weightTable, runningTable, pairTable, Higher, arcNamesTable, arcNumbersTable, arcTable, netTable, SheetTables}
+
+-- a row that stands in the chain as it stands in the table
+plain : {test : Bool} {P : Type 0} (r : Refusal) → Decided test P → Reads (row P r) (onlyIf test r)
+plain r d = reads-row r d (λ p. refl)
+
+module _ (thing : Thing) (s : List ℕ) where
+  head-reads : Reads (headTable thing s) (headRefusal thing s)
+  unfolding headRefusal
+  head-reads =
+      subst (Reads (headTable thing s)) (then-assoc (onlyIf (ltb (length s) 4) (wrong thing CutShort)) _ _)
+      (reads-then (reads-either (wrong thing CutShort) (by-less (length s) 4) (by-less (length s) (sheetEnd s)))
+      (reads-then (plain _ (by-equal (bodyLength s) 0)) (plain _ (by-not (by-equal (version s) 1)))))
+
+  past-reads : (at size : ℕ) → Reads (pastEnd thing s at size) (missing thing s at size)
+  past-reads at size = plain _ (by-less (sheetEnd s) (at + size))
+
+  left-reads : (at : ℕ) → Reads (leftAfter thing s at) (leftOver thing s at)
+  left-reads at = plain _ (by-less at (sheetEnd s))
+
+  count-reads : (at low high : ℕ) → Reads (countTable thing s at low high) (countRefusal thing s at low high)
+  unfolding countRefusal
+  count-reads at low high = reads-then (past-reads at 2) (plain _ (by-or (by-less (u16At s at) low) (by-less high (u16At s at))))
+
+-- L - 1 bytes of modes, two each, and one more
+lone : (s : List ℕ) → Decided (ltb (movementAt (movementCount s)) (sheetEnd s)) ((k : ℕ) × (bodyLength s ≡ 2 * k + 2))
+lone s =
+    by-other (by-less (movementAt (movementCount s)) (sheetEnd s)) (λ l. (movementCount s, omega arith)) (λ e. omega (arith, e .1))
+
+movement-reads : (s : List ℕ) → Reads (movementTable s) (movementsRefusal s)
+unfolding movementTable movementsRefusal movementFields
+movement-reads s =
+    reads-then (head-reads Movements s)
+    (reads-then (reads-row _ (lone s) (λ e. ap (λ (at : ℕ). wrong Movements (WrongLength at)) (omega (arith, e .1))))
+    (plain _ (by-less mostMovements (movementCount s))))
+
+outweighs : (z : ℤ) → Decided (ltb limit (natAbs z)) (Outweighs z)
+outweighs (pos n) =
+    by-other (by-less limit n) (λ l. inr (ltZ-yes (lt→ltb limit n l)))
+    (elim [ inl below ↦ absurd (below .lt) | inr over ↦ ltb→lt limit n (over .lt) ])
+outweighs (negsuc n) =
+    by-other (by-less limit (suc n)) (λ l. inl (ltZ-yes (lt→ltb 999999 n (omega arith))))
+    (elim [ inl below ↦ omega (arith, ltb→lt 999999 n (below .lt)) | inr over ↦ absurd (over .lt) ])
+
+weight-reads : (pairs : ℕ) (s : List ℕ) → Reads (weightTable pairs s) (weightsRefusal pairs s)
+unfolding weightTable weightsRefusal weightFields weightRefusal
+weight-reads pairs s =
+    reads-then (head-reads Weights s)
+    (reads-then (past-reads Weights s weightCountAt 2)
+    (reads-then (plain _ (by-not (by-equal (weightCount s) pairs)))
+    (reads-then
+    (reads-each (weightCount s)
+    (λ p l. reads-then (past-reads Weights s (weightAt p) 4) (plain _ (outweighs (signed (u32At s (weightAt p)))))))
+    (left-reads Weights s (weightAt (weightCount s))))))
+
+-- 4,294,967,295 is the one number above the limit that a K or I may have
+bound-outside : (x : ℕ) → Decided (outside (bound x)) ((limit < x) × (x ≢ unbounded))
+unfolding bound
+bound-outside x = go (eqb x unbounded) refl
+  where
+    go : (b : Bool) → eqb x unbounded ≡ b → Decided (outside (cond (eqb x unbounded) ∞ (fin x))) ((limit < x) × (x ≢ unbounded))
+    go true e = rw e (record { sound = λ f. absurd (false≢true f); complete = λ h. absurd (h .1 (eqb-true x unbounded e)) })
+    go false e = rw e (by-other (by-less limit x) (λ l. (l, eqb-false x unbounded e)) (λ h. h .0))
+
+module _ (s : List ℕ) where
+  running-reads : (start i : ℕ) → Reads (runningTable s start i) (runningRefusal s start i)
+  unfolding runningRefusal
+  running-reads start i = reads-then (count-reads Net s (countAt start i) 1 64) (plain _ (by-less 256 (totalOf s start (i + 1))))
+
+  pair-reads : (at : ℕ) → Reads (pairTable s at) (pairRefusal s at)
+  unfolding pairRefusal capacityRefusal startRefusal
+  pair-reads at =
+      reads-then (reads-then (past-reads Net s at 4) (plain _ (bound-outside (u32At s at))))
+      (reads-then (past-reads Net s (at + 4) 4)
+      (reads-then (plain _ (by-less limit (u32At s (at + 4)))) (plain _ (by-above (u32At s (at + 4)) (bound (u32At s at))))))
+
+  rises : (before at : ℕ) → Decided (risesTo s before at) (Higher s before at)
+  unfolding risesTo
+  rises before at =
+      by-or (by-less (u16At s before) (u16At s at))
+      (by-and (by-equal (u16At s before) (u16At s at)) (by-less (u16At s (before + 2)) (u16At s (at + 2))))
+
+  names-reads : (start k : ℕ) → Reads (arcNamesTable s start k) (arcNamesRefusal s (modeCount s) (pairCount s) start k)
+  unfolding arcNamesRefusal notRising
+  names-reads start k =
+      reads-then (plain _ (by-at-most (modeCount s) (u16At s (arcAt start k))))
+      (reads-then (plain _ (by-at-most (pairCount s) (u16At s (arcAt start k + 2))))
+      (plain _ (by-and (by-less 0 k) (by-not (rises (arcAt start (k - 1)) (arcAt start k))))))
+
+  numbers-reads : (at : ℕ) → Reads (arcNumbersTable s at) (arcNumbersRefusal s at)
+  unfolding arcNumbersRefusal isBlank
+  numbers-reads at =
+      reads-then (plain _ (by-less limit (u32At s (at + 4))))
+      (reads-then (plain _ (by-less limit (u32At s (at + 8))))
+      (reads-then (plain _ (bound-outside (u32At s (at + 12))))
+      (plain _
+      (by-other (by-and (by-and (by-equal (u32At s (at + 4)) 0) (by-equal (u32At s (at + 8)) 0)) (by-equal (u32At s (at + 12)) unbounded))
+      (λ h. (h .0 .0, h .0 .1, h .1)) (λ h. ((h .0, h .1), h .2))))))
+
+  arc-reads : (start k : ℕ) → Reads (arcTable s start k) (arcRefusal s (modeCount s) (pairCount s) start k)
+  unfolding arcRefusal
+  arc-reads start k = reads-then (past-reads Net s (arcAt start k) 16) (reads-then (names-reads start k) (numbers-reads (arcAt start k)))
+
+  net-reads : Reads (netTable s) (netRefusal s)
+  unfolding netTable netRefusal netFields countFields eachCount pairAndArcFields arcFields
+  net-reads =
+      reads-then (head-reads Net s)
+      (reads-then
+      (reads-then (count-reads Net s 5 1 64)
+      (reads-then (count-reads Net s 7 0 64)
+      (reads-then (reads-each (placeCount s) (λ i l. running-reads coloursAt i)) (reads-each (transitionCount s) (λ i l. running-reads (modesAt s) i)))))
+      (reads-then (reads-each (pairCount s) (λ p l. pair-reads (pairAt (pairsAt s) p)))
+      (reads-then (count-reads Net s (arcCountAt s) 0 2048)
+      (reads-then (reads-each (u16At s (arcCountAt s)) (λ k l. arc-reads (arcsAfter (arcCountAt s)) k))
+      (left-reads Net s (arcAt (arcsAfter (arcCountAt s)) (u16At s (arcCountAt s))))))))
+
+pub sheet-tables : SheetTables
+sheet-tables = record { movements = movement-reads; weights = weight-reads; nets = net-reads }

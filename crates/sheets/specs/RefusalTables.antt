@@ -1,0 +1,121 @@
+-- The refusal tables of the three sheets, row by row in document 01's words and order.
+use Prim.Native.Nat.{ℕ, _+_, _*_, _-_, _≤_, _<_}
+use mathlib.Core.Path.{_≡_}
+use mathlib.Core.List.{List}
+use mathlib.Core.Logic.{_⊎_, _≢_}
+use lib.ListN.{length}
+use lib.IntN.{ℤ, pos, negsuc}
+use lib.Signed.{_<ℤ_}
+use Rattle.model.specs.declared.Thing.{Thing}
+use Rattle.model.specs.declared.Thing.the-variants.{Net, Weights, Movements}
+use Rattle.model.specs.declared.Fault.the-variants.{CutShort, WrongVersion, WrongLength, CountOutside, NumberOutside, NotThereAt, NotRising, Blank, StartAboveCapacity, NotOneEach}
+use Rattle.model.specs.Numbers.{Above, limit}
+use Rattle.model.specs.RefusalTables.{Table, row, _then_, each, Reads}
+use Rattle.sheets.specs.Bytes.{u16At, u32At}
+use Rattle.sheets.specs.Layout.{bodyLength, sheetEnd, version, countAt, totalOf, pairAt, capacityAt, startAt, arcAt, arcSize, arcModeAt, arcPairAt, preAt, postAt, inhibitorAt, placesAt, transitionsAt, coloursAt, arcsAfter, placeCount, transitionCount, modesAt, pairCount, modeCount, pairsAt, arcCountAt, movementsAt, movementCount, weightCountAt, weightCount, weightAt}
+use Rattle.sheets.specs.Checks.{wrong}
+use Rattle.sheets.specs.Movements.{mostMovements, movementsRefusal}
+use Rattle.sheets.specs.Weights.{signed, weightsRefusal}
+use Rattle.sheets.specs.Nets.{unbounded, bound, netRefusal}
+
+module _ (thing : Thing) (s : List ℕ) where
+  -- "1, then L = 0, then 2"
+  abbrev pub headTable : Table
+  headTable =
+      row ((length s < 4) ⊎ (length s < sheetEnd s)) (wrong thing CutShort)
+      then row (bodyLength s ≡ 0) (wrong thing (WrongLength 0))
+      then row (version s ≢ 1) (wrong thing (WrongVersion 4))
+
+  -- "a field runs past L": `size` bytes at `at`
+  abbrev pub pastEnd : ℕ → ℕ → Table
+  pastEnd at size = row (sheetEnd s < at + size) (wrong thing (WrongLength at))
+
+  -- "bytes left over" from `at` on
+  abbrev pub leftAfter : ℕ → Table
+  leftAfter at = row (at < sheetEnd s) (wrong thing (WrongLength at))
+
+  -- "a count outside its limits"
+  abbrev pub countTable : ℕ → ℕ → ℕ → Table
+  countTable at low high = pastEnd at 2 then row ((u16At s at < low) ⊎ (high < u16At s at)) (wrong thing (CountOutside at))
+
+-- "In a movement sheet a lone last byte (3, at that byte) comes before too many movements (4, at offset 5)."
+unfoldable pub movementTable : List ℕ → Table
+movementTable s =
+    headTable Movements s
+    then row ((k : ℕ) × (bodyLength s ≡ 2 * k + 2)) (wrong Movements (WrongLength (sheetEnd s - 1)))
+    then row (mostMovements < movementCount s) (wrong Movements (CountOutside movementsAt))
+
+-- "A weight may be negative, from -1000000 to 1000000"; negsuc 999999 is -1,000,000
+abbrev pub Outweighs : ℤ → Type 0
+Outweighs z = (z <ℤ negsuc 999999) ⊎ (pos 1000000 <ℤ z)
+
+-- "In a weight sheet 17 comes before the weights."
+unfoldable pub weightTable : ℕ → List ℕ → Table
+weightTable pairs s =
+    headTable Weights s
+    then pastEnd Weights s weightCountAt 2
+    then row (weightCount s ≢ pairs) (wrong Weights (NotOneEach weightCountAt))
+    then each (weightCount s) (λ p.
+    pastEnd Weights s (weightAt p) 4 then row (Outweighs (signed (u32At s (weightAt p)))) (wrong Weights (NumberOutside (weightAt p))))
+    then leftAfter Weights s (weightAt (weightCount s))
+
+module _ (s : List ℕ) where
+  -- "a number outside its range", one that must be finite, or a K or I
+  abbrev pub numberRow : ℕ → Table
+  numberRow at = row (limit < u32At s at) (wrong Net (NumberOutside at))
+
+  abbrev pub boundRow : ℕ → Table
+  boundRow at = row ((limit < u32At s at) × (u32At s at ≢ unbounded)) (wrong Net (NumberOutside at))
+
+  -- "a count outside its limits, or the running total passes 256"
+  abbrev pub runningTable : ℕ → ℕ → Table
+  runningTable start i =
+      countTable Net s (countAt start i) 1 64 then row (256 < totalOf s start (i + 1)) (wrong Net (CountOutside (countAt start i)))
+
+  -- "For the first marking 5 comes before 9": "a count above a finite K"
+  abbrev pub pairTable : ℕ → Table
+  pairTable at =
+      (pastEnd Net s (capacityAt at) 4 then boundRow (capacityAt at))
+      then pastEnd Net s (startAt at) 4
+      then numberRow (startAt at)
+      then row (Above (u32At s (startAt at)) (bound (u32At s (capacityAt at)))) (wrong Net (StartAboveCapacity (startAt at)))
+
+  abbrev pub Higher : ℕ → ℕ → Type 0
+  Higher before at =
+      (u16At s (arcModeAt before) < u16At s (arcModeAt at))
+      ⊎ ((u16At s (arcModeAt before) ≡ u16At s (arcModeAt at)) × (u16At s (arcPairAt before) < u16At s (arcPairAt at)))
+
+  -- "For an arc all 16 bytes must be there (else 3 at the arc's first byte), then 6 for mode, 6 for pair, 7, 5 for Pre, Post and I in turn, 8."
+  abbrev pub arcNamesTable : ℕ → ℕ → Table
+  arcNamesTable start k =
+      row (modeCount s ≤ u16At s (arcModeAt (arcAt start k))) (wrong Net (NotThereAt (arcModeAt (arcAt start k))))
+      then row (pairCount s ≤ u16At s (arcPairAt (arcAt start k))) (wrong Net (NotThereAt (arcPairAt (arcAt start k))))
+      then row ((0 < k) × (¬ Higher (arcAt start (k - 1)) (arcAt start k))) (wrong Net (NotRising (arcAt start k)))
+
+  abbrev pub arcNumbersTable : ℕ → Table
+  arcNumbersTable at =
+      numberRow (preAt at)
+      then numberRow (postAt at)
+      then boundRow (inhibitorAt at)
+      then row ((u32At s (preAt at) ≡ 0) × (u32At s (postAt at) ≡ 0) × (u32At s (inhibitorAt at) ≡ unbounded)) (wrong Net (Blank at))
+
+  abbrev pub arcTable : ℕ → ℕ → Table
+  arcTable start k = pastEnd Net s (arcAt start k) arcSize then arcNamesTable start k then arcNumbersTable (arcAt start k)
+
+  unfoldable pub netTable : Table
+  netTable =
+      headTable Net s
+      then (countTable Net s placesAt 1 64
+      then countTable Net s transitionsAt 0 64
+      then each (placeCount s) (runningTable coloursAt)
+      then each (transitionCount s) (runningTable (modesAt s)))
+      then each (pairCount s) (λ p. pairTable (pairAt (pairsAt s) p))
+      then countTable Net s (arcCountAt s) 0 2048
+      then each (u16At s (arcCountAt s)) (arcTable (arcsAfter (arcCountAt s)))
+      then leftAfter Net s (arcAt (arcsAfter (arcCountAt s)) (u16At s (arcCountAt s)))
+
+-- Each reader's answer is the one that its table gives, for any run of bytes.
+pub record SheetTables : Type 0 where
+  pub movements : (s : List ℕ) → Reads (movementTable s) (movementsRefusal s)
+  pub weights : (pairs : ℕ) (s : List ℕ) → Reads (weightTable pairs s) (weightsRefusal pairs s)
+  pub nets : (s : List ℕ) → Reads (netTable s) (netRefusal s)

@@ -1,0 +1,84 @@
+//! "Every answer carries the number, which thing was at fault and a position."
+
+/// What a call answers.
+#[derive(Clone, Copy, Debug, PartialEq, Eq)]
+pub struct Answer {
+    /// The number of the table "Refusal numbers", 0 where accepted.
+    pub number: u32,
+    /// Which thing was at fault.
+    pub thing: u8,
+    /// An offset, a pair or 0, as the table says.
+    pub position: u64,
+}
+
+/// Which thing was at fault.
+#[derive(Clone, Copy, Debug, PartialEq, Eq)]
+pub enum Thing {
+    /// "0 net, also for numbers 0, 10, 15, 16."
+    Net = 0,
+    /// "1 weights."
+    Weights = 1,
+    /// "2 movements, also one that a run or certificate refuses."
+    Movements = 2,
+    /// "3 marking, claim or any other argument."
+    Argument = 3,
+}
+
+/// The refusals of the table, by their numbers.
+#[derive(Clone, Copy, Debug, PartialEq, Eq)]
+pub enum Refusal {
+    /// "Fewer than 4 bytes, or fewer than 4 + L."
+    Short = 1,
+    /// "Version byte is not 1."
+    Version = 2,
+    /// "L = 0; a field runs past L; bytes left over."
+    Field = 3,
+    /// "A count outside its limits, or the running total passes 256."
+    Count = 4,
+    /// "A number outside its range."
+    Range = 5,
+    /// "An arc's mode or pair is not there; a movement's mode is not there."
+    Absent = 6,
+    /// "Arc not above the one before."
+    Order = 7,
+    /// "Blank arc."
+    Blank = 8,
+    /// "A count above a finite K."
+    AboveCapacity = 9,
+    /// "Complement exceeds the sheet's limits, or the output slice is shorter than it."
+    NoRoom = 10,
+    /// "Pre above the count."
+    Pre = 11,
+    /// "Count plus Post above K."
+    Post = 12,
+    /// "Count above I."
+    Inhibitor = 13,
+    /// "New count above 1,000,000."
+    NewCount = 14,
+    /// "Finite I at a pair of unbounded K."
+    UnboundedCapacity = 15,
+    /// "A complement number above 1,000,000."
+    ComplementNumber = 16,
+    /// "Marking or weights not one for each pair."
+    NotEachPair = 17,
+    /// "Certificate ends at another marking."
+    OtherMarking = 18,
+}
+
+impl Answer {
+    /// "0 | accepted | 0"
+    pub const ACCEPTED: Answer = Answer { number: 0, thing: 0, position: 0 };
+
+    /// A refusal of a thing at a position.
+    pub fn refused(refusal: Refusal, thing: Thing, position: usize) -> Answer {
+        Answer { number: refusal as u32, thing: thing as u8, position: position as u64 }
+    }
+
+    /// The answer of a call whose value is there only where it was accepted.
+    pub fn of<V>(outcome: &Result<V, Answer>) -> Answer {
+        match outcome {
+            Ok(_) => Answer::ACCEPTED,
+            Err(answer) => *answer,
+        }
+    }
+}

@@ -1,0 +1,27 @@
+//! "Each pair has a capacity K. K and I may be unbounded."
+
+use crate::limits::UNBOUNDED;
+
+/// A capacity K or an inhibitor I.
+#[derive(Clone, Copy, Debug, PartialEq, Eq)]
+pub enum Bound {
+    /// A number 0..1,000,000.
+    Finite(u32),
+    /// The value 4,294,967,295.
+    Unbounded,
+}
+
+impl Bound {
+    /// The bound that a 4-byte field holds.
+    pub fn of_field(field: u32) -> Bound {
+        if field == UNBOUNDED { Bound::Unbounded } else { Bound::Finite(field) }
+    }
+
+    /// Whether a number is above the bound; nothing is above an unbounded one.
+    pub fn is_below(self, number: u32) -> bool {
+        match self {
+            Bound::Finite(most) => number > most,
+            Bound::Unbounded => false,
+        }
+    }
+}

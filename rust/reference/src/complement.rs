@@ -1,0 +1,115 @@
+//! "The complemented net": source document 000, figure 6.4, by the lines of document 01.
+
+use crate::answer::{Answer, Refusal, Thing};
+use crate::arc::{Arc, Flow};
+use crate::bound::Bound;
+use crate::build::{PlainArc, PlainNet};
+use crate::kinds::Pair;
+use crate::limits::{ARCS, LARGEST, PLACES, TOTAL, UNBOUNDED};
+use crate::net::Net;
+use crate::net_sheet::whole_net;
+
+/// Writes the complement's sheet: "the call returns the length written and touches no byte after it".
+pub fn complement(net: &[u8], output: &mut [u8]) -> Result<usize, Answer> {
+    let net = whole_net(net)?;
+    // "Complementing: net, 15, 16, 10, each at its first arc in order."
+    refuse_first(&net, Refusal::UnboundedCapacity, |arc| {
+        net.capacity[arc.pair.index()] == Bound::Unbounded && arc.flow.inhibitor != Bound::Unbounded
+    })?;
+    refuse_first(&net, Refusal::ComplementNumber, |arc| {
+        complement_flow(&net, arc).is_some_and(|(pre, post)| pre.max(post) > LARGEST)
+    })?;
+    let sheet = sheet_within_limits(&complemented(&net))?;
+    let place = output.get_mut(..sheet.len()).ok_or(no_room())?;
+    place.copy_from_slice(&sheet);
+    Ok(sheet.len())
+}
+
+fn refuse_first(net: &Net, refusal: Refusal, fault: impl Fn(&Arc) -> bool) -> Result<(), Answer> {
+    match net.arcs.iter().find(|arc| fault(arc)) {
+        Some(arc) => Err(Answer::refused(refusal, Thing::Net, arc.offset)),
+        None => Ok(()),
+    }
+}
+
+/// "10: complement exceeds the sheet's limits, or the output slice is shorter than it."
+fn no_room() -> Answer {
+    Answer::refused(Refusal::NoRoom, Thing::Net, 0)
+}
+
+fn sheet_within_limits(plain: &PlainNet) -> Result<Vec<u8>, Answer> {
+    let places = plain.colours.len() > usize::from(PLACES);
+    let pairs = plain.pairs.len() > usize::from(TOTAL);
+    let arcs = plain.arcs.len() > usize::from(ARCS);
+    if places || pairs || arcs { Err(no_room()) } else { Ok(plain.sheet()) }
+}
+
+/// "Original pairs keep their numbers." "Modes are unchanged. All K and I become unbounded."
+fn complemented(net: &Net) -> PlainNet {
+    let mut plain = PlainNet {
+        colours: net.colours.clone(),
+        modes: net.modes.clone(),
+        pairs: net.first.iter().map(|&count| (UNBOUNDED, count)).collect(),
+        arcs: complement_arcs(net),
+    };
+    plain.colours.extend(new_places(net));
+    for (capacity, count) in net.capacity.iter().zip(&net.first) {
+        if let Bound::Finite(capacity) = capacity {
+            // "First marking: K less the original's."
+            plain.pairs.push((UNBOUNDED, capacity - count));
+        }
+    }
+    plain
+}
+
+/// "One for each place with a finite pair, with as many colours as it has finite pairs."
+fn new_places(net: &Net) -> Vec<u16> {
+    let mut places = Vec::new();
+    let mut rest = &net.capacity[..];
+    for &colours in &net.colours {
+        let (place, after) = rest.split_at(usize::from(colours));
+        let finite = place.iter().filter(|&&capacity| capacity != Bound::Unbounded).count();
+        if finite > 0 {
+            places.push(finite as u16);
+        }
+        rest = after;
+    }
+    places
+}
+
+/// Every arc of the complement that is not blank, rising by mode, then pair.
+fn complement_arcs(net: &Net) -> Vec<PlainArc> {
+    let mut arcs = Vec::new();
+    for arc in &net.arcs {
+        let Flow { pre, post, .. } = arc.flow;
+        // "Original Pre, Post and first marking stay."
+        arcs.push(PlainArc { mode: arc.mode.0, pair: arc.pair.0, pre, post, inhibitor: UNBOUNDED });
+        if let Some((pre, post)) = complement_flow(net, arc) {
+            let pair = complement_pair(net, arc.pair).0;
+            arcs.push(PlainArc { mode: arc.mode.0, pair, pre, post, inhibitor: UNBOUNDED });
+        }
+    }
+    // "Blank arcs are left out."
+    arcs.retain(|arc| arc.pre > 0 || arc.post > 0);
+    arcs.sort_by_key(|arc| (arc.mode, arc.pair));
+    arcs
+}
+
+/// "Each pair of finite K gets a complement pair, numbered after all originals in rising order."
+fn complement_pair(net: &Net, pair: Pair) -> Pair {
+    let before = &net.capacity[..pair.index()];
+    Pair::at(net.pair_count() + before.iter().filter(|&&capacity| capacity != Bound::Unbounded).count())
+}
+
+/// Pre and Post on the complement pair, where the arc's pair has one.
+fn complement_flow(net: &Net, arc: &Arc) -> Option<(u32, u32)> {
+    let Bound::Finite(capacity) = net.capacity[arc.pair.index()] else { return None };
+    // "K less I, or 0 where I ≥ K or unbounded."
+    let reserved = match arc.flow.inhibitor {
+        Bound::Finite(inhibitor) if inhibitor < capacity => capacity - inhibitor,
+        _ => 0,
+    };
+    // "Pre: the larger of Post and that"; "Post: that number plus the original Pre less the original Post".
+    let pre = arc.flow.post.max(reserved);
+    Some((pre, pre + arc.flow.pre - arc.flow.post))
+}

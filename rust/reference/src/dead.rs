@@ -1,0 +1,33 @@
+//! "A mode is locally dead when, at some pair, Pre or Post is above K."
+
+use crate::answer::{Answer, Thing};
+use crate::firing::check_mode;
+use crate::kinds::{Mode, Pair};
+use crate::net::Net;
+use crate::net_sheet::whole_net;
+
+/// "One call takes a net and a mode (the net's refusals, then 6) and gives yes or no."
+pub fn is_dead(net: &[u8], mode: u16) -> Result<bool, Answer> {
+    let net = whole_net(net)?;
+    check_mode(&net, Mode(mode), Thing::Argument)?;
+    Ok(lowest_dead_pair(&net, Mode(mode)).is_some())
+}
+
+/// "Another takes a net and gives its lowest locally dead mode with the lowest pair that makes it so,
+/// or none."
+pub fn first_dead(net: &[u8]) -> Result<Option<(Mode, Pair)>, Answer> {
+    let net = whole_net(net)?;
+    for mode in (0..).map(Mode).take(net.mode_count()) {
+        if let Some(pair) = lowest_dead_pair(&net, mode) {
+            return Ok(Some((mode, pair)));
+        }
+    }
+    Ok(None)
+}
+
+/// The lowest pair at which the mode's Pre or Post is above K.
+fn lowest_dead_pair(net: &Net, mode: Mode) -> Option<Pair> {
+    let flows = net.flows(mode);
+    let dead = |&p: &usize| net.capacity[p].is_below(flows[p].pre) || net.capacity[p].is_below(flows[p].post);
+    (0..net.pair_count()).find(dead).map(Pair::at)
+}

@@ -1,0 +1,42 @@
+//! A plain reading of document 01: reading a finite P-net, testing and firing one mode, running a
+//! list of movements, checking a certificate, complementing, the figure, locally dead modes, `replay`.
+//!
+//! Each call takes sheets as bytes and gives document 01's answer, value and lent slices exactly.
+
+mod answer;
+mod arc;
+mod begin;
+mod bound;
+mod certificate;
+mod change;
+mod complement;
+mod dead;
+mod figure;
+mod firing;
+mod kinds;
+mod limits;
+mod marking;
+mod movement_sheet;
+mod net;
+mod net_sheet;
+mod replay;
+mod run;
+mod sheet;
+mod weight_sheet;
+
+pub mod build;
+
+pub use answer::{Answer, Refusal, Thing};
+pub use begin::begin;
+pub use certificate::certify;
+pub use change::change;
+pub use complement::complement;
+pub use dead::{first_dead, is_dead};
+pub use figure::figure;
+pub use firing::{fire, test};
+pub use kinds::{Mode, Pair};
+pub use movement_sheet::read_movements;
+pub use net_sheet::read_net;
+pub use replay::replay;
+pub use run::run;
+pub use weight_sheet::read_weights;

@@ -1,0 +1,41 @@
+//! A net as its sheet describes it.
+
+use crate::arc::{Arc, BLANK, Flow};
+use crate::bound::Bound;
+use crate::kinds::Mode;
+
+/// A net that its sheet's reader accepted.
+#[derive(Clone, Debug)]
+pub struct Net {
+    /// Colours of each place.
+    pub colours: Vec<u16>,
+    /// Modes of each transition.
+    pub modes: Vec<u16>,
+    /// The capacity K of each pair.
+    pub capacity: Vec<Bound>,
+    /// The first marking, one count for each pair.
+    pub first: Vec<u32>,
+    /// The arcs, which "rise strictly by mode, then pair".
+    pub arcs: Vec<Arc>,
+}
+
+impl Net {
+    /// How many pairs the net has.
+    pub fn pair_count(&self) -> usize {
+        self.capacity.len()
+    }
+
+    /// How many modes the net has.
+    pub fn mode_count(&self) -> usize {
+        self.modes.iter().map(|&modes| usize::from(modes)).sum()
+    }
+
+    /// Pre, Post and I of a mode at every pair, in the order of the pairs.
+    pub fn flows(&self, mode: Mode) -> Vec<Flow> {
+        let mut flows = vec![BLANK; self.pair_count()];
+        for arc in self.arcs.iter().filter(|arc| arc.mode == mode) {
+            flows[arc.pair.index()] = arc.flow;
+        }
+        flows
+    }
+}

@@ -1,0 +1,132 @@
+//! What accepted calls give and write.
+
+mod support;
+
+use reference::build::{OPEN, PlainNet, arc, movements, weights};
+use reference::*;
+use support::*;
+
+#[test]
+fn begin_writes_the_first_marking() {
+    let mut marking = [9, 9];
+    assert_eq!(begin(&example().sheet(), &mut marking), ACCEPTED);
+    assert_eq!(marking, [3, 0]);
+}
+
+#[test]
+fn pairs_and_modes_are_numbered_across_the_whole_net() {
+    let arcs = [arc(0, 4, 0, 1, OPEN), arc(2, 1, 0, 2, OPEN), arc(4, 0, 0, 3, OPEN)];
+    let net =
+        PlainNet { colours: vec![2, 3], modes: vec![3, 2], pairs: vec![(OPEN, 0); 5], arcs: arcs.to_vec() };
+    let mut marking = [0; 5];
+    let all = run(&net.sheet(), &movements(&[0, 1, 2, 3, 4]), &mut marking);
+    assert_eq!((all, marking), ((5, ACCEPTED), [3, 2, 0, 0, 1]));
+    assert_eq!(test(&net.sheet(), &marking, 5), refused(6, ARGUMENT, 0));
+}
+
+#[test]
+fn a_mode_without_arcs_is_always_enabled_and_changes_nothing() {
+    let net = PlainNet::plain(1, &[(0, 0), (5, 5), (OPEN, 1_000_000)], &[]).sheet();
+    let mut marking = [0, 5, 1_000_000];
+    assert_eq!(fire(&net, &mut marking, 0), ACCEPTED);
+    assert_eq!(marking, [0, 5, 1_000_000]);
+    assert_eq!(is_dead(&net, 0), Ok(false));
+    assert_eq!(change(&net, &weights(&[1, 2, 3]), 0), Ok(0));
+}
+
+#[test]
+fn a_net_without_transitions_reads_and_complements() {
+    let net = PlainNet::plain(0, &[(5, 2)], &[]).sheet();
+    assert_eq!(read_net(&net), (ACCEPTED, net.len()));
+    assert_eq!(run(&net, &movements(&[]), &mut [2]), (0, ACCEPTED));
+    assert_eq!(run(&net, &movements(&[0]), &mut [2]), (0, refused(6, MOVEMENTS, 0)));
+    assert_eq!(complement_of(&net), PlainNet::plain(0, &[(OPEN, 2), (OPEN, 3)], &[]).sheet());
+    assert_eq!(first_dead(&net), Ok(None));
+}
+
+#[test]
+fn running_starts_from_the_counts_found() {
+    let mut marking = [1, 7];
+    let ran = run(&example().sheet(), &example_movements(), &mut marking);
+    assert_eq!(ran, (1, refused(11, MOVEMENTS, 0)));
+    assert_eq!(marking, [0, 8]);
+}
+
+#[test]
+fn the_figure_is_summed_exactly() {
+    let net =
+        PlainNet { colours: vec![64; 4], modes: vec![], pairs: vec![(OPEN, 0); 256], arcs: vec![] }.sheet();
+    let marking = [1_000_000; 256];
+    assert_eq!(figure(&net, &weights(&[1_000_000; 256]), &marking), Ok(256_000_000_000_000));
+    assert_eq!(figure(&net, &weights(&[-1_000_000; 256]), &marking), Ok(-256_000_000_000_000));
+}
+
+#[test]
+fn a_weight_change_is_post_less_pre() {
+    let arcs = [arc(0, 0, 3, 1, OPEN), arc(0, 1, 0, 5, 7), arc(1, 1, 1_000_000, 0, OPEN)];
+    let net = PlainNet::plain(3, &[(OPEN, 0), (5, 0)], &arcs).sheet();
+    let w = weights(&[10, -100]);
+    assert_eq!(change(&net, &w, 0), Ok(-20 - 500));
+    assert_eq!(change(&net, &w, 1), Ok(100_000_000));
+    assert_eq!(change(&net, &w, 2), Ok(0));
+}
+
+#[test]
+fn locally_dead_is_pre_or_post_above_k() {
+    let arcs = [
+        arc(0, 0, 5, 5, 0),    // Pre above I, Pre + Post above K: not dead
+        arc(1, 2, 9, 9, OPEN), // unbounded K: not dead
+        arc(3, 0, 5, 5, OPEN),
+        arc(3, 1, 0, 6, OPEN), // Post above K
+        arc(4, 0, 6, 0, OPEN), // Pre above K
+    ];
+    let net = PlainNet::plain(5, &[(5, 0), (5, 0), (OPEN, 0)], &arcs).sheet();
+    let dead: Vec<_> = (0..5).map(|mode| is_dead(&net, mode).unwrap()).collect();
+    assert_eq!(dead, [false, false, false, true, true]);
+    assert_eq!(first_dead(&net), Ok(Some((Mode(3), Pair(1)))));
+    assert_eq!(first_dead(&example().sheet()), Ok(None));
+    let zero = PlainNet::plain(1, &[(0, 0)], &[arc(0, 0, 0, 1, OPEN)]).sheet();
+    assert_eq!(first_dead(&zero), Ok(Some((Mode(0), Pair(0)))));
+}
+
+#[test]
+fn the_lowest_pair_of_the_lowest_dead_mode() {
+    let arcs = [arc(1, 1, 6, 0, OPEN), arc(1, 2, 0, 6, OPEN), arc(2, 0, 6, 6, OPEN)];
+    let net = PlainNet::plain(3, &[(5, 0); 3], &arcs).sheet();
+    assert_eq!(first_dead(&net), Ok(Some((Mode(1), Pair(1)))));
+}
+
+#[test]
+fn new_places_follow_the_old_with_their_finite_pairs() {
+    let pairs = vec![(5, 1), (OPEN, 2), (7, 3), (OPEN, 4), (0, 0)];
+    let arcs = vec![arc(0, 2, 0, 0, 3), arc(0, 4, 0, 0, 0), arc(1, 0, 2, 1, 4), arc(1, 3, 1, 1, OPEN)];
+    let net = PlainNet { colours: vec![3, 1, 1], modes: vec![2], pairs, arcs };
+    let expected = PlainNet {
+        colours: vec![3, 1, 1, 2, 1],
+        modes: vec![2],
+        pairs: [1, 2, 3, 4, 0, 4, 4, 0].map(|count| (OPEN, count)).to_vec(),
+        // The inhibitor arc 0,4 has I = K = 0: both its arcs are blank and left out.
+        arcs: vec![
+            arc(0, 6, 4, 4, OPEN),
+            arc(1, 0, 2, 1, OPEN),
+            arc(1, 3, 1, 1, OPEN),
+            arc(1, 5, 1, 2, OPEN),
+        ],
+    };
+    assert_eq!(complement_of(&net.sheet()), expected.sheet());
+}
+
+#[test]
+fn the_reserved_amount_does_not_leak_away() {
+    // K less I above Post: complement Post is that plus Pre less Post, and not the original Pre.
+    let net = PlainNet::plain(1, &[(9, 0)], &[arc(0, 0, 2, 3, 4)]);
+    let arcs = [arc(0, 0, 2, 3, OPEN), arc(0, 1, 5, 4, OPEN)];
+    assert_eq!(complement_of(&net.sheet()), PlainNet::plain(1, &[(OPEN, 0), (OPEN, 9)], &arcs).sheet());
+}
+
+#[test]
+fn an_inhibitor_above_the_capacity_reserves_nothing() {
+    let net = PlainNet::plain(1, &[(4, 0)], &[arc(0, 0, 2, 3, 9)]);
+    let arcs = [arc(0, 0, 2, 3, OPEN), arc(0, 1, 3, 2, OPEN)];
+    assert_eq!(complement_of(&net.sheet()), PlainNet::plain(1, &[(OPEN, 0), (OPEN, 4)], &arcs).sheet());
+}

@@ -1,0 +1,170 @@
+//! "The complemented net."
+
+use crate::answer::{Answer, LARGEST, NET, UNBOUNDED};
+use crate::layout::{Arc, Layout, pair_of, whole_net};
+
+/// Writes the complement's sheet: "the call returns the length written and touches no byte after it".
+pub fn complement(net: &[u8], output: &mut [u8]) -> Result<usize, Answer> {
+    let layout = whole_net(net)?;
+    let mates = Mates::of(&layout);
+    let arcs = arcs_of(&layout, &mates)?;
+    let places = layout.colours.len() / 2 + mates.places.len();
+    let pairs = layout.pairs + mates.count;
+    let length = 11 + 2 * places + layout.mode_counts.len() + 8 * pairs + 16 * arcs.len();
+    if places > 64 || pairs > 256 || arcs.len() > 2_048 || output.len() < length {
+        return Err(Answer::refused(10, NET, 0));
+    }
+    write(&layout, &mates, &arcs, &mut output[..length]);
+    Ok(length)
+}
+
+/// The complement pairs.
+struct Mates {
+    /// The capacity of each pair, and its complement pair where that is finite.
+    of: [(u32, u32); 256],
+    count: usize,
+    /// How many finite pairs each place has that has one.
+    places: Vec<u16>,
+}
+
+impl Mates {
+    /// "Each pair of finite K gets a complement pair, numbered after all originals in rising order."
+    fn of(layout: &Layout) -> Mates {
+        let mut of = [(UNBOUNDED, 0); 256];
+        let mut places = Vec::with_capacity(64);
+        let mut count = 0;
+        let mut pairs = of.iter_mut().zip(layout.table);
+        for colours in layout.colours.as_chunks().0 {
+            let before = count;
+            for (mate, bytes) in pairs.by_ref().take(usize::from(u16::from_be_bytes(*colours))) {
+                *mate = (pair_of(bytes).0, (layout.pairs + count) as u32);
+                count += usize::from(mate.0 != UNBOUNDED);
+            }
+            if count > before {
+                places.push((count - before) as u16);
+            }
+        }
+        Mates { of, count, places }
+    }
+}
+
+/// Pre and Post on the complement pair of a finite K.
+#[inline(always)]
+fn mated(arc: Arc, capacity: u32) -> (u32, u32) {
+    let pre = arc.post.max(capacity.saturating_sub(arc.inhibitor));
+    (pre, pre + arc.pre - arc.post)
+}
+
+/// The complement's arcs as its sheet has them: each mode's original arcs, then those at complement pairs.
+/// "Blank arcs are left out."
+fn arcs_of(layout: &Layout, mates: &Mates) -> Result<Vec<[u8; 16]>, Answer> {
+    let mut arcs = vec![[0; 16]; 2 * layout.arcs.len()];
+    let (mut count, mut faults) = (0, false);
+    let mut rest = layout.arcs;
+    while let Some(first) = rest.first() {
+        let mut own = 0;
+        while let Some(bytes) = rest.get(own).filter(|bytes| bytes[..2] == first[..2]) {
+            own += 1;
+            // The eight bytes of Pre and Post.
+            if bytes[4..12] != [0; 8] {
+                arcs[count] = with_open_inhibitor(bytes);
+                count += 1;
+            }
+        }
+        for bytes in &rest[..own] {
+            let arc = Arc::of(bytes);
+            let (capacity, mate) = mates.of[arc.pair()];
+            if capacity == UNBOUNDED {
+                faults |= arc.inhibitor != UNBOUNDED;
+                continue;
+            }
+            let (pre, post) = mated(arc, capacity);
+            faults |= post > LARGEST;
+            if pre | post != 0 {
+                arcs[count] = open_arc(arc.key & 0xFFFF_0000 | mate, pre, post);
+                count += 1;
+            }
+        }
+        rest = &rest[own..];
+    }
+    if faults {
+        return Err(fault(layout, mates));
+    }
+    arcs.truncate(count);
+    Ok(arcs)
+}
+
+/// 15, then 16, "each at its first arc in order".
+#[cold]
+fn fault(layout: &Layout, mates: &Mates) -> Answer {
+    let capacity = |arc: Arc| mates.of[arc.pair()].0;
+    let unbounded = |arc: Arc| capacity(arc) == UNBOUNDED && arc.inhibitor != UNBOUNDED;
+    let above = |arc: Arc| capacity(arc) != UNBOUNDED && mated(arc, capacity(arc)).1 > LARGEST;
+    let arcs = || layout.arcs.iter().map(Arc::of);
+    let (number, at) = match arcs().position(unbounded) {
+        Some(at) => (15, at),
+        None => (16, arcs().position(above).unwrap_or(0)),
+    };
+    Answer::refused(number, NET, layout.length - 16 * (layout.arcs.len() - at))
+}
+
+/// Writes the sheet into a slice of its length.
+fn write(layout: &Layout, mates: &Mates, arcs: &[[u8; 16]], output: &mut [u8]) {
+    let places = layout.colours.len() / 2 + mates.places.len();
+    let mut rest = Rest(output);
+    rest.put((rest.0.len() as u32 - 4).to_be_bytes());
+    rest.put([1]);
+    rest.put((places as u16).to_be_bytes());
+    rest.put((layout.mode_counts.len() as u16 / 2).to_be_bytes());
+    rest.copy(layout.colours);
+    mates.places.iter().for_each(|place| rest.put(place.to_be_bytes()));
+    rest.copy(layout.mode_counts);
+    for bytes in layout.table {
+        rest.put(open_pair(pair_of(bytes).1));
+    }
+    for (capacity, count) in layout.table.iter().map(pair_of) {
+        if capacity != UNBOUNDED {
+            rest.put(open_pair(capacity - count));
+        }
+    }
+    rest.put((arcs.len() as u16).to_be_bytes());
+    rest.copy(arcs.as_flattened());
+}
+
+/// "All K and I become unbounded."
+fn open_pair(count: u32) -> [u8; 8] {
+    (u64::from(UNBOUNDED) << 32 | u64::from(count)).to_be_bytes()
+}
+
+#[inline(always)]
+fn open_arc(key: u32, pre: u32, post: u32) -> [u8; 16] {
+    let (high, low) = (u64::from(key) << 32 | u64::from(pre), u64::from(post) << 32 | u64::from(UNBOUNDED));
+    (u128::from(high) << 64 | u128::from(low)).to_be_bytes()
+}
+
+/// "Original Pre, Post and first marking stay."
+#[inline(always)]
+fn with_open_inhibitor(bytes: &[u8; 16]) -> [u8; 16] {
+    let open = u128::from(UNBOUNDED);
+    (u128::from_ne_bytes(*bytes) | u128::from_ne_bytes(open.to_be_bytes())).to_ne_bytes()
+}
+
+/// The part of the output that is still to be written.
+struct Rest<'a>(&'a mut [u8]);
+
+impl Rest<'_> {
+    #[inline(always)]
+    fn put<const N: usize>(&mut self, bytes: [u8; N]) {
+        let (place, rest) =
+            std::mem::take(&mut self.0).split_first_chunk_mut().expect("the length is counted");
+        *place = bytes;
+        self.0 = rest;
+    }
+
+    #[inline(always)]
+    fn copy(&mut self, bytes: &[u8]) {
+        let (place, rest) = std::mem::take(&mut self.0).split_at_mut(bytes.len());
+        place.copy_from_slice(bytes);
+        self.0 = rest;
+    }
+}

@@ -1,0 +1,121 @@
+//! The first fault of a refused sheet or movement, by document 01's orders.
+
+use std::convert::Infallible;
+
+use crate::answer::{Answer, LARGEST, MOVEMENTS, NET, UNBOUNDED};
+use crate::layout::{Arc, Layout};
+use crate::sheet::{four, two};
+
+/// The first fault of a net sheet that has one after its version byte, "the fields left to right".
+pub fn of_net(sheet: &[u8]) -> Answer {
+    let Err(answer) = fields(sheet);
+    answer
+}
+
+fn refuse<V>(number: u32, offset: usize) -> Result<V, Answer> {
+    Err(Answer::refused(number, NET, offset))
+}
+
+/// The fields of a sheet that has a fault: where none is found in them, bytes are left over.
+fn fields(sheet: &[u8]) -> Result<Infallible, Answer> {
+    let places = count(sheet, 5, 1, 64)?;
+    let transitions = count(sheet, 7, 0, 64)?;
+    let pairs = counts(sheet, 9, places)?;
+    let at = 9 + 2 * places;
+    let modes = counts(sheet, at, transitions)?;
+    let at = at + 2 * transitions;
+    for offset in (at..).step_by(8).take(pairs) {
+        of_pair(sheet, offset)?;
+    }
+    let at = at + 8 * pairs;
+    let arcs = count(sheet, at, 0, 2_048)?;
+    let mut least = 0;
+    for offset in (at + 2..).step_by(16).take(arcs) {
+        least = of_arc(sheet, offset, pairs, modes, least)? + 1;
+    }
+    refuse(3, at + 2 + 16 * arcs)
+}
+
+/// "At a field 3 comes before its other rules"; a count outside its limits is 4.
+fn count(sheet: &[u8], offset: usize, least: usize, most: usize) -> Result<usize, Answer> {
+    match two(sheet, offset) {
+        None => refuse(3, offset),
+        Some(count) if count < least || count > most => refuse(4, offset),
+        Some(count) => Ok(count),
+    }
+}
+
+/// "Or the running total passes 256."
+fn counts(sheet: &[u8], at: usize, fields: usize) -> Result<usize, Answer> {
+    let mut total = 0;
+    for offset in (at..).step_by(2).take(fields) {
+        total += count(sheet, offset, 1, 64)?;
+        if total > 256 {
+            return refuse(4, offset);
+        }
+    }
+    Ok(total)
+}
+
+/// A number 0..1,000,000, or unbounded where that is legal.
+fn number(sheet: &[u8], offset: usize, unbounded: bool) -> Result<u32, Answer> {
+    match four(sheet, offset) {
+        None => refuse(3, offset),
+        Some(number) if number <= LARGEST || (unbounded && number == UNBOUNDED) => Ok(number),
+        Some(_) => refuse(5, offset),
+    }
+}
+
+/// "For the first marking 5 comes before 9."
+fn of_pair(sheet: &[u8], offset: usize) -> Result<(), Answer> {
+    let capacity = number(sheet, offset, true)?;
+    let count = number(sheet, offset + 4, false)?;
+    if count > capacity { refuse(9, offset + 4) } else { Ok(()) }
+}
+
+/// "All 16 bytes must be there, then 6 for mode, 6 for pair, 7, 5 for Pre, Post and I in turn, 8."
+fn of_arc(sheet: &[u8], offset: usize, pairs: usize, modes: usize, least: usize) -> Result<usize, Answer> {
+    if sheet.len() < offset + 16 {
+        return refuse(3, offset);
+    }
+    let mode = count(sheet, offset, 0, usize::MAX)?;
+    let pair = count(sheet, offset + 2, 0, usize::MAX)?;
+    if mode >= modes {
+        return refuse(6, offset);
+    }
+    if pair >= pairs {
+        return refuse(6, offset + 2);
+    }
+    if 256 * mode + pair < least {
+        return refuse(7, offset);
+    }
+    let pre = number(sheet, offset + 4, false)?;
+    let post = number(sheet, offset + 8, false)?;
+    let inhibitor = number(sheet, offset + 12, true)?;
+    if (pre, post, inhibitor) == (0, 0, UNBOUNDED) {
+        return refuse(8, offset);
+    }
+    Ok(256 * mode + pair)
+}
+
+/// Why a mode of the net is not enabled: "6, 11 over all pairs, 12, 13, 14".
+pub fn of_movement(layout: &Layout, marking: &[u32; 256], mode: usize) -> Answer {
+    if mode >= layout.modes {
+        return Answer::refused(6, MOVEMENTS, 0);
+    }
+    let own = layout.arcs_of(mode);
+    let count = |arc: Arc| marking[arc.pair()];
+    let capacity = |arc: Arc| layout.capacity(arc.pair());
+    let broken: [&dyn Fn(Arc) -> bool; 4] = [
+        &|arc| arc.pre > count(arc),
+        &|arc| count(arc) + arc.post > capacity(arc),
+        &|arc| count(arc) > arc.inhibitor,
+        &|arc| count(arc) - arc.pre + arc.post > LARGEST,
+    ];
+    for (number, broken) in (11..).zip(broken) {
+        if let Some(arc) = own.iter().map(Arc::of).find(|&arc| broken(arc)) {
+            return Answer::refused(number, MOVEMENTS, arc.pair());
+        }
+    }
+    unreachable!("a refused movement has a fault")
+}

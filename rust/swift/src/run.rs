@@ -1,0 +1,52 @@
+//! "Running stops at the first refused movement, returns how many were accepted, and leaves the
+//! marking that those gave."
+
+use crate::answer::{ARGUMENT, Answer, LARGEST};
+use crate::fault;
+use crate::kernel::run_list;
+use crate::layout::{Layout, pair_of, whole_net};
+use crate::list::whole_list;
+
+/// Runs a list of movements from the counts found in the marking: how many were accepted, and the answer.
+pub fn run(net: &[u8], movements: &[u8], marking: &mut [u32]) -> (u64, Answer) {
+    let (layout, list) = match arguments(net, movements, marking) {
+        Ok(arguments) => arguments,
+        Err(answer) => return (0, answer),
+    };
+    let mut counts = [0; 256];
+    counts[..marking.len()].copy_from_slice(marking);
+    let (accepted, answer) = run_from(&layout, list, &mut counts);
+    marking.copy_from_slice(&counts[..marking.len()]);
+    (accepted as u64, answer)
+}
+
+/// Runs a list from a marking that fits the net.
+pub fn run_from(layout: &Layout, list: &[[u8; 2]], marking: &mut [u32; 256]) -> (usize, Answer) {
+    let accepted = run_list(layout, list, marking);
+    let answer = match list.get(accepted) {
+        Some(refused) => fault::of_movement(layout, marking, usize::from(u16::from_be_bytes(*refused))),
+        None => Answer::ACCEPTED,
+    };
+    (accepted, answer)
+}
+
+/// A net and a list that were accepted.
+type Arguments<'a> = (Layout<'a>, &'a [[u8; 2]]);
+
+/// "Net, weights, movements, then the marking (17, then pair by pair 5 before 9)."
+fn arguments<'a>(net: &'a [u8], movements: &'a [u8], marking: &[u32]) -> Result<Arguments<'a>, Answer> {
+    let layout = whole_net(net)?;
+    let list = whole_list(movements)?;
+    if marking.len() != layout.pairs {
+        return Err(Answer::refused(17, ARGUMENT, 0));
+    }
+    for (pair, (&count, bytes)) in marking.iter().zip(layout.table).enumerate() {
+        if count > LARGEST {
+            return Err(Answer::refused(5, ARGUMENT, pair));
+        }
+        if count > pair_of(bytes).0 {
+            return Err(Answer::refused(9, ARGUMENT, pair));
+        }
+    }
+    Ok((layout, list))
+}

@@ -1,0 +1,109 @@
+//! A mode's arcs as steps, one after another: for nets of many pairs and few arcs.
+
+use crate::kernel::{Rule, capacities};
+use crate::layout::{Arc, Layout};
+
+/// What an arc does to its pair.
+#[derive(Clone, Copy)]
+struct Step {
+    rule: Rule,
+    pair: u32,
+}
+
+/// Steps are taken four at a time, so that the length of a mode's loop is easy to guess.
+const TOGETHER: usize = 4;
+
+/// The steps of a net, mode by mode.
+struct Steps {
+    steps: Vec<[Step; TOGETHER]>,
+    /// Where each mode's steps begin and end.
+    spans: [(u16, u16); 256],
+}
+
+/// Steps that fill a mode's last four: they change nothing and are always enabled.
+const FILLERS: [Step; TOGETHER] = {
+    let rule = Rule { pre: 0, span: u32::MAX, post: 0 };
+    [Step { rule, pair: 255 }, Step { rule, pair: 254 }, Step { rule, pair: 253 }, Step { rule, pair: 252 }]
+};
+
+impl Step {
+    #[inline(always)]
+    fn of(arc: Arc, capacities: &[u32; 256]) -> Step {
+        let mut rule = Rule::of(arc, capacities[arc.pair()]);
+        if (rule.span as i32) < 0 {
+            // No count less this Pre is within a span of 0.
+            rule = Rule { pre: 1 << 31, span: 0, post: 0 };
+        }
+        Step { rule, pair: arc.pair() as u32 }
+    }
+}
+
+/// Each mode's steps begin at a four of their own, and are put at their places one after another.
+fn steps_of(layout: &Layout) -> Steps {
+    let capacities = capacities(layout);
+    let mut ends = [0; 256];
+    for (end, bytes) in (1..).zip(layout.arcs) {
+        ends[Arc::of(bytes).mode() & 255] = end;
+    }
+    // How far each mode's steps stand behind its arcs.
+    let mut behind = [0; 256];
+    let mut spans = [(0, 0); 256];
+    let (mut arcs, mut fours) = (0u16, 0u16);
+    for mode in 0..layout.modes & 511 {
+        let end = arcs.max(ends[mode & 255]);
+        let to = fours + (end - arcs).div_ceil(TOGETHER as u16);
+        spans[mode & 255] = (fours, to);
+        behind[mode & 255] = TOGETHER as u16 * fours - arcs;
+        (arcs, fours) = (end, to);
+    }
+    let mut steps = vec![FILLERS; usize::from(fours)];
+    let places = steps.as_flattened_mut();
+    for (at, bytes) in layout.arcs.iter().enumerate() {
+        let arc = Arc::of(bytes);
+        places[at + usize::from(behind[arc.mode() & 255])] = Step::of(arc, &capacities);
+    }
+    Steps { steps, spans }
+}
+
+/// Runs the list until a movement is refused: how many were accepted. The marking is what those gave.
+pub fn run_list(layout: &Layout, list: &[[u8; 2]], marking: &mut [u32; 256]) -> usize {
+    let Steps { steps, spans } = steps_of(layout);
+    let modes = layout.modes as u16;
+    for (accepted, movement) in list.iter().enumerate() {
+        let mode = u16::from_be_bytes(*movement);
+        if mode >= modes {
+            return accepted;
+        }
+        let (from, to) = spans[usize::from(mode as u8)];
+        let own = &steps[usize::from(from)..usize::from(to)];
+        if !take(own, marking) {
+            undo(own, marking);
+            return accepted;
+        }
+    }
+    list.len()
+}
+
+/// Takes every step, and says whether all of them were enabled.
+#[inline(always)]
+fn take(own: &[[Step; TOGETHER]], marking: &mut [u32; 256]) -> bool {
+    let mut faults = 0;
+    for four in own {
+        for Step { rule, pair } in four {
+            let count = &mut marking[usize::from(*pair as u8)];
+            let left = count.wrapping_sub(rule.pre);
+            faults += u32::from(left > rule.span);
+            *count = left.wrapping_add(rule.post);
+        }
+    }
+    faults == 0
+}
+
+/// Takes back every step: a refused movement leaves the marking as it was.
+#[cold]
+fn undo(own: &[[Step; TOGETHER]], marking: &mut [u32; 256]) {
+    for Step { rule, pair } in own.iter().flatten() {
+        let count = &mut marking[usize::from(*pair as u8)];
+        *count = count.wrapping_sub(rule.post).wrapping_add(rule.pre);
+    }
+}

@@ -1,0 +1,334 @@
+//! The same answers, values and lent slices as `reference`, on generated inputs.
+
+#[path = "../../reference/tests/support/generator.rs"]
+mod generator;
+
+use std::collections::BTreeSet;
+
+use generator::{Random, Style, list, marking, net, spoil, spoil_net, total};
+use reference::build::{PlainNet, movements, sheet, weights};
+
+const STYLES: [Style; 3] = [Style::Small, Style::Edges, Style::Lively];
+
+/// An answer as number, thing and position.
+type Plain = (u32, u8, u64);
+
+fn of_swift(answer: swift::Answer) -> Plain {
+    (answer.number, answer.thing, answer.position)
+}
+
+fn of_reference(answer: reference::Answer) -> Plain {
+    (answer.number, answer.thing, answer.position)
+}
+
+/// A net from tiny to the largest, with the style of its numbers.
+fn any_net(random: &mut Random) -> (PlainNet, Style) {
+    let style = random.pick(&STYLES);
+    let (places, transitions, arcs) = random.pick(&[
+        (1, 1, 2),
+        (3, 2, 6),
+        (5, 4, 24),
+        (5, 4, 24),
+        (20, 20, 200),
+        (64, 64, 2_048),
+        (10, 2, 80),
+    ]);
+    (net(random, style, places, transitions, arcs), style)
+}
+
+/// A net's sheet, the net or the sheet spoiled once in so many times.
+fn sheet_of(random: &mut Random, net: &PlainNet, times: usize) -> Vec<u8> {
+    let mut net = net.clone();
+    if random.once_in(2 * times) {
+        spoil_net(random, &mut net);
+    }
+    maybe_spoiled(random, net.sheet(), 2 * times)
+}
+
+/// A sheet, spoiled once in so many times.
+fn maybe_spoiled(random: &mut Random, mut sheet: Vec<u8>, times: usize) -> Vec<u8> {
+    if random.once_in(times) {
+        spoil(random, &mut sheet);
+    }
+    sheet
+}
+
+fn same_read(bytes: &[u8], seen: &mut BTreeSet<u32>) {
+    let ((swift, taken), (plain, plainly)) = (swift::read_net(bytes), reference::read_net(bytes));
+    assert_eq!((of_swift(swift), taken), (of_reference(plain), plainly), "{bytes:?}");
+    seen.insert(swift.number);
+}
+
+fn same_run(net: &[u8], list: &[u8], counts: &[u32], seen: &mut BTreeSet<u32>) {
+    let (mut swiftly, mut plainly) = (counts.to_vec(), counts.to_vec());
+    let (accepted, swift) = swift::run(net, list, &mut swiftly);
+    let (plain_accepted, plain) = reference::run(net, list, &mut plainly);
+    assert_eq!(
+        (accepted, of_swift(swift)),
+        (plain_accepted, of_reference(plain)),
+        "{net:?} {list:?} {counts:?}"
+    );
+    assert_eq!(swiftly, plainly, "{net:?} {list:?} {counts:?}");
+    seen.insert(swift.number);
+}
+
+fn same_complement(net: &[u8], room: usize, seen: &mut BTreeSet<u32>) {
+    let (mut swiftly, mut plainly) = (vec![170; room], vec![170; room]);
+    let swift = swift::complement(net, &mut swiftly).map_err(of_swift);
+    let plain = reference::complement(net, &mut plainly).map_err(of_reference);
+    assert_eq!(swift, plain, "{net:?}");
+    assert!(swiftly == plainly, "{net:?}");
+    seen.insert(swift.err().map_or(0, |answer| answer.0));
+}
+
+fn same_replay(input: &[u8]) -> String {
+    let swift = String::from_utf8(swift::replay(input)).unwrap();
+    let plain = String::from_utf8(reference::replay(input)).unwrap();
+    assert_eq!(swift, plain, "{input:?}");
+    swift
+}
+
+#[test]
+fn reading_gives_the_same_answer() {
+    let (mut random, mut seen) = (Random::new(11), BTreeSet::new());
+    for _ in 0..20_000 {
+        let mut sheet = net(&mut random, Style::Small, 4, 3, 12).sheet();
+        spoil(&mut random, &mut sheet);
+        same_read(&sheet, &mut seen);
+    }
+    for _ in 0..20_000 {
+        let mut net = net(&mut random, Style::Small, 4, 3, 12);
+        spoil_net(&mut random, &mut net);
+        same_read(&net.sheet(), &mut seen);
+    }
+    for _ in 0..600 {
+        let net = any_net(&mut random).0;
+        same_read(&sheet_of(&mut random, &net, 2), &mut seen);
+    }
+    assert_eq!(seen, (0..=9).collect());
+}
+
+#[test]
+fn reading_any_bytes_gives_the_same_answer() {
+    let (mut random, mut seen) = (Random::new(12), BTreeSet::new());
+    for _ in 0..20_000 {
+        let fields: Vec<u8> =
+            (0..random.below(60)).map(|_| [0, random.next() as u8 % 4][random.below(2)]).collect();
+        let bytes = if random.once_in(3) { fields } else { sheet(&fields) };
+        same_read(&bytes, &mut seen);
+    }
+    assert!(seen.len() > 5);
+}
+
+#[test]
+fn every_byte_of_a_sheet_written_over_gives_the_same_answer() {
+    let (mut random, mut seen) = (Random::new(13), BTreeSet::new());
+    for _ in 0..20 {
+        let sheet = net(&mut random, Style::Small, 4, 3, 12).sheet();
+        for at in 0..sheet.len() {
+            for byte in [0, 1, 2, 15, 16, 64, 65, 127, 128, 255] {
+                let mut spoiled = sheet.clone();
+                spoiled[at] = byte;
+                same_read(&spoiled, &mut seen);
+            }
+        }
+    }
+}
+
+#[test]
+fn running_gives_the_same_answer() {
+    let (mut random, mut seen) = (Random::new(14), BTreeSet::new());
+    for _ in 0..12_000 {
+        let (net, style) = any_net_for_lists(&mut random);
+        let counts = marking(&mut random, style, &net);
+        let list = movements(&list(&mut random, &net, 40));
+        let list = maybe_spoiled(&mut random, list, 20);
+        let sheet = sheet_of(&mut random, &net, 10);
+        same_run(&sheet, &list, &counts, &mut seen);
+    }
+    assert_eq!(seen, (0..=9).chain(11..=14).chain([17]).collect());
+}
+
+/// Mostly small nets, where refusals are near; the large ones are slow in the reference.
+fn any_net_for_lists(random: &mut Random) -> (PlainNet, Style) {
+    if random.once_in(100) {
+        return any_net(random);
+    }
+    let style = random.pick(&STYLES);
+    let (places, transitions, arcs) = random.pick(&[(1, 2, 3), (3, 2, 6), (5, 4, 24), (9, 9, 80)]);
+    (net(random, style, places, transitions, arcs), style)
+}
+
+#[test]
+fn long_runs_give_the_same_answer() {
+    let (mut random, mut seen) = (Random::new(15), BTreeSet::new());
+    for places in [1, 2, 4, 8, 12, 20, 40, 64] {
+        for arcs in [4, 40, 400, 2_048] {
+            let net = net(&mut random, Style::Lively, places, 8, arcs);
+            let counts = marking(&mut random, Style::Lively, &net);
+            let list = movements(&list(&mut random, &net, 1_500));
+            same_run(&net.sheet(), &list, &counts, &mut seen);
+        }
+    }
+    assert!(seen.contains(&0));
+}
+
+#[test]
+fn every_width_of_a_net_runs_the_same() {
+    let (mut random, mut seen) = (Random::new(16), BTreeSet::new());
+    for pairs in 1..=256 {
+        let mut net = net(&mut random, Style::Small, 1, 3, 9);
+        net.pairs.resize(pairs, (9, 4));
+        net.colours = vec![4; pairs / 4];
+        net.colours.extend((pairs % 4 > 0).then_some((pairs % 4) as u16));
+        net.modes = vec![2];
+        net.arcs = (0..2 * pairs)
+            .map(|n| reference::build::arc((n / pairs) as u16, (n % pairs) as u16, 1, 1, 9 - (n % 5) as u32))
+            .collect();
+        assert_eq!(total(&net.colours), pairs);
+        for most in [3, 300] {
+            let list = movements(&list(&mut random, &net, most));
+            let counts: Vec<u32> = (0..pairs).map(|_| 1 + random.below(8) as u32).collect();
+            same_run(&net.sheet(), &list, &counts, &mut seen);
+            same_run(&net.sheet(), &list, &vec![5; pairs], &mut seen);
+        }
+    }
+}
+
+#[test]
+fn complementing_gives_the_same_sheet() {
+    let (mut random, mut seen) = (Random::new(17), BTreeSet::new());
+    for _ in 0..6_000 {
+        let net = any_net_for_lists(&mut random).0;
+        let room = if random.once_in(8) { random.below(300) } else { 36_000 };
+        let sheet = sheet_of(&mut random, &net, 5);
+        same_complement(&sheet, room, &mut seen);
+    }
+    for _ in 0..300 {
+        same_complement(&any_net(&mut random).0.sheet(), 36_000, &mut seen);
+    }
+    assert_eq!(seen, (0..=10).chain([15, 16]).collect());
+}
+
+#[test]
+fn complementing_into_every_length_gives_the_same_bytes() {
+    let (mut random, mut seen) = (Random::new(18), BTreeSet::new());
+    for _ in 0..20 {
+        let sheet = net(&mut random, Style::Small, 3, 2, 6).sheet();
+        for room in 0..300 {
+            same_complement(&sheet, room, &mut seen);
+        }
+    }
+}
+
+#[test]
+fn replay_prints_the_same_text() {
+    let mut random = Random::new(19);
+    let mut firsts = BTreeSet::new();
+    for _ in 0..8_000 {
+        let (net, _) = any_net_for_lists(&mut random);
+        let pairs = total(&net.colours);
+        let w = weights(&generator::weights(&mut random, pairs));
+        let list = movements(&list(&mut random, &net, 30));
+        let mut input = sheet_of(&mut random, &net, 10);
+        for sheet in [w, list] {
+            input.extend(maybe_spoiled(&mut random, sheet, 15));
+        }
+        let text = same_replay(&input);
+        firsts.insert(text.split(['\n', ' ']).next().unwrap().to_string());
+        firsts.extend(text.lines().map(|line| line.split(' ').next().unwrap().to_string()));
+    }
+    assert!(["start", "refused", "end", "bad"].iter().all(|&word| firsts.contains(word)));
+}
+
+#[test]
+fn long_replays_print_the_same_text() {
+    let mut random = Random::new(20);
+    for places in [1, 3, 10, 40] {
+        let net = net(&mut random, Style::Lively, places, 8, 60);
+        let pairs = total(&net.colours);
+        for scale in [0, 1, 1_000, 1_000_000] {
+            let w: Vec<i32> = (0..pairs).map(|_| random.below(2 * scale + 1) as i32 - scale as i32).collect();
+            let list = movements(&list(&mut random, &net, 8_000));
+            same_replay(&[net.sheet(), weights(&w), list].concat());
+        }
+    }
+}
+
+#[test]
+fn replay_of_short_and_long_inputs() {
+    for length in [0, 1, 3, 4, 5, 65_535, 65_536, 65_537, 70_000] {
+        for byte in [0, 1, 255] {
+            same_replay(&vec![byte; length]);
+        }
+    }
+}
+
+#[test]
+fn figures_of_every_length_print_the_same() {
+    // One pair that gains 1 a movement: figures pass every power of ten with both signs.
+    let arcs = [reference::build::arc(0, 0, 0, 1, u32::MAX), reference::build::arc(1, 0, 0, 9, u32::MAX)];
+    for first in [0, 1, 8, 98, 998, 9_998, 99_998, 999_980] {
+        let net = PlainNet::plain(2, &[(u32::MAX, first)], &arcs).sheet();
+        for weight in [0, 1, -1, 10, 11, 99, 100, -101, 1_000, 10_000, 99_999, 100_000, -1_000_000, 1_000_000]
+        {
+            same_replay(&[net.clone(), weights(&[weight]), movements(&[0, 0, 1, 0])].concat());
+        }
+    }
+}
+
+#[test]
+fn the_largest_figure_prints_the_same() {
+    let net = PlainNet {
+        colours: vec![64; 4],
+        modes: vec![1],
+        pairs: vec![(u32::MAX, 1_000_000); 256],
+        arcs: vec![],
+    };
+    for weight in [1_000_000, -1_000_000] {
+        let text = same_replay(&[net.sheet(), weights(&[weight; 256]), movements(&[0; 3])].concat());
+        assert!(text.contains("256000000000000\n"));
+    }
+}
+
+/// Places of these colours, every pair of K 5.
+fn finite(colours: Vec<u16>) -> PlainNet {
+    let pairs = vec![(5, 2); total(&colours)];
+    PlainNet { colours, modes: vec![64, 64, 1], pairs, arcs: vec![] }
+}
+
+#[test]
+fn at_the_complements_limits_the_answers_are_the_same() {
+    let mut seen = BTreeSet::new();
+    for colours in [vec![1; 32], vec![1; 33], vec![64; 2], vec![64, 64, 1], vec![4; 32], vec![2; 64]] {
+        let mut net = finite(colours);
+        same_complement(&net.sheet(), 36_000, &mut seen);
+        // One complement pair, and often one place, fewer.
+        net.pairs[0].0 = u32::MAX;
+        same_complement(&net.sheet(), 36_000, &mut seen);
+    }
+    for arcs in [1_023, 1_024, 1_025] {
+        let mut net = finite(vec![8]);
+        net.arcs = (0..arcs).map(|n| reference::build::arc(n / 8, n % 8, 1, 0, u32::MAX)).collect();
+        same_complement(&net.sheet(), 36_000, &mut seen);
+        // This one is blank at its original pair.
+        net.arcs.push(reference::build::arc(128, 7, 0, 0, 4));
+        same_complement(&net.sheet(), 36_000, &mut seen);
+    }
+    assert_eq!(seen, [0, 10].into());
+}
+
+#[test]
+fn at_the_limits_of_lists_and_arcs_the_answers_are_the_same() {
+    let mut seen = BTreeSet::new();
+    let mut net = finite(vec![20]);
+    for length in [8_191, 8_192, 8_193] {
+        same_run(&net.sheet(), &movements(&vec![1; length]), &[2; 20], &mut seen);
+    }
+    for arcs in [2_047, 2_048, 2_049] {
+        net.arcs = (0..arcs).map(|n| reference::build::arc(n / 20, n % 20, 1, 0, u32::MAX)).collect();
+        same_read(&net.sheet(), &mut seen);
+        same_run(&net.sheet(), &movements(&[0, 50, 102, 128, 0]), &[2; 20], &mut seen);
+    }
+    assert_eq!(seen, [0, 4, 11].into());
+}
