@@ -1,0 +1,57 @@
+"""Writes NAME.in, an input of `replay`, and NAME.out, what document 01 says it prints: literals and formulas, worked out apart from the engine."""
+import pathlib, sys
+
+here = pathlib.Path(__file__).parent
+sys.path.insert(0, str(here.parent.parent / "examples"))
+from sheets import UNBOUNDED, movements, net, weights
+
+AWAY = (UNBOUNDED, 0)
+
+
+def case(name, data, text):
+    (here / (name + ".in")).write_bytes(data)
+    (here / (name + ".out")).write_text(text)
+
+
+def one_pair(capacity, first, arc, list_of_modes, weight=10):
+    """A net of one pair and one mode with one arc (Pre, Post, I), its weight and a list of movements."""
+    return net([1], [1], [(capacity, first)], [(0, 0, *arc)]) + weights([weight]) + movements(list_of_modes)
+
+
+LANDING = net([1, 1], [1], [(5, 3), AWAY], [(0, 0, 1, 0, 4), (0, 1, 0, 1, UNBOUNDED)])
+WEIGHTS = weights([250, 0])
+FOUR = movements([0, 0, 0, 0])
+# document 01's own example
+case("document", LANDING + WEIGHTS + FOUR, "start 750\n1 0 0 500\n2 0 0 250\n3 0 0 0\nrefused 4 0 11 0\nend 3 0\n")
+
+# a refusal by each of 6 and 11 to 14
+case("mode_not_there", LANDING + WEIGHTS + movements([0, 7, 0]), "start 750\n1 0 0 500\nrefused 2 7 6 0\nend 1 500\n")
+case("lacking", one_pair(5, 1, (2, 0, 0), [0]), "start 10\nrefused 1 0 11 0\nend 0 10\n")
+case("over_capacity", one_pair(5, 4, (0, 1, UNBOUNDED), [0, 0]), "start 40\n1 0 0 50\nrefused 2 0 12 0\nend 1 50\n")
+case("full_swap", one_pair(5, 5, (1, 1, UNBOUNDED), [0]), "start 50\nrefused 1 0 12 0\nend 0 50\n")
+case("inhibited", one_pair(6, 4, (0, 1, 4), [0, 0]), "start 40\n1 0 0 50\nrefused 2 0 13 0\nend 1 50\n")
+case("over_limit", one_pair(UNBOUNDED, 999999, (0, 1, UNBOUNDED), [0, 0]), "start 9999990\n1 0 0 10000000\nrefused 2 0 14 0\nend 1 10000000\n")
+
+# a bad sheet of each thing; bytes after the third sheet; nothing
+case("bad_net", LANDING[:4] + b"\x02" + LANDING[5:] + WEIGHTS + FOUR, "bad 0 2 4\n")
+case("bad_weights", LANDING + weights([250, 0, 0]) + FOUR, "bad 1 17 5\n")
+case("weight_too_large", LANDING + weights([250, 1000001]) + FOUR, "bad 1 5 11\n")
+case("bad_movements", LANDING + WEIGHTS + b"\x00\x00\x00\x04\x01\x00\x00\x00", "bad 2 3 7\n")
+case("missing_movements", LANDING + WEIGHTS, "bad 2 1 0\n")
+case("bytes_after", LANDING + WEIGHTS + FOUR + b"\x00", "bad 2 3 13\n")
+case("empty", b"", "bad 0 1 0\n")
+case("empty_list", LANDING + WEIGHTS + movements([]), "start 750\nend 0 750\n")
+
+# 65,536 bytes are read, 65,537 are not
+three = LANDING + WEIGHTS + FOUR
+case("most_bytes", three + bytes(65536 - len(three)), "bad 2 3 13\n")
+case("one_byte_more", three + bytes(65537 - len(three)), "long\n")
+
+# a figure below zero: an allowance of -500 a token, given back and taken again
+ALLOWANCE = net([1], [1, 1], [(9, 2)], [(0, 0, 1, 0, UNBOUNDED), (1, 0, 0, 1, UNBOUNDED)])
+case("below_zero", ALLOWANCE + weights([-500]) + movements([1, 0, 0, 0]), "start -1000\n1 1 0 -1500\n2 0 0 -1000\n3 0 0 -500\n4 0 0 0\nend 4 0\n")
+
+# 8,192 movements: one token goes ashore and comes back, 4,096 times
+FERRY = net([1, 1], [1, 1], [(1, 1), (1, 0)], [(0, 0, 1, 0, UNBOUNDED), (0, 1, 0, 1, UNBOUNDED), (1, 0, 0, 1, UNBOUNDED), (1, 1, 1, 0, UNBOUNDED)])
+lines = "".join(f"{i} {(i + 1) % 2} 0 {0 if i % 2 else 250}\n" for i in range(1, 8193))
+case("longest_list", FERRY + weights([250, 0]) + movements([0, 1] * 4096), "start 250\n" + lines + "end 8192 250\n")
