@@ -1,19 +1,20 @@
 -- Locally dead modes: the searches name what the definitions mean.
-use Prim.Native.Nat.{ℕ, _<_}
+use Prim.Native.Nat.{ℕ, _+_, _-_, _≤_, _<_}
 use mathlib.Core.Path.{_≡_, refl, sym, _∙_, ap}
 use mathlib.Core.Bool.{Bool, true, false, _||_, or-true}
-use mathlib.Core.Logic.{_⊎_, inl, inr, ⊎-elim}
+use mathlib.Core.Logic.{_↔_, _⊎_, inl, inr, ⊎-elim}
 use mathlib.Core.Option.{Option, none, some, Option·map}
 use native.Mathlib.Omega.{arith}
 use Rattle.model.specs.declared.Mode.{Mode}
-use Rattle.model.specs.First.{Lowest}
-use Rattle.model.specs.Numbers.{ℕ∞, above}
+use Rattle.model.specs.First.{onlyIf, lowest, Lowest, NoneBelow}
+use Rattle.model.specs.Numbers.{ℕ∞, fin, ∞, _≤∞_, above}
 use Rattle.model.specs.Rows.{Entry}
-use Rattle.model.specs.Nets.{PNet, pairs, modes, pairNo, modeNo, K, row}
+use Rattle.model.specs.Nets.{PNet, pairs, modes, pairNo, modeNo, K, arcNo, row}
 use Rattle.model.specs.Dead.{Kills, kills, deadPair, isDead, DeadMode, firstDead}
 use Rattle.model.specs.Promises.{KillsAt, DeadModes, FirstDead}
-use Rattle.model.proofs.First.{Decides, lowest-or-none, lowest-some, some-lowest, first-each, first-all, first-at, first-found}
-use Rattle.model.proofs.Numbers.{above-true, true-above}
+use Rattle.model.proofs.First.{Decides, lowest-or-none, lowest-some, some-lowest, first-each, first-all, first-ext, first-at, first-found, first-sparse}
+use Rattle.model.proofs.ByArcs.{Listing}
+use Rattle.model.proofs.Numbers.{above-true, true-above, false-above}
 
 either : (a b : Bool) → a || b ≡ true → (a ≡ true) ⊎ (b ≡ true)
 either true b e = inl refl
@@ -51,6 +52,13 @@ module _ (net : PNet) (t : Mode) where
   unfolding isDead
   pair-dead p e = rw e
 
+  not-dead : ¬ (isDead net t ≡ true) → deadPair net t ≡ none
+  not-dead h = go (deadPair net t) refl
+    where
+      go : (o : Option ℕ) → deadPair net t ≡ o → deadPair net t ≡ none
+      go none e = e
+      go (some p) e = absurd (h (pair-dead p e))
+
   alive-dead : isDead net t ≡ true → (p : ℕ) × (p < pairs net) × KillsAt net t p
   alive-dead e = let d = dead-pair e in let l = dead-lowest (d .0) (d .1) in (d .0, l .below, l .holds)
 
@@ -58,6 +66,36 @@ module _ (net : PNet) (t : Mode) where
   dead-alive r =
       ⊎-elim (λ (l : (p : ℕ) × Lowest (pairs net) (KillsAt net t) p). pair-dead (l .0) (lowest-dead (l .0) (l .1)))
       (λ nowhere. absurd (nowhere (r .0) (r .1) (r .2))) (lowest-or-none decides-dead (λ p. p) (pairs net))
+
+zero-le : (k : ℕ∞) → 0 ≤∞ k
+zero-le (fin k) = omega arith
+zero-le ∞ = tt
+
+-- the k-th arc of a net makes its mode locally dead
+abbrev pub arcKills : PNet → ℕ → Bool
+arcKills net k = kills (arcNo (net .arcs) k .entry) (K net (arcNo (net .arcs) k .pair .0))
+
+-- a search over the arcs from `start` on that comes to k has passed those before
+abbrev pub Passed : PNet → ℕ → ℕ → Type 0
+Passed net start k = (i : ℕ) → i < k → start ≤ i → arcKills net i ≡ false
+
+-- a mode's own arcs are enough: where no arc is written nothing is above K
+module _ (net : PNet) (t : Mode) (start c : ℕ) (listing : Listing (pairs net) (row net t) c (λ k. arcNo (net .arcs) (start + k))) where
+  dead-by-arcs : deadPair net t ≡ lowest c (λ k. arcKills net (start + k)) (λ k. arcNo (net .arcs) (start + k) .pair .0)
+  unfolding deadPair
+  dead-by-arcs =
+      first-sparse (pairs net) c (λ p. onlyIf (kills (row net t p) (K net p)) p) (λ k. arcNo (net .arcs) (start + k) .pair .0) (listing .inside)
+      (listing .rising) (λ p h elsewhere. rw (listing .unwritten p h elsewhere, false-above 0 (K net p) (zero-le (K net p))))
+      ∙ first-ext c _ _ (λ k h. rw (listing .written k h))
+
+  pub arcs-alive : Passed net start (start + c) → deadPair net t ≡ none
+  arcs-alive passed = dead-by-arcs ∙ first-all c _ (λ k h. rw (passed (start + k) (omega arith) (omega arith)))
+
+  pub arcs-dead : (k : ℕ) → start ≤ k → k < start + c → Passed net start k → arcKills net k ≡ true → deadPair net t ≡ some (arcNo (net .arcs) k .pair .0)
+  arcs-dead k l h passed e =
+      let q : start + (k - start) ≡ k = omega arith in
+      dead-by-arcs
+      ∙ first-at c (k - start) _ _ (omega arith) (first-all (k - start) _ (λ i b. rw (passed (start + i) (omega arith) (omega arith)))) (rw (q, e))
 
 pub dead-modes : DeadModes
 dead-modes net t = (alive-dead net t, dead-alive net t)
@@ -83,12 +121,17 @@ module _ (net : PNet) where
       let y : _≡_ {A = ℕ} 0 1 = cc in
       omega arith
 
-  not-dead : (t : ℕ) → ¬ (isDead net (modeNo t) ≡ true) → deadAt t ≡ none
-  not-dead t h = go (deadPair net (modeNo t)) refl
-    where
-      go : (o : Option ℕ) → deadPair net (modeNo t) ≡ o → deadAt t ≡ none
-      go none g = rw g
-      go (some p) g = absurd (h (pair-dead net (modeNo t) p g))
+  -- a search over the modes that comes to t has passed those before
+  abbrev pub Alive : ℕ → Type 0
+  Alive t = (u : ℕ) → u < t → deadPair net (modeNo u) ≡ none
+
+  pub all-alive : Alive (modes net) → firstDead net ≡ none
+  unfolding firstDead
+  all-alive passed = first-all (modes net) deadAt (λ u h. rw (passed u h))
+
+  pub dead-first : (t p : ℕ) → t < modes net → Alive t → deadPair net (modeNo t) ≡ some p → firstDead net ≡ some (named t p)
+  unfolding firstDead
+  dead-first t p h passed e = first-at (modes net) t deadAt (named t p) h (first-all t deadAt (λ u l. rw (passed u l))) (rw e)
 
   first-lowest : (t p : ℕ) → firstDead net ≡ some (named t p)
       → Lowest (modes net) (λ u. isDead net (modeNo u) ≡ true) t × Lowest (pairs net) (KillsAt net (modeNo t)) p
@@ -109,10 +152,14 @@ module _ (net : PNet) where
 
   lowest-first : (t p : ℕ) → Lowest (modes net) (λ u. isDead net (modeNo u) ≡ true) t → Lowest (pairs net) (KillsAt net (modeNo t)) p
       → firstDead net ≡ some (named t p)
-  unfolding firstDead
-  lowest-first t p l k =
-      first-at (modes net) t deadAt (named t p) (l .below) (first-all t deadAt (λ j h. not-dead j (l .noneLower j h)))
-      (rw (lowest-dead net (modeNo t) p k))
+  lowest-first t p l k = dead-first t p (l .below) (λ u h. not-dead net (modeNo u) (l .noneLower u h)) (lowest-dead net (modeNo t) p k)
 
 pub first-dead : FirstDead
 first-dead net t p = (first-lowest net t p, λ r. lowest-first net t p (r .0) (r .1))
+
+pub none-dead : (net : PNet) → (firstDead net ≡ none) ↔ NoneBelow (modes net) (λ t. isDead net (modeNo t) ≡ true)
+unfolding firstDead
+none-dead net = (
+  λ e t h. alive net t (first-each (modes net) (deadAt net) e t h),
+  λ no. all-alive net (λ t h. not-dead net (modeNo t) (no t h)),
+)

@@ -20,7 +20,7 @@ use Rattle.model.specs.Numbers.{fin, limit}
 use Rattle.model.specs.Billington.{Enables}
 use Rattle.model.specs.Rows.{Row, Capacities, Counts}
 use Rattle.model.specs.Nets.{PNet, pairs, modes, K, count, row}
-use Rattle.model.specs.Firing.{after, compared, Stops, stops, stopped, lowestStop, ruleRefusal, rowRefusal, modeRefusal}
+use Rattle.model.specs.Firing.{after, compared, Stops, stops, stopped, lowestStop, ruleRefusal, rowRefusal, absent, modeRefusal}
 use Rattle.model.specs.Promises.{FiringTable, RefusalTable, Rule}
 use Rattle.model.proofs.First.{Decides, below-or, only-if-none, left-none, right-none, none-then, some-then, lowest-none, lowest-some, none-lowest, lowest-or-none}
 use Rattle.model.proofs.Numbers.{above-true, true-above, not-above, le-not-above, le-room, room-le}
@@ -96,6 +96,13 @@ module _ (about : Thing) (n : ℕ) (k : Capacities) (r : Row) (M : Counts) where
       (λ p l. not-above (M p + r p .post) (k p) (room-le (M p) (r p .post) (k p) (h .room p l)))
       (λ p l. not-above (M p) (r p .inhibitor) (h .uninhibited p l))
 
+-- 6: whether a mode is there
+pub mode-there : (about : Thing) (n : ℕ) (t : Mode) → t .0 < n → absent about n t ≡ none
+mode-there about n t h = rw (lt-leb n (t .0) h)
+
+pub mode-missing : (about : Thing) (n : ℕ) (t : Mode) → n ≤ t .0 → absent about n t ≡ some (record { thing = about; fault = NotThere })
+mode-missing about n t h = rw (le-leb n (t .0) h)
+
 -- The rows of the table, for one call.
 module _ (about : Thing) (net : PNet) (t : Mode) (m : List ℕ) where
   abbrev refusal : Option Refusal
@@ -112,11 +119,11 @@ module _ (about : Thing) (net : PNet) (t : Mode) (m : List ℕ) where
 
   pub there : Here → refusal ≡ rowRefusal about (pairs net) (K net) (row net t) (count m)
   unfolding modeRefusal
-  there h = none-then (rw (lt-leb (modes net) (t .0) h)) refl
+  there h = none-then (mode-there about (modes net) t h) refl
 
   pub missing : modes net ≤ t .0 → refusal ≡ some (record { thing = about; fault = NotThere })
   unfolding modeRefusal
-  missing h = some-then _ (rw (le-leb (modes net) (t .0) h))
+  missing h = some-then _ (mode-missing about (modes net) t h)
 
   here : {o : Option Refusal} → Here → rowRefusal about (pairs net) (K net) (row net t) (count m) ≡ o → refusal ≡ o
   here h e = there h ∙ e

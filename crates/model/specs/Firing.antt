@@ -57,6 +57,10 @@ module _ (thing : Thing) (n : ℕ) (K : Capacities) (row : Row) (M : Counts) whe
   unfoldable pub rowRefusal : Option Refusal
   rowRefusal = ruleRefusal ▸ lowestStop OverLimit
 
+-- 6: a mode that is not there among so many
+abbrev pub absent : Thing → ℕ → Mode → Option Refusal
+absent thing modes t = onlyIf (leb modes (t .0)) (record { thing = thing; fault = NotThere })
+
 -- "then the mode (6, 11 over all pairs, 12, 13, 14)"
 unfoldable pub modeRefusal : Thing → PNet → Mode → List ℕ → Option Refusal
 modeRefusal thing net t m =

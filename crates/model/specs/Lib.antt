@@ -5,6 +5,7 @@ pub mod Numbers
 pub mod First
 pub mod Refusals
 pub mod RefusalTables
+pub mod Replies
 pub mod Rows
 pub mod Nets
 pub mod WellFormed

@@ -24,3 +24,4 @@ pub mod Segments
 pub mod Lists
 pub mod TwosComplement
 pub mod RefusalTables
+pub mod Modes

@@ -31,7 +31,7 @@ unfolding opened
 opened-refused none net e h = let z : _≡_ {A = ℕ} 0 1 = cc in absurd (omega arith)
 opened-refused (some r) net e h = cc
 
-opened-shape : {x : Opened} {shape : NetShape} (o : Option Refusal) (net : NetShape) → x ≡ opened o net → x ≡ Open shape → (o ≡ none) × (shape ≡ net)
+pub opened-shape : {x : Opened} {shape : NetShape} (o : Option Refusal) (net : NetShape) → x ≡ opened o net → x ≡ Open shape → (o ≡ none) × (shape ≡ net)
 unfolding opened
 opened-shape none net e h = (refl, cc)
 opened-shape (some r) net e h = let z : _≡_ {A = ℕ} 0 1 = cc in absurd (omega arith)

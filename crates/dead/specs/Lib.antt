@@ -1,0 +1,3 @@
+pub mod IsDead
+pub mod FirstDead
+pub mod Promises

@@ -1,0 +1,148 @@
+// Locally dead modes: "A mode is locally dead when, at some pair, Pre or Post is above K" (document 01, "Certificate, figure, dead modes").
+use model::Arc;
+use model::Fault;
+use model::Mode;
+use model::Pair;
+use model::Refusal;
+use model::Thing;
+use sheets::numbers::above_bound;
+use sheets::opened::Opened;
+use sheets::opened::open_net;
+use sheets::shape::NetShape;
+use sheets::shape::arc;
+use sheets::shape::capacity;
+use sheets::starts::Segment;
+use sheets::starts::arcs_of;
+use sheets::starts::find_arcs;
+use sheets::starts::starts;
+ghost use mathlib.Core.Path.{_≡_};
+ghost use mathlib.Core.Option.{none};
+ghost use Prim.Native.Nat.{_+_, _≤_, _<_};
+ghost use Rattle.model.specs.Nets.{modes, modeNo, K};
+ghost use Rattle.model.specs.declared.Thing.the-variants.{Argument};
+ghost use Rattle.model.specs.Firing.{absent};
+ghost use Rattle.model.specs.Dead.{kills as killsHere, isDead, firstDead};
+ghost use Rattle.sheets.specs.Decoded.{netOf};
+ghost use Rattle.sheets.specs.Shape.{Open, netArc};
+ghost use Rattle.sheets.specs.Starts.{StartsAre, ModeArcs};
+ghost use Rattle.dead.specs.IsDead.{deadness, deadnessOf};
+ghost use Rattle.dead.specs.FirstDead.{named, firstDeadOf};
+
+// "gives yes or no", or why not.
+pub enum Deadness {
+    Dead,
+    Alive,
+    Refused(Refusal),
+}
+
+// The "lowest locally dead mode with the lowest pair that makes it so, or none".
+pub enum FirstDead {
+    At(Mode, Pair),
+    None,
+    Refused(Refusal),
+}
+
+// Pre or Post of an arc is above K of its pair.
+fn kills(s: &[u8], net: NetShape, arc: Arc) -> bool
+    requires { ⌜ Open (now s) net ⌝ }
+    requires { ⌜ arc .pair .0 < net .pairs ⌝ }
+    ensures { λ r. ⌜ r ≡ killsHere (netArc arc .entry) (K (netOf (now (s .entry))) (arc .pair .0)) ⌝ }
+{
+    let pair = arc.pair;
+    let most = capacity(s, net, pair);
+    if above_bound(arc.pre, most) {
+        return true;
+    }
+    above_bound(arc.post, most)
+}
+
+// Dead at a mode: looked for at the mode's own arcs, since nothing is above K where there is none.
+pub fn dead_at(s: &[u8], net: NetShape, mode: Mode) -> bool
+    requires { ⌜ Open (now s) net ⌝ }
+    ensures { λ r. ⌜ r ≡ isDead (netOf (now (s .entry))) mode ⌝ }
+{
+    let arcs = find_arcs(s, net, mode);
+    let end = arcs.start + arcs.count;
+    let mut k = arcs.start;
+    while k < end {
+        if kills(s, net, arc(s, net, k)) {
+            return true;
+        }
+        k += 1;
+    }
+    false
+}
+
+// The arcs of the t-th mode.
+fn arcs_at(s: &[u8], net: NetShape, table: &[u16; 257], t: usize) -> Segment
+    requires { ⌜ Open (now s) net ⌝ }
+    requires { ⌜ StartsAre (netOf (now s) .arcs) (now table) ⌝ }
+    requires { ⌜ (t < net .modes) × (net .modes ≤ 256) ⌝ }
+    ensures { λ r. ⌜ ModeArcs (netOf (now (s .entry)) .arcs) (modeNo t) (r .start) (r .count) × (r .start + r .count ≤ net .arcs) ⌝ }
+{
+    arcs_of(s, net, table, Mode(t as u16))
+}
+
+// The searches over modes and over their arcs both stop at the first fault; each arc is visited at most once.
+fn search(s: &[u8], net: NetShape) -> FirstDead
+    requires { ⌜ Open (now s) net ⌝ }
+    ensures { λ r. ⌜ r ≡ named none (firstDead (netOf (now (s .entry)))) ⌝ }
+{
+    let table = starts(s, net);
+    let modes = net.modes;
+    let mut found = FirstDead::None;
+    let mut t = 0;
+    'search: while t < modes {
+        let arcs = arcs_at(s, net, &table, t);
+        let end = arcs.start + arcs.count;
+        let mut k = arcs.start;
+        while k < end {
+            let here = arc(s, net, k);
+            if kills(s, net, here) {
+                let mode = here.mode;
+                let pair = here.pair;
+                found = FirstDead::At(mode, pair);
+                break 'search;
+            }
+            k += 1;
+        }
+        t += 1;
+    }
+    found
+}
+
+fn mode_answer(s: &[u8], net: NetShape, mode: Mode) -> Deadness
+    requires { ⌜ Open (now s) net ⌝ }
+    ensures { λ r. ⌜ r ≡ deadness (absent Argument (modes (netOf (now (s .entry)))) mode) (isDead (netOf (now (s .entry))) mode) ⌝ }
+{
+    if net.modes <= mode.0 as usize {
+        return Deadness::Refused(Refusal {
+            thing: Thing::Argument,
+            fault: Fault::NotThere,
+        });
+    }
+    if dead_at(s, net, mode) {
+        return Deadness::Dead;
+    }
+    Deadness::Alive
+}
+
+pub fn is_dead(net: &[u8], mode: Mode) -> Deadness
+    ensures { λ r. ⌜ r ≡ deadnessOf (now (net .entry)) mode ⌝ }
+{
+    let opened = open_net(net);
+    match opened {
+        Opened::Refused(refusal) => Deadness::Refused(refusal),
+        Opened::Open(shape) => mode_answer(net, shape, mode),
+    }
+}
+
+pub fn first_dead(net: &[u8]) -> FirstDead
+    ensures { λ r. ⌜ r ≡ firstDeadOf (now (net .entry)) ⌝ }
+{
+    let opened = open_net(net);
+    match opened {
+        Opened::Refused(refusal) => FirstDead::Refused(refusal),
+        Opened::Open(shape) => search(net, shape),
+    }
+}

@@ -1,0 +1,80 @@
+-- A mode's own arcs say what its row says, at a marking that was accepted.
+use Prim.Native.Nat.{ℕ, _+_, _≤_, _<_}
+use mathlib.Core.Path.{_≡_, refl, sym, _∙_}
+use mathlib.Core.Bool.{Bool, true, false}
+use mathlib.Core.Logic.{_↔_}
+use mathlib.Core.Option.{none}
+use native.Mathlib.Omega.{arith}
+use mathlib.Core.List.{List}
+use Rattle.model.specs.declared.Mode.{Mode}
+use Rattle.model.specs.declared.Thing.{Thing}
+use Rattle.model.specs.declared.Thing.the-variants.{Argument}
+use Rattle.model.specs.declared.Why.{Why}
+use Rattle.model.specs.declared.Why.the-variants.{Lacking, OverCapacity, Inhibited, OverLimit}
+use Rattle.model.specs.declared.Answer.{Answer}
+use Rattle.model.specs.First.{_▸_, first}
+use Rattle.model.specs.Refusals.{answer}
+use Rattle.model.specs.Nets.{NetArc, PNet, pairs, K, count, arcNo, row}
+use Rattle.model.specs.Firing.{ruleRefusal, rowRefusal, fired}
+use Rattle.model.proofs.First.{then-assoc}
+use Rattle.model.proofs.ByArcs.{Listing, arcs-stop, arcs-accept, writeArcs, write-next, write-length, write-keeps, fired-by-arcs}
+use Rattle.sheets.specs.declared.shape.NetShape.{NetShape}
+use Rattle.sheets.specs.declared.starts.Segment.{Segment}
+use Rattle.sheets.specs.Decoded.{netOf}
+use Rattle.sheets.specs.Starts.{ModeArcs}
+use Rattle.sheets.proofs.Shapes.{sizes}
+use Rattle.sheets.proofs.Segments.{mode-lists}
+use Rattle.fire.specs.Parts.{Free, Writable, writtenAt, AtMode, stopAt, stopOf, refusalOf, Accepts}
+use Rattle.fire.proofs.FourTests.{clash}
+
+module _ {s : List ℕ} {net : NetShape} {arcs : Segment} {m : List ℕ} (h : AtMode s net arcs m) (t : Mode)
+    (own : ModeArcs (netOf s .arcs) t (arcs .start) (arcs .count)) where
+  pub listing : Listing (pairs (netOf s)) (row (netOf s) t) (arcs .count) (λ i. arcNo (netOf s .arcs) (arcs .start + i))
+  listing = mode-lists (netOf s) (sizes (h .opened) .wellFormed) t (arcs .start) (arcs .count) own
+
+  pub stop-by-arcs : (thing : Thing) (why : Why)
+      → stopOf thing why (netOf s) m t ≡ first (arcs .count) (λ i. stopAt thing why (netOf s) m (arcs .start + i))
+  unfolding stopAt stopOf
+  stop-by-arcs thing why = arcs-stop listing thing (K (netOf s)) (count m) (h .marking .inRange) (h .marking .within) why
+
+  -- nothing is found exactly when each arc is free
+  abbrev Each : Type 0
+  Each = (i : ℕ) → i < arcs .count → Free (netOf s) m (arcs .start + i)
+
+  accepts : (thing : Thing) → (refusalOf thing (netOf s) m t ≡ none) ↔ Each
+  unfolding Free refusalOf
+  accepts thing = arcs-accept listing thing (K (netOf s)) (count m) (h .marking .inRange) (h .marking .within)
+
+  pub one-not-free : {free : Bool} (i : ℕ) → i < arcs .count → (free ≡ true) ↔ Free (netOf s) m (arcs .start + i) → free ≡ false
+      → (false ≡ true) ↔ Accepts (netOf s) m t
+  one-not-free i l is e = (λ z. clash (sym z), λ all. clash (sym (is .1 (accepts Argument .0 (all Argument) i l)) ∙ e))
+
+  pub all-free : Each → (true ≡ true) ↔ Accepts (netOf s) m t
+  all-free each = (λ _ thing. accepts thing .1 each, λ _. refl)
+
+  -- the arcs write one after the other, and in the end the mode has fired
+  abbrev arc : ℕ → NetArc
+  arc i = arcNo (netOf s .arcs) (arcs .start + i)
+
+  pub writable : (i : ℕ) → i < arcs .count → Writable (netOf s) (writeArcs arc i m) (arcs .start + i)
+  writable i l =
+      record {
+        oneEach = write-length arc m i ∙ h .marking .oneEach;
+        inRange =
+            rw (write-keeps arc m i (arc i .pair .0) (λ k b e. omega (arith, listing .rising k i b l)))
+            (h .marking .inRange (arc i .pair .0) (listing .inside i l));
+      }
+
+  pub written-next : (i : ℕ) → writtenAt (netOf s) (writeArcs arc i m) (arcs .start + i) ≡ writeArcs arc (i + 1) m
+  unfolding writtenAt
+  written-next i = sym (write-next arc m i)
+
+  pub fires : (i : ℕ) → i ≤ arcs .count → arcs .count ≤ i → writeArcs arc i m ≡ fired (netOf s) t m
+  fires i b l = let e : i ≡ arcs .count = omega arith in rw e (sym (fired-by-arcs (netOf s) t m (h .marking) listing))
+
+-- "6, 11 over all pairs, 12, 13, 14": the answer is that of the four in turn
+pub in-order : {a : Answer} (thing : Thing) (net : PNet) (m : List ℕ) (t : Mode)
+    → a ≡ answer (stopOf thing Lacking net m t ▸ stopOf thing OverCapacity net m t ▸ stopOf thing Inhibited net m t ▸ stopOf thing OverLimit net m t)
+    → a ≡ answer (refusalOf thing net m t)
+unfolding stopOf refusalOf rowRefusal ruleRefusal
+in-order thing net m t e = rw (then-assoc, then-assoc) e

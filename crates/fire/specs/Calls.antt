@@ -1,0 +1,50 @@
+-- The calls over a net sheet and a lent marking: what each answers, and what it leaves in the marking.
+-- "Across things: net, weights, movements, then the marking (17, then pair by pair 5 before 9), then the mode (6, 11 over all pairs, 12, 13, 14)."
+use Prim.Native.Nat.{ℕ}
+use mathlib.Core.Bool.{not}
+use mathlib.Core.List.{List}
+use mathlib.Core.Option.{Option, none, some}
+use lib.Dec.{eqb}
+use lib.ListN.{length}
+use Rattle.model.specs.declared.Mode.{Mode}
+use Rattle.model.specs.declared.Thing.the-variants.{Argument}
+use Rattle.model.specs.declared.Fault.the-variants.{NotOneEach}
+use Rattle.model.specs.declared.Refusal.{Refusal}
+use Rattle.model.specs.First.{_▸_, onlyIf}
+use Rattle.model.specs.Nets.{pairs}
+use Rattle.model.specs.Markings.{markingRefusal}
+use Rattle.model.specs.Firing.{modeRefusal, fired}
+use Rattle.model.specs.Runs.{Outcome, goOn, run, certificateRefusal}
+use Rattle.sheets.specs.Whole.{wholeNet, wholeMovements}
+use Rattle.sheets.specs.Decoded.{netOf, movementsOf}
+
+-- "Other refused calls write nothing."
+abbrev pub written : Option Refusal → List ℕ → List ℕ → List ℕ
+written none new found = new
+written (some r) new found = found
+
+-- begin: net, then 17; it writes the net's first marking
+unfoldable pub beginRefusal : List ℕ → List ℕ → Option Refusal
+beginRefusal net marking =
+    wholeNet net ▸ onlyIf (not (eqb (length marking) (pairs (netOf net)))) (record { thing = Argument; fault = NotOneEach 0 })
+
+abbrev pub begun : List ℕ → List ℕ → List ℕ
+begun net marking = written (beginRefusal net marking) (netOf net .start) marking
+
+-- test and fire
+unfoldable pub testRefusal : List ℕ → List ℕ → Mode → Option Refusal
+testRefusal net marking t = wholeNet net ▸ markingRefusal (netOf net) marking ▸ modeRefusal Argument (netOf net) t marking
+
+abbrev pub firedBy : List ℕ → List ℕ → Mode → List ℕ
+firedBy net marking t = written (testRefusal net marking t) (fired (netOf net) t marking) marking
+
+-- run: "net, .. movements, then the marking", then movement by movement; a run refused before its first movement has accepted 0
+unfoldable pub beforeRun : List ℕ → List ℕ → List ℕ → Option Refusal
+beforeRun net movements marking = wholeNet net ▸ wholeMovements movements ▸ markingRefusal (netOf net) marking
+
+unfoldable pub runOf : List ℕ → List ℕ → List ℕ → Outcome
+runOf net movements marking = goOn (beforeRun net movements marking) 0 marking (run (netOf net) (movementsOf movements) marking)
+
+-- "Certificate: net, movements, 17 for the claim, the run (6, 11 to 14), 18."
+unfoldable pub certifyRefusal : List ℕ → List ℕ → List ℕ → Option Refusal
+certifyRefusal net movements claim = wholeNet net ▸ wholeMovements movements ▸ certificateRefusal (netOf net) (movementsOf movements) claim

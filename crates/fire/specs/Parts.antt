@@ -1,0 +1,115 @@
+-- What the private functions and the shared parts of this crate speak of, beyond the calls.
+use Prim.Native.Nat.{ℕ, _+_, _≤_, _<_}
+use mathlib.Core.Path.{_≡_}
+use mathlib.Core.Bool.{false}
+use mathlib.Core.List.{List}
+use mathlib.Core.Option.{Option, none}
+use lib.ListN.{length, set}
+use lib.Dec.{leb}
+use Rattle.model.specs.declared.Arc.{Arc}
+use Rattle.model.specs.declared.Mode.{Mode}
+use Rattle.model.specs.declared.Why.{Why}
+use Rattle.model.specs.declared.Thing.{Thing}
+use Rattle.model.specs.declared.Thing.the-variants.{Argument}
+use Rattle.model.specs.declared.Fault.the-variants.{MarkingOutside, MarkingAboveCapacity, NotThere}
+use Rattle.model.specs.declared.Refusal.{Refusal}
+use Rattle.model.specs.declared.Answer.{Answer}
+use Rattle.model.specs.First.{_▸_, onlyIf}
+use Rattle.model.specs.Refusals.{answer}
+use Rattle.model.specs.Numbers.{ℕ∞, fin, above, limit}
+use Rattle.model.specs.Rows.{Entry}
+use Rattle.model.specs.Nets.{PNet, pairs, pairNo, K, count, arcNo, row}
+use Rattle.model.specs.Markings.{Marking}
+use Rattle.model.specs.Firing.{after, stops, stopped, lowestStop, rowRefusal}
+use Rattle.sheets.specs.declared.shape.NetShape.{NetShape}
+use Rattle.sheets.specs.declared.starts.Segment.{Segment}
+use Rattle.sheets.specs.Nets.{bound}
+use Rattle.sheets.specs.Checks.{wrong}
+use Rattle.sheets.specs.Decoded.{netOf}
+use Rattle.sheets.specs.Shape.{Open, netArc}
+use Rattle.sheets.specs.Starts.{ModeArcs}
+use Rattle.fire.specs.declared.rule.AtPair.{AtPair}
+use Rattle.fire.specs.Calls.{written}
+
+-- the count of a marking at pair p: "pair by pair 5 before 9"
+unfoldable pub countRefusal : PNet → List ℕ → ℕ → Option Refusal
+countRefusal net m p =
+    onlyIf (above (count m p) (fin limit)) (wrong Argument (MarkingOutside (pairNo p)))
+    ▸ onlyIf (above (count m p) (K net p)) (wrong Argument (MarkingAboveCapacity (pairNo p)))
+
+-- an arc of a sheet that was accepted
+pub record InRange (a : Arc) : Type 0 where
+  pub pre : a .pre ≤ limit
+  pub post : a .post ≤ limit
+
+-- with a count of a marking that was accepted
+pub record Counted (at : AtPair) : Type 0 where
+  pub arc : InRange (at .arc)
+  pub count : at .count ≤ limit
+
+-- nothing of 11 to 14 stops a mode where it has e, the capacity is k and the count m
+abbrev pub Unstopped : Entry → ℕ∞ → ℕ → Type 0
+Unstopped e k m = (why : Why) → stops why e k m ≡ false
+
+-- what the k-th arc of a net meets at a marking
+pub record Meets (net : PNet) (m : List ℕ) (k : ℕ) (at : AtPair) : Type 0 where
+  pub arc : netArc (at .arc) ≡ arcNo (net .arcs) k
+  pub inside : at .arc .pair .0 < pairs net
+  pub capacity : bound (at .capacity) ≡ K net (at .arc .pair .0)
+  pub count : at .count ≡ count m (at .arc .pair .0)
+  pub counted : Counted at
+
+-- nothing stops a mode where the k-th arc of a net stands
+unfoldable pub Free : PNet → List ℕ → ℕ → Type 0
+Free net m k =
+    let a = arcNo (net .arcs) k in
+    Unstopped (a .entry) (K net (a .pair .0)) (count m (a .pair .0))
+
+-- the k-th arc can be written: its pair has a count, which is in range
+pub record Writable (net : PNet) (m : List ℕ) (k : ℕ) : Type 0 where
+  pub oneEach : length m ≡ pairs net
+  pub inRange : count m (arcNo (net .arcs) k .pair .0) ≤ limit
+
+-- M - Pre + Post where the k-th arc of a net stands
+unfoldable pub writtenAt : PNet → List ℕ → ℕ → List ℕ
+writtenAt net m k =
+    let a = arcNo (net .arcs) k in
+    set m (a .pair .0) (after (a .entry) (count m (a .pair .0)))
+
+-- the arcs of a mode of an open net, at a marking that was accepted
+pub record AtMode (s : List ℕ) (net : NetShape) (arcs : Segment) (m : List ℕ) : Type 0 where
+  pub opened : Open s net
+  pub marking : Marking (netOf s) m
+  pub inside : arcs .start + arcs .count ≤ net .arcs
+  pub mode : Mode
+  pub own : ModeArcs (netOf s .arcs) mode (arcs .start) (arcs .count)
+
+-- what holds of the mode that has these arcs
+abbrev pub OfMode : List ℕ → Segment → (Mode → Type 0) → Type 0
+OfMode s arcs P = (t : Mode) → ModeArcs (netOf s .arcs) t (arcs .start) (arcs .count) → P t
+
+-- one of 11 to 14 where the k-th arc of a net stands
+unfoldable pub stopAt : Thing → Why → PNet → List ℕ → ℕ → Option Refusal
+stopAt thing why net m k =
+    let a = arcNo (net .arcs) k in
+    onlyIf (stops why (a .entry) (K net (a .pair .0)) (count m (a .pair .0))) (stopped thing why (a .pair .0))
+
+-- what is found of a mode at a marking, over all pairs
+unfoldable pub stopOf : Thing → Why → PNet → List ℕ → Mode → Option Refusal
+stopOf thing why net m t = lowestStop thing (pairs net) (K net) (row net t) (count m) why
+
+unfoldable pub refusalOf : Thing → PNet → List ℕ → Mode → Option Refusal
+refusalOf thing net m t = rowRefusal thing (pairs net) (K net) (row net t) (count m)
+
+-- none of 11 to 14 is found
+abbrev pub Accepts : PNet → List ℕ → Mode → Type 0
+Accepts net m t = (thing : Thing) → refusalOf thing net m t ≡ none
+
+-- a call that is refused by o, or by nothing: what it answers, and what it leaves in the marking that it found
+pub record Leaves (o : Option Refusal) (new found : List ℕ) (a : Answer) (left : List ℕ) : Type 0 where
+  pub answers : a ≡ answer o
+  pub leaves : left ≡ written o new found
+
+-- 6: "a movement's mode is not there", of n modes
+unfoldable pub absent : Thing → ℕ → Mode → Option Refusal
+absent thing n t = onlyIf (leb n (t .0)) (wrong thing NotThere)

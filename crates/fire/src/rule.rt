@@ -1,0 +1,87 @@
+// What a mode meets at one of its pairs: refusals 11 to 14, the count after firing, and the one number that stands for all four tests.
+use model::Arc;
+use model::Why;
+use sheets::numbers::above_bound;
+ghost use mathlib.Core.Path.{_≡_};
+ghost use mathlib.Core.Bool.{true};
+ghost use mathlib.Core.Logic.{_↔_};
+ghost use Prim.Native.Nat.{_≤_, min};
+ghost use Rattle.model.specs.Numbers.{limit};
+ghost use Rattle.model.specs.Firing.{after, stops};
+ghost use Rattle.model.proofs.PassBelow.{passBelow};
+ghost use Rattle.sheets.specs.Nets.{bound};
+ghost use Rattle.sheets.specs.Shape.{netArc};
+ghost use Rattle.fire.specs.Parts.{InRange, Counted, Unstopped};
+
+// An arc, K of its pair as the sheet writes it, and the count there.
+pub struct AtPair {
+    pub arc: Arc,
+    pub capacity: u32,
+    pub count: u32,
+}
+
+// "Firing gives M - Pre + Post."
+pub(crate) fn moved(arc: Arc, count: u32) -> u32
+    requires { ⌜ InRange arc ⌝ }
+    requires { ⌜ count ≤ limit ⌝ }
+    ensures { λ r. ⌜ r ≡ after (netArc arc .entry) count ⌝ }
+{
+    if count < arc.pre {
+        return arc.post;
+    }
+    count - arc.pre + arc.post
+}
+
+pub(crate) fn is_stopped(why: Why, at: AtPair) -> bool
+    requires { ⌜ Counted at ⌝ }
+    ensures { λ r. ⌜ r ≡ stops why (netArc (at .arc) .entry) (bound (at .capacity)) (at .count) ⌝ }
+{
+    let arc = at.arc;
+    match why {
+        Why::Lacking => at.count < arc.pre,
+        Why::OverCapacity => above_bound(at.count + arc.post, at.capacity),
+        Why::Inhibited => above_bound(at.count, arc.inhibitor),
+        Why::OverLimit => 1_000_000 < moved(arc, at.count),
+    }
+}
+
+// All four tests.
+pub(crate) fn is_free(at: AtPair) -> bool
+    requires { ⌜ Counted at ⌝ }
+    ensures { λ r. ⌜ (r ≡ true) ↔ Unstopped (netArc (at .arc) .entry) (bound (at .capacity)) (at .count) ⌝ }
+{
+    if is_stopped(Why::Lacking, at) {
+        return false;
+    }
+    if is_stopped(Why::OverCapacity, at) {
+        return false;
+    }
+    if is_stopped(Why::Inhibited, at) {
+        return false;
+    }
+    if is_stopped(Why::OverLimit, at) {
+        return false;
+    }
+    true
+}
+
+fn least(a: u32, b: u32) -> u32
+    ensures { λ r. ⌜ r ≡ min a b ⌝ }
+{
+    if a < b {
+        return a;
+    }
+    b
+}
+
+// The counts below this number, from Pre on, are those that pass all four tests.
+pub(crate) fn pass_below(arc: Arc, capacity: u32) -> u32
+    requires { ⌜ InRange arc ⌝ }
+    ensures { λ r. ⌜ r ≡ passBelow (netArc arc .entry) (bound capacity) ⌝ }
+{
+    if capacity < arc.post {
+        return 0;
+    }
+    let kept = least(arc.inhibitor, 1_000_000 + arc.pre - arc.post);
+    least(capacity - arc.post, kept) + 1
+}
