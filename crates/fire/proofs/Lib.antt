@@ -1,7 +1,12 @@
 pub mod Bounds
 pub mod ByMode
+pub mod ByNumbers
+pub mod Filling
 pub mod FourTests
 pub mod Leaving
 pub mod Meets
 pub mod Opened
+pub mod Opening
 pub mod Promises
+pub mod Reporting
+pub mod Running

@@ -15,8 +15,10 @@ use Rattle.model.specs.Nets.{pairs}
 use Rattle.model.specs.Markings.{markingRefusal}
 use Rattle.model.specs.Firing.{modeRefusal, fired}
 use Rattle.model.specs.Runs.{Outcome, goOn, run, certificateRefusal}
+use Rattle.model.specs.Refusals.{answer}
 use Rattle.sheets.specs.Whole.{wholeNet, wholeMovements}
 use Rattle.sheets.specs.Decoded.{netOf, movementsOf}
+use Rattle.fire.specs.declared.Ran.{Ran}
 
 -- "Other refused calls write nothing."
 abbrev pub written : Option Refusal → List ℕ → List ℕ → List ℕ
@@ -44,6 +46,10 @@ beforeRun net movements marking = wholeNet net ▸ wholeMovements movements ▸ 
 
 unfoldable pub runOf : List ℕ → List ℕ → List ℕ → Outcome
 runOf net movements marking = goOn (beforeRun net movements marking) 0 marking (run (netOf net) (movementsOf movements) marking)
+
+-- what the caller is told of it
+abbrev pub ranOf : Outcome → Ran
+ranOf o = record { accepted = o .accepted; answer = answer (o .refusal) }
 
 -- "Certificate: net, movements, 17 for the claim, the run (6, 11 to 14), 18."
 unfoldable pub certifyRefusal : List ℕ → List ℕ → List ℕ → Option Refusal

@@ -1,17 +1,18 @@
 -- What the private functions and the shared parts of this crate speak of, beyond the calls.
 use Prim.Native.Nat.{ℕ, _+_, _≤_, _<_}
 use mathlib.Core.Path.{_≡_}
-use mathlib.Core.Bool.{false}
+use mathlib.Core.Bool.{Bool, true, false, not}
+use mathlib.Core.Logic.{_↔_}
 use mathlib.Core.List.{List}
 use mathlib.Core.Option.{Option, none}
-use lib.ListN.{length, set}
-use lib.Dec.{leb}
+use lib.ListN.{length, getD, set}
+use lib.Dec.{eqb, leb}
 use Rattle.model.specs.declared.Arc.{Arc}
 use Rattle.model.specs.declared.Mode.{Mode}
 use Rattle.model.specs.declared.Why.{Why}
 use Rattle.model.specs.declared.Thing.{Thing}
 use Rattle.model.specs.declared.Thing.the-variants.{Argument}
-use Rattle.model.specs.declared.Fault.the-variants.{MarkingOutside, MarkingAboveCapacity, NotThere}
+use Rattle.model.specs.declared.Fault.the-variants.{MarkingOutside, MarkingAboveCapacity, NotThere, NotOneEach}
 use Rattle.model.specs.declared.Refusal.{Refusal}
 use Rattle.model.specs.declared.Answer.{Answer}
 use Rattle.model.specs.First.{_▸_, onlyIf}
@@ -19,17 +20,20 @@ use Rattle.model.specs.Refusals.{answer}
 use Rattle.model.specs.Numbers.{ℕ∞, fin, above, limit}
 use Rattle.model.specs.Rows.{Entry}
 use Rattle.model.specs.Nets.{PNet, pairs, pairNo, K, count, arcNo, row}
-use Rattle.model.specs.Markings.{Marking}
-use Rattle.model.specs.Firing.{after, stops, stopped, lowestStop, rowRefusal}
+use Rattle.model.specs.Markings.{Marking, markingRefusal}
+use Rattle.model.specs.Firing.{after, stops, stopped, lowestStop, rowRefusal, modeRefusal}
+use Rattle.model.specs.Runs.{Outcome, goOn}
+use Rattle.model.proofs.PassBelow.{passBelow}
 use Rattle.sheets.specs.declared.shape.NetShape.{NetShape}
 use Rattle.sheets.specs.declared.starts.Segment.{Segment}
 use Rattle.sheets.specs.Nets.{bound}
 use Rattle.sheets.specs.Checks.{wrong}
 use Rattle.sheets.specs.Decoded.{netOf}
 use Rattle.sheets.specs.Shape.{Open, netArc}
-use Rattle.sheets.specs.Starts.{ModeArcs}
+use Rattle.sheets.specs.Starts.{StartsAre, ModeArcs}
 use Rattle.fire.specs.declared.rule.AtPair.{AtPair}
-use Rattle.fire.specs.Calls.{written}
+use Rattle.fire.specs.declared.Ran.{Ran}
+use Rattle.fire.specs.Calls.{written, ranOf}
 
 -- the count of a marking at pair p: "pair by pair 5 before 9"
 unfoldable pub countRefusal : PNet → List ℕ → ℕ → Option Refusal
@@ -101,9 +105,9 @@ stopOf thing why net m t = lowestStop thing (pairs net) (K net) (row net t) (cou
 unfoldable pub refusalOf : Thing → PNet → List ℕ → Mode → Option Refusal
 refusalOf thing net m t = rowRefusal thing (pairs net) (K net) (row net t) (count m)
 
--- none of 11 to 14 is found
-abbrev pub Accepts : PNet → List ℕ → Mode → Type 0
-Accepts net m t = (thing : Thing) → refusalOf thing net m t ≡ none
+-- a test that passes exactly when none of 11 to 14 is found
+pub record Decides (test : Bool) (net : PNet) (m : List ℕ) (t : Mode) : Type 0 where
+  pub each : (thing : Thing) → (test ≡ true) ↔ (refusalOf thing net m t ≡ none)
 
 -- a call that is refused by o, or by nothing: what it answers, and what it leaves in the marking that it found
 pub record Leaves (o : Option Refusal) (new found : List ℕ) (a : Answer) (left : List ℕ) : Type 0 where
@@ -113,3 +117,35 @@ pub record Leaves (o : Option Refusal) (new found : List ℕ) (a : Answer) (left
 -- 6: "a movement's mode is not there", of n modes
 unfoldable pub absent : Thing → ℕ → Mode → Option Refusal
 absent thing n t = onlyIf (leb n (t .0)) (wrong thing NotThere)
+
+-- the marking, then the mode, of a call that takes both
+abbrev pub argumentRefusal : PNet → List ℕ → Mode → Option Refusal
+argumentRefusal net m t = markingRefusal net m ▸ modeRefusal Argument net t m
+
+-- 17: "marking or weights not one for each pair"
+abbrev pub unequal : PNet → List ℕ → Option Refusal
+unequal net m = onlyIf (not (eqb (length m) (pairs net))) (wrong Argument (NotOneEach 0))
+
+-- the number of the k-th arc of a net, below which its counts pass; and a table of them
+unfoldable pub numberOf : PNet → ℕ → ℕ
+numberOf net k =
+    let a = arcNo (net .arcs) k in
+    passBelow (a .entry) (K net (a .pair .0))
+
+pub record NumbersAre (net : PNet) (numbers : List ℕ) : Type 0 where
+  pub each : (k : ℕ) → k < length (net .arcs) → getD numbers k 0 ≡ numberOf net k
+
+-- an open net with both tables of a run
+pub record Tables (s : List ℕ) (net : NetShape) (starts numbers : List ℕ) : Type 0 where
+  pub opened : Open s net
+  pub startsAre : StartsAre (netOf s .arcs) starts
+  pub numbersAre : NumbersAre (netOf s) numbers
+
+-- a run with this outcome: what it tells, and what it leaves in the marking
+pub record Reports (o : Outcome) (told : Ran) (left : List ℕ) : Type 0 where
+  pub tells : told ≡ ranOf o
+  pub leaves : left ≡ o .marking
+
+-- a run that is refused by o before its first movement, or has the outcome `next`
+pub record Begins (o : Option Refusal) (m : List ℕ) (next : Outcome) (told : Ran) (left : List ℕ) : Type 0 where
+  pub reports : Reports (goOn o 0 m next) told left

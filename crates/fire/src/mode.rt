@@ -20,7 +20,7 @@ ghost use Rattle.model.specs.Markings.{Marking};
 ghost use Rattle.model.specs.Firing.{fired};
 ghost use Rattle.sheets.specs.Decoded.{netOf};
 ghost use Rattle.sheets.specs.Shape.{Open};
-ghost use Rattle.fire.specs.Parts.{Free, Writable, writtenAt, AtMode, OfMode, stopAt, stopOf, refusalOf, Accepts, Leaves};
+ghost use Rattle.fire.specs.Parts.{Free, Writable, writtenAt, AtMode, OfMode, stopAt, stopOf, refusalOf, Decides, Leaves};
 
 fn arc_stop(s: &[u8], net: NetShape, k: usize, thing: Thing, why: Why, marking: &[u32]) -> Answer
     requires { ⌜ Open (now s) net ⌝ }
@@ -62,7 +62,13 @@ fn find_stop(
 }
 
 // "11 over all pairs, 12, 13, 14": each is looked for before the next.
-fn find_refusal(s: &[u8], net: NetShape, arcs: Segment, thing: Thing, marking: &[u32]) -> Answer
+pub(crate) fn find_refusal(
+    s: &[u8],
+    net: NetShape,
+    arcs: Segment,
+    thing: Thing,
+    marking: &[u32],
+) -> Answer
     requires { ⌜ AtMode (now s) net arcs (now marking) ⌝ }
     ensures { λ r. ⌜ OfMode (now (s .entry)) arcs (λ t. r ≡ answer (refusalOf thing (netOf (now (s .entry))) (now (marking .entry)) t)) ⌝ }
 {
@@ -93,7 +99,7 @@ fn arc_free(s: &[u8], net: NetShape, k: usize, marking: &[u32]) -> bool
 // One pass over the arcs, all four tests at each.
 fn arcs_free(s: &[u8], net: NetShape, arcs: Segment, marking: &[u32]) -> bool
     requires { ⌜ AtMode (now s) net arcs (now marking) ⌝ }
-    ensures { λ r. ⌜ OfMode (now (s .entry)) arcs (λ t. (r ≡ true) ↔ Accepts (netOf (now (s .entry))) (now (marking .entry)) t) ⌝ }
+    ensures { λ r. ⌜ OfMode (now (s .entry)) arcs (λ t. Decides r (netOf (now (s .entry))) (now (marking .entry)) t) ⌝ }
 {
     let start = arcs.start;
     let count = arcs.count;
@@ -160,10 +166,9 @@ pub(crate) fn fire_arcs(
     requires { ⌜ AtMode (now s) net arcs (now marking) ⌝ }
     ensures { λ r. ⌜ OfMode (now (s .entry)) arcs (λ t. Leaves (refusalOf thing (netOf (now (s .entry))) (now (marking .entry)) t) (fired (netOf (now (s .entry))) t (now (marking .entry))) (now (marking .entry)) r (now (marking .exit))) ⌝ }
 {
-    let answer = row_answer(s, net, arcs, thing, marking);
-    if let Answer::Refused(_) = answer {
-        return answer;
+    if !arcs_free(s, net, arcs, marking) {
+        return find_refusal(s, net, arcs, thing, marking);
     }
     write_arcs(s, net, arcs, marking);
-    answer
+    Answer::Accepted
 }

@@ -1,0 +1,55 @@
+-- The marking, 6, or what firing the mode's arcs gives.
+use borrow.Author.Needs.{needs}
+use Rattle.fire.proofs.ByMode.{at-mode}
+use Rattle.fire.proofs.Leaving.{leaves-stops, leaves-goes-on}
+use Rattle.fire.proofs.Opened.{mode-refusal}
+use Rattle.fire.proofs.fire_open.Statement.{statement}
+use Rattle.fire.proofs.fire_open.Tie as tie
+
+returns : tie.Need-returns
+returns c = leaves-stops _ _ (c .before .before .marking-answer .ensures) (c .enum-told .given .1)
+
+returns-2 : tie.Need-returns-2
+returns-2 c =
+    let marked = c .before .before .before in
+    let start = marked .before .before .before .before .before .before in
+    leaves-goes-on _ _ (marked .before .before .marking-answer .ensures) (marked .enum-told2 .given .1)
+    (rw (← mode-refusal (start .pre)) (leaves-stops _ _ (c .before .before .mode-answer .ensures) (c .enum-told3 .given .1)))
+
+fire-arcs-requires : tie.Need-fire-arcs-requires
+fire-arcs-requires c κs =
+    let found = c .before in
+    let marked = found .before .before .before .before in
+    let start = marked .before .before .before .before .before .before in
+    at-mode (start .pre) (marked .before .before .marking-answer .ensures) (marked .enum-told2 .given .1) _ (found .find-arcs .ensures)
+
+returns-3 : tie.Need-returns-3
+returns-3 c =
+    let fired = c .before .before in
+    let found = fired .before .before in
+    let there = found .before in
+    let marked = there .before .before .before in
+    let start = marked .before .before .before .before .before .before in
+    leaves-goes-on _ _ (marked .before .before .marking-answer .ensures) (marked .enum-told2 .given .1)
+    (rw (← mode-refusal (start .pre))
+    (leaves-goes-on _ _ (there .before .before .mode-answer .ensures) (there .enum-told4 .given .1)
+    (fired .fire-arcs .ensures _ (found .find-arcs .ensures .0))))
+
+pub fire-open-spec : {M : Type 1} → statement M
+fire-open-spec =
+    tie.close
+    (tie.spec
+    (λ c κs. search needs)
+    (λ c. search needs)
+    (λ c. search needs)
+    returns
+    (λ c. search needs)
+    (λ c κs. search needs)
+    (λ c. search needs)
+    (λ c. search needs)
+    returns-2
+    (λ c. search needs)
+    (λ c κs. search needs)
+    fire-arcs-requires
+    (λ c. search needs)
+    returns-3)
