@@ -1,0 +1,10 @@
+-- The table of refusal numbers, row by row.
+use borrow.Author.Needs.{needs}
+use Rattle.statement.proofs.refusals.line_of.Statement.{statement}
+use Rattle.statement.proofs.refusals.line_of.Tie as tie
+
+returns-14 : tie.Need-returns-14
+returns-14 c = rw (c .before .before .fault11 .given .1) (c .stop-line .ensures)
+
+pub line-of-spec : {M : Type 1} → statement M
+line-of-spec = tie.close (tie.spec (λ c. search needs) (λ c κs. search needs) (λ c. search needs) (λ c κs. search needs) (λ c. search needs) (λ c κs. search needs) (λ c. search needs) (λ c κs. search needs) (λ c. search needs) (λ c κs. search needs) (λ c. search needs) (λ c. search needs) (λ c κs. search needs) (λ c. search needs) (λ c κs. search needs) (λ c. search needs) (λ c κs. search needs) (λ c. search needs) (λ c κs. search needs) (λ c. search needs) (λ c κs. search needs) (λ c. search needs) (λ c κs. search needs) (λ c. search needs) (λ c. search needs) (λ c κs. search needs) (λ c. search needs) (λ c κs. search needs) (λ c. search needs) (λ c κs. search needs) (λ c. search needs) (λ c κs. search needs) (λ c. search needs) (λ c κs. search needs) (λ c. search needs) (λ c κs. search needs) (λ c. search needs) (λ c. search needs) (λ c κs. search needs) (λ c. search needs) (λ c. search needs) (λ c. search needs) (λ c. search needs) (λ c. search needs) (λ c. search needs) (λ c. search needs) (λ c. search needs) (λ c. search needs) (λ c. search needs) (λ c. search needs) (λ c. search needs) (λ c. search needs) returns-14 (λ c. search needs) (λ c. search needs) (λ c. search needs) (λ c. search needs))

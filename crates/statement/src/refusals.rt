@@ -1,0 +1,92 @@
+// Document 01's number, thing and position of a refusal.
+use model::Fault;
+use model::Pair;
+use model::Refusal;
+use model::Thing;
+use model::Why;
+ghost use mathlib.Core.Path.{_≡_};
+ghost use Rattle.model.specs.declared.Fault.the-variants.{Stopped};
+ghost use Rattle.model.specs.declared.Answer.the-variants.{Refused};
+ghost use Rattle.model.specs.Refusals.{line, alwaysNet, thing, thingNumber};
+
+pub struct Line {
+    pub number: u64,
+    pub position: u64,
+}
+
+fn says(number: u64, position: usize) -> Line
+    ensures { λ r. ⌜ (r .number ≡ number) × (r .position ≡ position) ⌝ }
+{
+    Line {
+        number,
+        position: position as u64,
+    }
+}
+
+// 11 to 14, at a pair.
+fn stop_line(why: Why, pair: Pair) -> Line
+    ensures { λ r. ⌜ (r .number ≡ line (Stopped why pair) .number) × (r .position ≡ line (Stopped why pair) .position) ⌝ }
+{
+    let p = pair.0 as usize;
+    match why {
+        Why::Lacking => says(11, p),
+        Why::OverCapacity => says(12, p),
+        Why::Inhibited => says(13, p),
+        Why::OverLimit => says(14, p),
+    }
+}
+
+pub(crate) fn line_of(fault: Fault) -> Line
+    ensures { λ r. ⌜ (r .number ≡ line fault .number) × (r .position ≡ line fault .position) ⌝ }
+{
+    match fault {
+        Fault::CutShort => says(1, 0),
+        Fault::WrongVersion(at) => says(2, at),
+        Fault::WrongLength(at) => says(3, at),
+        Fault::CountOutside(at) => says(4, at),
+        Fault::NumberOutside(at) => says(5, at),
+        Fault::MarkingOutside(pair) => says(5, pair.0 as usize),
+        Fault::NotThereAt(at) => says(6, at),
+        Fault::NotThere => says(6, 0),
+        Fault::NotRising(at) => says(7, at),
+        Fault::Blank(at) => says(8, at),
+        Fault::StartAboveCapacity(at) => says(9, at),
+        Fault::MarkingAboveCapacity(pair) => says(9, pair.0 as usize),
+        Fault::NoRoom => says(10, 0),
+        Fault::Stopped(why, pair) => stop_line(why, pair),
+        Fault::InhibitedUnbounded(at) => says(15, at),
+        Fault::ComplementAbove(at) => says(16, at),
+        Fault::NotOneEach(at) => says(17, at),
+        Fault::EndsElsewhere(pair) => says(18, pair.0 as usize),
+    }
+}
+
+fn thing_number(thing: Thing) -> u64
+    ensures { λ r. ⌜ r ≡ thingNumber thing ⌝ }
+{
+    match thing {
+        Thing::Net => 0,
+        Thing::Weights => 1,
+        Thing::Movements => 2,
+        Thing::Argument => 3,
+    }
+}
+
+// "0 net, also for numbers 0, 10, 15, 16 and any above 18".
+fn is_always_net(number: u64) -> bool
+    ensures { λ r. ⌜ r ≡ alwaysNet number ⌝ }
+{
+    (number == 0) | (number == 10) | (number == 15) | (number == 16) | (18 < number)
+}
+
+pub(crate) fn thing_of(refusal: Refusal) -> u64
+    ensures { λ r. ⌜ r ≡ thing (Refused refusal) ⌝ }
+{
+    let fault = refusal.fault;
+    let line = line_of(fault);
+    if is_always_net(line.number) {
+        return 0;
+    }
+    let thing = refusal.thing;
+    thing_number(thing)
+}
