@@ -16,11 +16,11 @@ use Rattle.model.specs.First.{_▸_, onlyIf}
 use Rattle.model.specs.Refusals.{answer}
 use Rattle.model.specs.Complement.{refusal15, refusal16, sheetLimits, complementRefusal}
 use Rattle.model.proofs.First.{then-assoc, right-none, only-if-none}
-use Rattle.sheets.specs.declared.shape.NetShape.{NetShape}
+use Rattle.opened.specs.declared.shape.NetShape.{NetShape}
 use Rattle.sheets.specs.Checks.{wrong}
 use Rattle.sheets.specs.Decoded.{netOf}
-use Rattle.sheets.specs.Shape.{Open, arcOffset}
-use Rattle.sheets.proofs.Puts.{from-start}
+use Rattle.opened.specs.Shape.{Open, arcOffset}
+use Rattle.written.proofs.Puts.{from-start}
 use Rattle.complement.specs.declared.Complemented.the-variants.{Length, Refused}
 use Rattle.complement.specs.declared.sheet.Sizes.{Sizes}
 use Rattle.complement.specs.Complemented.{complementSheet, tooShort, roomRefusal, complemented, output}

@@ -14,10 +14,10 @@ use Rattle.model.specs.Complement.{finite, boundedBelow, complement}
 use Rattle.model.proofs.First.{below-or}
 use Rattle.model.proofs.Bounded.{below-none, below-next, below-at-most, below-rises}
 use Rattle.model.proofs.ComplementNet.{pairs-complement}
-use Rattle.sheets.specs.declared.shape.NetShape.{NetShape}
+use Rattle.opened.specs.declared.shape.NetShape.{NetShape}
 use Rattle.sheets.specs.Decoded.{netOf}
-use Rattle.sheets.specs.Shape.{Open}
-use Rattle.sheets.proofs.Shapes.{sizes}
+use Rattle.opened.specs.Shape.{Open}
+use Rattle.opened.proofs.Shapes.{sizes}
 use Rattle.complement.specs.Bounded.{BelowAre}
 
 -- the entries 0 to p are right

@@ -11,8 +11,8 @@ use Rattle.model.specs.Nets.{NetArc}
 use Rattle.model.specs.Complement.{listIf, reserve, blank}
 use Rattle.sheets.specs.Nets.{unbounded, bound}
 use Rattle.sheets.proofs.Bounds.{bound-finite}
-use Rattle.sheets.specs.Written.{arcBytes}
-use Rattle.sheets.proofs.Sections.{section-one}
+use Rattle.written.specs.Written.{arcBytes}
+use Rattle.written.proofs.Sections.{section-one}
 use Rattle.complement.specs.Arcs.{kept, keptBytes}
 
 -- "0 where I ≥ K or unbounded"

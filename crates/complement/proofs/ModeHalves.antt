@@ -16,14 +16,14 @@ use Rattle.model.proofs.First.{below-or, lowest-or-none}
 use Rattle.model.proofs.Joined.{joined-ext, joined-split}
 use Rattle.model.proofs.Nets.{Rising}
 use Rattle.model.proofs.ArcByArc.{modeArcs, mode-by-arcs}
-use Rattle.sheets.specs.declared.shape.NetShape.{NetShape}
+use Rattle.opened.specs.declared.shape.NetShape.{NetShape}
 use Rattle.sheets.specs.Decoded.{netOf}
-use Rattle.sheets.specs.Shape.{Open}
-use Rattle.sheets.specs.Starts.{FirstFrom, ModeArcs}
-use Rattle.sheets.specs.Written.{arcBytes}
-use Rattle.sheets.proofs.Sections.{section-append, section-joined}
-use Rattle.sheets.proofs.Shapes.{sizes}
-use Rattle.sheets.proofs.Segments.{below-none, first-stops, first-ends, in-turn, mode-arcs, mode-lists}
+use Rattle.opened.specs.Shape.{Open}
+use Rattle.opened.specs.Starts.{FirstFrom, ModeArcs}
+use Rattle.written.specs.Written.{arcBytes}
+use Rattle.written.proofs.Sections.{section-append, section-joined}
+use Rattle.opened.proofs.Shapes.{sizes}
+use Rattle.opened.proofs.Segments.{below-none, first-stops, first-ends, in-turn, mode-arcs, mode-lists}
 use Rattle.complement.specs.declared.half.Half.{Half}
 use Rattle.complement.specs.declared.half.Half.the-variants.{Original, Complement}
 use Rattle.complement.specs.Arcs.{kept, halfArc, halfBytes, rowArcs, rowBytes}

@@ -11,13 +11,13 @@ use Rattle.model.specs.Complement.{joined, bounded, boundedBelow, complementPai
 use Rattle.model.proofs.Joined.{joined-ext, joined-split, joined-sparse}
 use Rattle.model.proofs.Bounded.{bounded-pair, at-complements, bounded-rises, unbounded as not-bounded}
 use Rattle.model.proofs.ComplementNet.{pairs-complement, capacity-complement, start-corresponds}
-use Rattle.sheets.specs.declared.shape.NetShape.{NetShape}
+use Rattle.opened.specs.declared.shape.NetShape.{NetShape}
 use Rattle.sheets.specs.Nets.{unbounded, bound}
 use Rattle.sheets.specs.Decoded.{netOf}
-use Rattle.sheets.specs.Shape.{Open}
-use Rattle.sheets.specs.Written.{pairBytes, pairsBytes}
+use Rattle.opened.specs.Shape.{Open}
+use Rattle.written.specs.Written.{pairBytes, pairsBytes}
 use Rattle.sheets.proofs.Bounds.{bound-unbounded}
-use Rattle.sheets.proofs.Shapes.{sizes}
+use Rattle.opened.proofs.Shapes.{sizes}
 use Rattle.complement.specs.declared.half.Half.{Half}
 use Rattle.complement.specs.declared.half.Half.the-variants.{Original, Complement}
 use Rattle.complement.specs.Pairs.{newPair, halfPair}

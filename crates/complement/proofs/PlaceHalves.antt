@@ -12,12 +12,12 @@ use Rattle.model.specs.WellFormed.{WellFormed}
 use Rattle.model.specs.Complement.{joined, boundedBelow, newPlaces, complement}
 use Rattle.model.proofs.Joined.{joined-ext}
 use Rattle.model.proofs.Bounded.{below-none, below-split}
-use Rattle.sheets.specs.declared.shape.NetShape.{NetShape}
+use Rattle.opened.specs.declared.shape.NetShape.{NetShape}
 use Rattle.sheets.specs.Decoded.{netOf}
-use Rattle.sheets.specs.Shape.{Open}
-use Rattle.sheets.specs.Written.{bytes16}
-use Rattle.sheets.proofs.Shapes.{sizes}
-use Rattle.sheets.proofs.Sections.{section-append, section-one, section-joined, section-list}
+use Rattle.opened.specs.Shape.{Open}
+use Rattle.written.specs.Written.{bytes16}
+use Rattle.opened.proofs.Shapes.{sizes}
+use Rattle.written.proofs.Sections.{section-append, section-one, section-joined, section-list}
 use Rattle.complement.specs.declared.half.Half.{Half}
 use Rattle.complement.specs.declared.half.Half.the-variants.{Original, Complement}
 use Rattle.complement.specs.Places.{firstPair, coloursIn, placeIf, halfPlace, placeBytes}

@@ -7,11 +7,11 @@ use native.Mathlib.Omega.{arith}
 use Rattle.model.specs.Complement.{joined}
 use Rattle.model.specs.Numbers.{ℕ∞}
 use Rattle.model.specs.Nets.{NetArc}
-use Rattle.sheets.specs.Written.{bytes16, headBytes, pairBytes, arcBytes}
-use Rattle.sheets.proofs.BigEndian.{length16, head-length}
-use Rattle.sheets.proofs.Records.{pair-length, arc-length}
-use Rattle.sheets.proofs.Puts.{puts, put-length, none-put, more-put}
-use Rattle.sheets.proofs.Sections.{joined-room}
+use Rattle.written.specs.Written.{bytes16, headBytes, pairBytes, arcBytes}
+use Rattle.written.proofs.BigEndian.{length16, head-length}
+use Rattle.written.proofs.Records.{pair-length, arc-length}
+use Rattle.written.proofs.Puts.{puts, put-length, none-put, more-put}
+use Rattle.written.proofs.Sections.{joined-room}
 use Rattle.complement.specs.Puts.{Room, Puts}
 
 module _ {l : List ℕ} {at : ℕ} where

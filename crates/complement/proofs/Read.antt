@@ -9,11 +9,11 @@ use Rattle.model.specs.declared.Pair.{Pair}
 use Rattle.model.specs.declared.Arc.{Arc}
 use Rattle.model.specs.Nets.{pairs, pairNo, K, arcNo}
 use Rattle.model.specs.Complement.{finite, complementPair, complementEntry, inhibitsUnbounded, tooLarge}
-use Rattle.sheets.specs.declared.shape.NetShape.{NetShape}
+use Rattle.opened.specs.declared.shape.NetShape.{NetShape}
 use Rattle.sheets.specs.Nets.{bound}
-use Rattle.sheets.specs.Decoded.{netOf}
-use Rattle.sheets.specs.Shape.{Open, netArc, ArcIs}
-use Rattle.sheets.proofs.Shapes.{sizes}
+use Rattle.sheets.specs.Decoded.{netOf, netArc}
+use Rattle.opened.specs.Shape.{Open, ArcIs}
+use Rattle.opened.proofs.Shapes.{sizes}
 use Rattle.complement.specs.declared.half.Half.the-variants.{Complement}
 use Rattle.complement.specs.Bounded.{BelowAre}
 use Rattle.complement.specs.Arcs.{Small, complementAt, halfArc}

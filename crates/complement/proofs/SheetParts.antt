@@ -6,13 +6,13 @@ use lib.ListN.{length}
 use native.Mathlib.Omega.{arith}
 use Rattle.model.specs.Nets.{PNet}
 use Rattle.model.specs.Complement.{complement}
-use Rattle.sheets.specs.declared.shape.NetShape.{NetShape}
+use Rattle.opened.specs.declared.shape.NetShape.{NetShape}
 use Rattle.sheets.specs.Decoded.{netOf}
-use Rattle.sheets.specs.Shape.{Open}
-use Rattle.sheets.specs.Puts.{sheetSize}
-use Rattle.sheets.specs.Written.{sheetOf, lengthOf}
-use Rattle.sheets.proofs.Shapes.{sizes}
-use Rattle.sheets.proofs.SheetLength.{sheet-length, sheet-size}
+use Rattle.opened.specs.Shape.{Open}
+use Rattle.written.specs.Puts.{sheetSize}
+use Rattle.written.specs.Written.{sheetOf, lengthOf}
+use Rattle.opened.proofs.Shapes.{sizes}
+use Rattle.written.proofs.SheetLength.{sheet-length, sheet-size}
 use Rattle.complement.specs.declared.sheet.Sizes.{Sizes}
 use Rattle.complement.specs.Sizes.{SizesAre, countsBytes, recordsBytes, arcsBytes}
 

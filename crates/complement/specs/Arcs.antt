@@ -15,8 +15,8 @@ use Rattle.model.specs.Complement.{joined, complementPair, original, complement
 use Rattle.sheets.specs.Nets.{bound}
 use Rattle.sheets.specs.Checks.{wrong}
 use Rattle.sheets.specs.Decoded.{netOf}
-use Rattle.sheets.specs.Shape.{arcOffset}
-use Rattle.sheets.specs.Written.{arcBytes}
+use Rattle.opened.specs.Shape.{arcOffset}
+use Rattle.written.specs.Written.{arcBytes}
 use Rattle.complement.specs.declared.half.Half.{Half}
 use Rattle.complement.specs.declared.half.Half.the-variants.{Original, Complement}
 

@@ -14,8 +14,8 @@ use Rattle.model.specs.Complement.{complement, complementRefusal}
 use Rattle.sheets.specs.Checks.{wrong}
 use Rattle.sheets.specs.Whole.{wholeNet}
 use Rattle.sheets.specs.Decoded.{netOf}
-use Rattle.sheets.specs.Shape.{arcOffset}
-use Rattle.sheets.specs.Written.{sheetOf}
+use Rattle.opened.specs.Shape.{arcOffset}
+use Rattle.written.specs.Written.{sheetOf}
 use Rattle.complement.specs.declared.Complemented.{Complemented}
 use Rattle.complement.specs.declared.Complemented.the-variants.{Length, Refused}
 

@@ -4,7 +4,7 @@ use mathlib.Core.List.{List, []}
 use Rattle.model.specs.Numbers.{ℕ∞, fin, ∞}
 use Rattle.model.specs.Nets.{PNet, K, count}
 use Rattle.model.specs.Complement.{less}
-use Rattle.sheets.specs.Written.{pairBytes}
+use Rattle.written.specs.Written.{pairBytes}
 use Rattle.complement.specs.declared.half.Half.{Half}
 use Rattle.complement.specs.declared.half.Half.the-variants.{Original, Complement}
 

@@ -5,7 +5,7 @@ use lib.Dec.{ltb}
 use lib.ListN.{take}
 use Rattle.model.specs.Nets.{PNet, total, K}
 use Rattle.model.specs.Complement.{listIf, boundedBelow}
-use Rattle.sheets.specs.Written.{bytes16}
+use Rattle.written.specs.Written.{bytes16}
 use Rattle.complement.specs.declared.half.Half.{Half}
 use Rattle.complement.specs.declared.half.Half.the-variants.{Original, Complement}
 

@@ -2,7 +2,7 @@
 use Prim.Native.Nat.{ℕ, _+_, _≤_}
 use mathlib.Core.List.{List}
 use lib.ListN.{length}
-use Rattle.sheets.specs.Puts.{Put}
+use Rattle.written.specs.Puts.{Put}
 
 -- there is room for these bytes
 pub record Room (out : List ℕ) (at : ℕ) (bytes : List ℕ) : Type 0 where

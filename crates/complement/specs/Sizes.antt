@@ -15,8 +15,8 @@ use Rattle.model.specs.First.{_▸_, onlyIf}
 use Rattle.model.specs.Nets.{PNet, pairs}
 use Rattle.model.specs.Complement.{complement}
 use Rattle.sheets.specs.Checks.{wrong}
-use Rattle.sheets.specs.Puts.{sheetSize}
-use Rattle.sheets.specs.Written.{bytes16, arcBytes, headBytes, pairsBytes, lengthOf}
+use Rattle.written.specs.Puts.{sheetSize}
+use Rattle.written.specs.Written.{bytes16, arcBytes, headBytes, pairsBytes, lengthOf}
 use Rattle.complement.specs.declared.sheet.Sizes.{Sizes}
 
 pub record SizesAre (net : PNet) (sizes : Sizes) : Type 0 where

@@ -1,8 +1,8 @@
 // Pairs of finite K: how many stand below each pair. It numbers the complement pairs and says how many a place has.
 use model::Pair;
-use sheets::finite::is_finite;
-use sheets::shape::NetShape;
-use sheets::shape::capacity;
+use opened::finite::is_finite;
+use opened::shape::NetShape;
+use opened::shape::capacity;
 ghost use mathlib.Core.Path.{_≡_};
 ghost use mathlib.Core.Bool.{cond};
 ghost use Prim.Native.Nat.{_+_, _-_, _<_, _≤_};
@@ -10,7 +10,7 @@ ghost use lib.ListN.{getD};
 ghost use Rattle.model.specs.Nets.{K};
 ghost use Rattle.model.specs.Complement.{finite};
 ghost use Rattle.sheets.specs.Decoded.{netOf};
-ghost use Rattle.sheets.specs.Shape.{Open};
+ghost use Rattle.opened.specs.Shape.{Open};
 ghost use Rattle.complement.specs.Bounded.{BelowAre};
 
 fn one_if_bounded(s: &[u8], net: NetShape, p: usize) -> u16

@@ -1,12 +1,12 @@
 // One arc of the complement: what an arc leaves at its own pair, and what it puts at the complement pair.
 use model::Arc;
 use model::Pair;
-use sheets::finite::is_finite;
+use opened::finite::is_finite;
 ghost use mathlib.Core.Path.{_≡_};
 ghost use Prim.Native.Nat.{max};
 ghost use Rattle.model.specs.Complement.{reserve, blank, tooLarge};
 ghost use Rattle.sheets.specs.Nets.{bound};
-ghost use Rattle.sheets.specs.Shape.{netArc};
+ghost use Rattle.sheets.specs.Decoded.{netArc};
 ghost use Rattle.complement.specs.Arcs.{Small, originalOf, complementAt};
 
 // "K less I, or 0 where I ≥ K or unbounded": the number that means unbounded is the largest of 32 bits.

@@ -16,12 +16,12 @@ use crate::sheet::complement_sizes;
 use crate::sheet::put_sheet;
 use model::Answer;
 use model::Refusal;
-use sheets::opened::Opened;
-use sheets::opened::open_net;
-use sheets::shape::NetShape;
+use opened::Opened;
+use opened::open_net;
+use opened::shape::NetShape;
 ghost use mathlib.Core.Path.{_≡_};
 ghost use lib.ListN.{length};
-ghost use Rattle.sheets.specs.Shape.{Open};
+ghost use Rattle.opened.specs.Shape.{Open};
 ghost use Rattle.complement.specs.Complemented.{complementSheet, roomRefusal, complemented, output, complementOf, outputOf};
 
 // How many bytes were written, or why none.

@@ -1,17 +1,17 @@
 // The pairs of the complement: all K unbounded, the originals with their first marking, each complement pair with K less the original's.
 use crate::half::Half;
 use model::Pair;
-use sheets::finite::is_finite;
-use sheets::shape::NetShape;
-use sheets::shape::capacity;
-use sheets::shape::start_count;
-use sheets::write::put_pair;
+use opened::finite::is_finite;
+use opened::shape::NetShape;
+use opened::shape::capacity;
+use opened::shape::start_count;
+use written::put_pair;
 ghost use Prim.Native.Nat.{_<_};
 ghost use Rattle.model.specs.Complement.{joined, complement};
 ghost use Rattle.model.specs.Nets.{K, count};
 ghost use Rattle.sheets.specs.Decoded.{netOf};
-ghost use Rattle.sheets.specs.Shape.{Open};
-ghost use Rattle.sheets.specs.Written.{pairsBytes};
+ghost use Rattle.opened.specs.Shape.{Open};
+ghost use Rattle.written.specs.Written.{pairsBytes};
 ghost use Rattle.complement.specs.Pairs.{newPair, halfPair};
 ghost use Rattle.complement.specs.Puts.{Room, Puts};
 

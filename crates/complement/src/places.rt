@@ -1,10 +1,10 @@
 // The places of the complement, and the modes of its transitions, which are the net's.
 use crate::bounded::bounded_between;
 use crate::half::Half;
-use sheets::shape::NetShape;
-use sheets::shape::colours_of;
-use sheets::shape::modes_of;
-use sheets::write::put_count;
+use opened::shape::NetShape;
+use opened::shape::colours_of;
+use opened::shape::modes_of;
+use written::put_count;
 ghost use mathlib.Core.Path.{_≡_};
 ghost use mathlib.Core.List.{flatMap};
 ghost use Prim.Native.Nat.{_<_, _≤_};
@@ -12,8 +12,8 @@ ghost use lib.ListN.{length};
 ghost use Rattle.model.specs.Nets.{pairs};
 ghost use Rattle.model.specs.Complement.{joined, complement};
 ghost use Rattle.sheets.specs.Decoded.{netOf};
-ghost use Rattle.sheets.specs.Shape.{Open};
-ghost use Rattle.sheets.specs.Written.{bytes16};
+ghost use Rattle.opened.specs.Shape.{Open};
+ghost use Rattle.written.specs.Written.{bytes16};
 ghost use Rattle.complement.specs.declared.half.Half.the-variants.{Complement};
 ghost use Rattle.complement.specs.Bounded.{BelowAre};
 ghost use Rattle.complement.specs.Places.{coloursIn, placeIf, halfPlace, placeBytes};

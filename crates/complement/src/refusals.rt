@@ -4,18 +4,18 @@ use crate::entry::too_large;
 use model::Answer;
 use model::Fault;
 use model::Thing;
-use sheets::finite::is_finite;
+use opened::finite::is_finite;
+use opened::shape::NetShape;
+use opened::shape::arc;
+use opened::shape::arc_offset;
+use opened::shape::capacity;
 use sheets::head::refused;
-use sheets::shape::NetShape;
-use sheets::shape::arc;
-use sheets::shape::arc_offset;
-use sheets::shape::capacity;
 ghost use mathlib.Core.Path.{_≡_};
 ghost use Prim.Native.Nat.{_<_};
 ghost use Rattle.model.specs.Refusals.{answer};
 ghost use Rattle.model.specs.Complement.{refusal15, refusal16};
 ghost use Rattle.sheets.specs.Decoded.{netOf};
-ghost use Rattle.sheets.specs.Shape.{Open, arcOffset};
+ghost use Rattle.opened.specs.Shape.{Open, arcOffset};
 ghost use Rattle.complement.specs.Arcs.{refusal15At, refusal16At};
 
 fn inhibitor_answer(s: &[u8], net: NetShape, k: usize) -> Answer

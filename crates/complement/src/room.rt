@@ -5,15 +5,15 @@ use crate::sheet::Sizes;
 use model::Answer;
 use model::Fault;
 use model::Thing;
+use opened::shape::NetShape;
 use sheets::head::refused;
-use sheets::shape::NetShape;
-use sheets::write::sheet_size;
+use written::sheet_size;
 ghost use mathlib.Core.Path.{_≡_};
 ghost use Prim.Native.Nat.{_≤_};
 ghost use lib.Dec.{ltb};
 ghost use Rattle.model.specs.Refusals.{answer};
 ghost use Rattle.sheets.specs.Decoded.{netOf};
-ghost use Rattle.sheets.specs.Shape.{Open};
+ghost use Rattle.opened.specs.Shape.{Open};
 ghost use Rattle.complement.specs.Complemented.{roomRefusal};
 ghost use Rattle.complement.specs.Sizes.{SizesAre, Few, inLimits, sizesRefusal, firstOf};
 

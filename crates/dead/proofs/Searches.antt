@@ -10,12 +10,12 @@ use Rattle.model.specs.declared.Mode.{Mode}
 use Rattle.model.specs.Nets.{modeNo, K, arcNo}
 use Rattle.model.specs.Dead.{kills, deadPair, firstDead}
 use Rattle.model.proofs.Dead.{arcKills, Passed, arcs-alive, arcs-dead, Alive, all-alive, dead-first}
-use Rattle.sheets.specs.declared.shape.NetShape.{NetShape}
-use Rattle.sheets.specs.Decoded.{netOf}
-use Rattle.sheets.specs.Shape.{Open, netArc, ArcIs}
-use Rattle.sheets.specs.Starts.{ModeArcs}
-use Rattle.sheets.proofs.Shapes.{sizes}
-use Rattle.sheets.proofs.Segments.{mode-lists}
+use Rattle.opened.specs.declared.shape.NetShape.{NetShape}
+use Rattle.sheets.specs.Decoded.{netOf, netArc}
+use Rattle.opened.specs.Shape.{Open, ArcIs}
+use Rattle.opened.specs.Starts.{ModeArcs}
+use Rattle.opened.proofs.Shapes.{sizes}
+use Rattle.opened.proofs.Segments.{mode-lists}
 use Rattle.dead.specs.declared.FirstDead.the-variants.{At, None}
 use Rattle.dead.specs.FirstDead.{named}
 

@@ -9,7 +9,7 @@ use Rattle.model.specs.declared.Arc.{Arc}
 use Rattle.model.specs.Numbers.{ℕ∞, fin, ∞, above, limit}
 use Rattle.model.proofs.PassBelow.{least, room, passBelow}
 use Rattle.sheets.specs.Nets.{unbounded, bound}
-use Rattle.sheets.specs.Shape.{netArc}
+use Rattle.sheets.specs.Decoded.{netArc}
 use Rattle.sheets.proofs.Bounds.{bound-unbounded, bound-finite}
 use Rattle.fire.specs.Parts.{InRange}
 

@@ -21,13 +21,13 @@ use Rattle.model.proofs.First.{then-assoc}
 use Rattle.model.proofs.Markings.{marking-test}
 use Rattle.model.proofs.Refusals.{answer-none}
 use Rattle.model.proofs.ByArcs.{Listing, arcs-stop, arcs-accept, writeArcs, write-next, write-length, write-keeps, fired-by-arcs}
-use Rattle.sheets.specs.declared.shape.NetShape.{NetShape}
-use Rattle.sheets.specs.declared.starts.Segment.{Segment}
+use Rattle.opened.specs.declared.shape.NetShape.{NetShape}
+use Rattle.opened.specs.declared.starts.Segment.{Segment}
 use Rattle.sheets.specs.Decoded.{netOf}
-use Rattle.sheets.specs.Shape.{Open}
-use Rattle.sheets.specs.Starts.{ModeArcs}
-use Rattle.sheets.proofs.Shapes.{sizes}
-use Rattle.sheets.proofs.Segments.{mode-lists}
+use Rattle.opened.specs.Shape.{Open}
+use Rattle.opened.specs.Starts.{ModeArcs}
+use Rattle.opened.proofs.Shapes.{sizes}
+use Rattle.opened.proofs.Segments.{mode-lists}
 use Rattle.fire.specs.Parts.{Free, Writable, writtenAt, AtMode, stopAt, stopOf, refusalOf, Decides, Leaves}
 use Rattle.fire.proofs.FourTests.{clash}
 use Rattle.fire.proofs.Leaving.{leaves-some, leaves-written}

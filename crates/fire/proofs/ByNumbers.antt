@@ -10,10 +10,10 @@ use borrow.Author.Tests.{ltb-true, lt-ltb}
 use Rattle.model.specs.declared.Arc.{Arc}
 use Rattle.model.specs.Nets.{NetArc, PNet, K}
 use Rattle.model.proofs.PassBelow.{passBelow, pass-is}
-use Rattle.sheets.specs.declared.shape.NetShape.{NetShape}
+use Rattle.opened.specs.declared.shape.NetShape.{NetShape}
 use Rattle.sheets.specs.Nets.{bound}
-use Rattle.sheets.specs.Decoded.{netOf}
-use Rattle.sheets.specs.Shape.{netArc, ArcIs}
+use Rattle.sheets.specs.Decoded.{netOf, netArc}
+use Rattle.opened.specs.Shape.{ArcIs}
 use Rattle.fire.specs.declared.rule.AtPair.{AtPair}
 use Rattle.fire.specs.Parts.{Unstopped, Meets, Free, numberOf}
 use Rattle.fire.proofs.FourTests.{clash}

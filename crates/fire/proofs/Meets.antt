@@ -18,7 +18,7 @@ use Rattle.model.specs.Nets.{NetArc, PNet, K, count, arcNo}
 use Rattle.model.specs.Firing.{after, stops}
 use Rattle.sheets.specs.Nets.{bound}
 use Rattle.sheets.specs.Checks.{wrong}
-use Rattle.sheets.specs.Shape.{netArc}
+use Rattle.sheets.specs.Decoded.{netArc}
 use Rattle.fire.specs.declared.rule.AtPair.{AtPair}
 use Rattle.fire.specs.Parts.{Meets, Unstopped, Free, writtenAt, stopAt}
 

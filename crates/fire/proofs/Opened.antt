@@ -15,10 +15,10 @@ use Rattle.model.specs.Nets.{pairs}
 use Rattle.model.specs.Firing.{modeRefusal}
 use Rattle.model.proofs.First.{only-if-none}
 use Rattle.model.proofs.Refusals.{answer-none}
-use Rattle.sheets.specs.declared.shape.NetShape.{NetShape}
+use Rattle.opened.specs.declared.shape.NetShape.{NetShape}
 use Rattle.sheets.specs.Decoded.{netOf}
-use Rattle.sheets.specs.Shape.{Open}
-use Rattle.sheets.proofs.Shapes.{sizes}
+use Rattle.opened.specs.Shape.{Open}
+use Rattle.opened.proofs.Shapes.{sizes}
 use Rattle.fire.specs.Parts.{refusalOf, absent}
 
 module _ {s : List ℕ} {net : NetShape} (o : Open s net) where

@@ -9,13 +9,13 @@ use Rattle.model.specs.declared.Answer.the-variants as answers
 use Rattle.model.specs.First.{_▸_}
 use Rattle.model.specs.Refusals.{answer}
 use Rattle.model.proofs.First.{none-then, some-then}
-use Rattle.sheets.specs.declared.shape.NetShape.{NetShape}
-use Rattle.sheets.specs.declared.opened.Opened.{Opened}
-use Rattle.sheets.specs.declared.opened.Opened.the-variants.{Open, Refused}
+use Rattle.opened.specs.declared.shape.NetShape.{NetShape}
+use Rattle.opened.specs.declared.Opened.{Opened}
+use Rattle.opened.specs.declared.Opened.the-variants.{Open, Refused}
 use Rattle.sheets.specs.Whole.{wholeNet}
-use Rattle.sheets.specs.Shape.{shapeOf}
-use Rattle.sheets.specs.Opened.{opened}
-use Rattle.sheets.proofs.Opening.{opened-refused, opened-shape}
+use Rattle.opened.specs.Shape.{shapeOf}
+use Rattle.opened.specs.Opened.{opened}
+use Rattle.opened.proofs.Opening.{opened-refused, opened-shape}
 use Rattle.fire.specs.Parts.{Leaves}
 use Rattle.fire.proofs.Leaving.{leaves-refused, leaves-after}
 

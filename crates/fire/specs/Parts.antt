@@ -24,13 +24,13 @@ use Rattle.model.specs.Markings.{Marking, markingRefusal}
 use Rattle.model.specs.Firing.{after, stops, stopped, lowestStop, rowRefusal, modeRefusal}
 use Rattle.model.specs.Runs.{Outcome, goOn, run}
 use Rattle.model.proofs.PassBelow.{passBelow}
-use Rattle.sheets.specs.declared.shape.NetShape.{NetShape}
-use Rattle.sheets.specs.declared.starts.Segment.{Segment}
+use Rattle.opened.specs.declared.shape.NetShape.{NetShape}
+use Rattle.opened.specs.declared.starts.Segment.{Segment}
 use Rattle.sheets.specs.Nets.{bound}
 use Rattle.sheets.specs.Checks.{wrong}
-use Rattle.sheets.specs.Decoded.{netOf}
-use Rattle.sheets.specs.Shape.{Open, netArc}
-use Rattle.sheets.specs.Starts.{StartsAre, ModeArcs}
+use Rattle.sheets.specs.Decoded.{netOf, netArc}
+use Rattle.opened.specs.Shape.{Open}
+use Rattle.opened.specs.Starts.{StartsAre, ModeArcs}
 use Rattle.fire.specs.declared.rule.AtPair.{AtPair}
 use Rattle.fire.specs.declared.Ran.{Ran}
 use Rattle.fire.specs.Calls.{written, ranOf}

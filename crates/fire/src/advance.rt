@@ -4,16 +4,16 @@ use model::Answer;
 use model::Fault;
 use model::Mode;
 use model::Thing;
+use opened::shape::NetShape;
+use opened::starts::arcs_of;
 use sheets::head::refused;
-use sheets::shape::NetShape;
-use sheets::starts::arcs_of;
 ghost use mathlib.Core.Path.{_≡_};
 ghost use Rattle.model.specs.Refusals.{answer};
 ghost use Rattle.model.specs.Markings.{Marking};
 ghost use Rattle.model.specs.Firing.{modeRefusal, fired};
 ghost use Rattle.sheets.specs.Decoded.{netOf};
-ghost use Rattle.sheets.specs.Shape.{Open};
-ghost use Rattle.sheets.specs.Starts.{StartsAre};
+ghost use Rattle.opened.specs.Shape.{Open};
+ghost use Rattle.opened.specs.Starts.{StartsAre};
 ghost use Rattle.fire.specs.Parts.{absent, Leaves};
 
 // 6: "a movement's mode is not there".

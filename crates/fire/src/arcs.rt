@@ -1,12 +1,12 @@
 // One arc of an open net at a marking: what it meets there, which test stops its mode, and the count that it writes.
 use crate::rule::AtPair;
-use sheets::shape::NetShape;
-use sheets::shape::arc;
-use sheets::shape::capacity;
+use opened::shape::NetShape;
+use opened::shape::arc;
+use opened::shape::capacity;
 ghost use Prim.Native.Nat.{_<_};
 ghost use Rattle.model.specs.Markings.{Marking};
 ghost use Rattle.sheets.specs.Decoded.{netOf};
-ghost use Rattle.sheets.specs.Shape.{Open};
+ghost use Rattle.opened.specs.Shape.{Open};
 ghost use Rattle.fire.specs.Parts.{Meets};
 
 pub(crate) fn meet(s: &[u8], net: NetShape, k: usize, marking: &[u32]) -> AtPair

@@ -5,18 +5,18 @@ use model::Answer;
 use model::Fault;
 use model::Pair;
 use model::Thing;
+use opened::shape::NetShape;
 use sheets::head::refused;
-use sheets::shape::NetShape;
 ghost use mathlib.Core.Path.{_≡_};
 ghost use mathlib.Core.Option.{none};
 ghost use Prim.Native.Nat.{_<_, _≤_};
 ghost use lib.ListN.{length};
-ghost use Rattle.model.specs.First.{_▸_, first};
+ghost use Rattle.model.specs.First.{first};
 ghost use Rattle.model.specs.Refusals.{answer};
 ghost use Rattle.model.specs.Runs.{run, certificateRefusal};
 ghost use Rattle.sheets.specs.Movements.{movementsRefusal};
 ghost use Rattle.sheets.specs.Decoded.{netOf, movementsOf};
-ghost use Rattle.sheets.specs.Shape.{Open};
+ghost use Rattle.opened.specs.Shape.{Open};
 ghost use Rattle.fire.specs.Parts.{elsewhere, endsAt};
 
 fn pair_answer(last: &[u32], claim: &[u32], p: usize) -> Answer

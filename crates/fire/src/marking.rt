@@ -3,10 +3,10 @@ use model::Answer;
 use model::Fault;
 use model::Pair;
 use model::Thing;
+use opened::shape::NetShape;
+use opened::shape::capacity;
 use sheets::head::refused;
 use sheets::numbers::above_bound;
-use sheets::shape::NetShape;
-use sheets::shape::capacity;
 ghost use mathlib.Core.Path.{_≡_};
 ghost use Prim.Native.Nat.{_<_};
 ghost use lib.ListN.{length};
@@ -14,7 +14,7 @@ ghost use Rattle.model.specs.First.{first};
 ghost use Rattle.model.specs.Refusals.{answer};
 ghost use Rattle.model.specs.Markings.{markingRefusal};
 ghost use Rattle.sheets.specs.Decoded.{netOf};
-ghost use Rattle.sheets.specs.Shape.{Open};
+ghost use Rattle.opened.specs.Shape.{Open};
 ghost use Rattle.fire.specs.Parts.{countRefusal};
 
 fn count_answer(s: &[u8], net: NetShape, p: usize, marking: &[u32]) -> Answer

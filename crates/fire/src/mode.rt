@@ -7,10 +7,10 @@ use model::Answer;
 use model::Fault;
 use model::Thing;
 use model::Why;
+use opened::shape::NetShape;
+use opened::shape::arc;
+use opened::starts::Segment;
 use sheets::head::refused;
-use sheets::shape::NetShape;
-use sheets::shape::arc;
-use sheets::starts::Segment;
 ghost use mathlib.Core.Path.{_≡_};
 ghost use mathlib.Core.Bool.{true};
 ghost use mathlib.Core.Logic.{_↔_};
@@ -19,7 +19,7 @@ ghost use Rattle.model.specs.Refusals.{answer};
 ghost use Rattle.model.specs.Markings.{Marking};
 ghost use Rattle.model.specs.Firing.{fired};
 ghost use Rattle.sheets.specs.Decoded.{netOf};
-ghost use Rattle.sheets.specs.Shape.{Open};
+ghost use Rattle.opened.specs.Shape.{Open};
 ghost use Rattle.fire.specs.Parts.{Free, Writable, writtenAt, AtMode, OfMode, stopAt, stopOf, refusalOf, Decides, Leaves};
 
 fn arc_stop(s: &[u8], net: NetShape, k: usize, thing: Thing, why: Why, marking: &[u32]) -> Answer

@@ -5,10 +5,10 @@ use crate::mode::write_arcs;
 use crate::rule::pass_below;
 use model::Answer;
 use model::Thing;
-use sheets::shape::NetShape;
-use sheets::shape::arc;
-use sheets::shape::capacity;
-use sheets::starts::Segment;
+use opened::shape::NetShape;
+use opened::shape::arc;
+use opened::shape::capacity;
+use opened::starts::Segment;
 ghost use mathlib.Core.Path.{_≡_};
 ghost use mathlib.Core.Bool.{true};
 ghost use mathlib.Core.Logic.{_↔_};
@@ -17,7 +17,7 @@ ghost use Rattle.model.specs.declared.Thing.the-variants.{Movements};
 ghost use Rattle.model.specs.Markings.{Marking};
 ghost use Rattle.model.specs.Firing.{fired};
 ghost use Rattle.sheets.specs.Decoded.{netOf};
-ghost use Rattle.sheets.specs.Shape.{Open};
+ghost use Rattle.opened.specs.Shape.{Open};
 ghost use Rattle.fire.specs.Parts.{numberOf, NumbersAre, Free, AtMode, OfMode, refusalOf, Decides, Leaves};
 
 fn arc_number(s: &[u8], net: NetShape, k: usize) -> u32

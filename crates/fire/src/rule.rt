@@ -10,7 +10,7 @@ ghost use Rattle.model.specs.Numbers.{limit};
 ghost use Rattle.model.specs.Firing.{after, stops};
 ghost use Rattle.model.proofs.PassBelow.{passBelow};
 ghost use Rattle.sheets.specs.Nets.{bound};
-ghost use Rattle.sheets.specs.Shape.{netArc};
+ghost use Rattle.sheets.specs.Decoded.{netArc};
 ghost use Rattle.fire.specs.Parts.{InRange, Counted, Unstopped};
 
 // An arc, K of its pair as the sheet writes it, and the count there.

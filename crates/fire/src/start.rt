@@ -1,11 +1,11 @@
 // The net's first marking, written into a slice of one count for each pair.
 use model::Pair;
-use sheets::shape::NetShape;
-use sheets::shape::start_count;
+use opened::shape::NetShape;
+use opened::shape::start_count;
 ghost use mathlib.Core.Path.{_≡_};
 ghost use lib.ListN.{length};
 ghost use Rattle.sheets.specs.Decoded.{netOf};
-ghost use Rattle.sheets.specs.Shape.{Open};
+ghost use Rattle.opened.specs.Shape.{Open};
 
 pub(crate) fn write_start(s: &[u8], net: NetShape, marking: &mut [u32])
     requires { ⌜ Open (now s) net ⌝ }

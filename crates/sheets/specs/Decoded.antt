@@ -2,6 +2,7 @@
 use Prim.Native.Nat.{ℕ}
 use mathlib.Core.List.{List}
 use lib.IntN.{ℤ}
+use Rattle.model.specs.declared.Arc.{Arc}
 use Rattle.model.specs.declared.Mode.{Mode}
 use Rattle.model.specs.Firing.{table}
 use Rattle.model.specs.Nets.{NetArc, PNet, pairNo, modeNo}
@@ -34,3 +35,8 @@ weightsOf s = table (weightCount s) (λ p. signed (u32At s (weightAt p)))
 
 unfoldable pub movementsOf : List ℕ → List Mode
 movementsOf s = table (movementCount s) (λ k. modeNo (u16At s (movementAt k)))
+
+-- the arc of a net that an arc as a sheet writes it stands for
+abbrev pub netArc : Arc → NetArc
+netArc a =
+    record { mode = a .mode; pair = a .pair; entry = record { pre = a .pre; post = a .post; inhibitor = bound (a .inhibitor) } }

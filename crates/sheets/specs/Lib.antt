@@ -8,11 +8,5 @@ pub mod Whole
 pub mod Decoded
 pub mod Held
 pub mod Accepted
-pub mod Shape
-pub mod Written
-pub mod Promises
 pub mod RefusalTables
-pub mod Puts
-pub mod Opened
-pub mod Starts
 pub mod Listed

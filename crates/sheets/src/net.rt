@@ -13,14 +13,14 @@ ghost use Rattle.sheets.specs.Layout.{pairCount, modeCount, pairsAt};
 ghost use Rattle.sheets.specs.Held.{Headed, Counted};
 ghost use Rattle.sheets.specs.Nets.{pairAndArcFields, netFields, netRefusal};
 
-pub(crate) fn pair_count(s: &[u8]) -> usize
+pub fn pair_count(s: &[u8]) -> usize
     requires { ⌜ Counted (now s) ⌝ }
     ensures { λ r. ⌜ r ≡ pairCount (now (s .entry)) ⌝ }
 {
     total_of(s, 9, count_at(s, 5))
 }
 
-pub(crate) fn mode_count(s: &[u8]) -> usize
+pub fn mode_count(s: &[u8]) -> usize
     requires { ⌜ Counted (now s) ⌝ }
     ensures { λ r. ⌜ r ≡ modeCount (now (s .entry)) ⌝ }
 {
@@ -28,7 +28,7 @@ pub(crate) fn mode_count(s: &[u8]) -> usize
 }
 
 // Where the pairs stand.
-pub(crate) fn pairs_at(s: &[u8]) -> usize
+pub fn pairs_at(s: &[u8]) -> usize
     requires { ⌜ Counted (now s) ⌝ }
     ensures { λ r. ⌜ r ≡ pairsAt (now (s .entry)) ⌝ }
 {

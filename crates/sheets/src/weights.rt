@@ -9,15 +9,12 @@ use model::Answer;
 use model::Fault;
 use model::Thing;
 ghost use mathlib.Core.Path.{_≡_};
-ghost use mathlib.Core.Option.{none};
-ghost use Prim.Native.Nat.{_+_, _*_, _<_, _≤_};
+ghost use Prim.Native.Nat.{_+_, _*_, _<_};
 ghost use lib.Dec.{ltb};
 ghost use lib.IntN.{natAbs};
-ghost use lib.ListN.{length};
 ghost use Rattle.model.specs.First.{first};
 ghost use Rattle.model.specs.Refusals.{answer};
-ghost use Rattle.sheets.specs.Bytes.{u32At};
-ghost use Rattle.sheets.specs.Layout.{weightCount, weightAt};
+ghost use Rattle.sheets.specs.Layout.{weightAt};
 ghost use Rattle.sheets.specs.Held.{Headed};
 ghost use Rattle.sheets.specs.Weights.{signed, weightRefusal, weightFields, weightsRefusal};
 

@@ -16,12 +16,12 @@ use Rattle.model.specs.Refusals.{answer}
 use Rattle.model.specs.Nets.{pairs}
 use Rattle.model.proofs.First.{left-none, none-then, some-then}
 use Rattle.model.proofs.Refusals.{answer-none, answer-refused}
-use Rattle.sheets.specs.declared.shape.NetShape.{NetShape}
+use Rattle.opened.specs.declared.shape.NetShape.{NetShape}
 use Rattle.sheets.specs.Weights.{weightsRefusal}
 use Rattle.sheets.specs.Whole.{wholeWeights}
 use Rattle.sheets.specs.Decoded.{netOf}
-use Rattle.sheets.specs.Shape.{Open}
-use Rattle.sheets.proofs.Shapes.{sizes}
+use Rattle.opened.specs.Shape.{Open}
+use Rattle.opened.proofs.Shapes.{sizes}
 use Rattle.weigh.specs.declared.Figured.{Figured}
 use Rattle.weigh.specs.declared.Figured.the-variants.{Is, Refused}
 use Rattle.weigh.specs.Calls.{figured}

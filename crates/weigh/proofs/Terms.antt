@@ -15,14 +15,14 @@ use Rattle.model.specs.Markings.{Marking}
 use Rattle.model.specs.Figures.{sum, weight, change}
 use Rattle.model.proofs.Integers.{size-add}
 use Rattle.model.proofs.Figures.{sum-more, size-sum, gain, change-by-arcs}
-use Rattle.sheets.specs.declared.shape.NetShape.{NetShape}
+use Rattle.opened.specs.declared.shape.NetShape.{NetShape}
 use Rattle.sheets.specs.Weights.{weightsRefusal}
 use Rattle.sheets.specs.Decoded.{netOf, weightsOf}
-use Rattle.sheets.specs.Shape.{Open}
-use Rattle.sheets.specs.Starts.{ModeArcs}
-use Rattle.sheets.proofs.Segments.{mode-lists}
+use Rattle.opened.specs.Shape.{Open}
+use Rattle.opened.specs.Starts.{ModeArcs}
+use Rattle.opened.proofs.Segments.{mode-lists}
 use Rattle.sheets.proofs.Lists.{weights-within}
-use Rattle.sheets.proofs.Shapes.{sizes}
+use Rattle.opened.proofs.Shapes.{sizes}
 use Rattle.weigh.proofs.Sizes.{fits-size, size-product, size-difference}
 
 -- at most 2,048 terms, each a weight times a number within 1,000,000

@@ -10,10 +10,10 @@ use model::Fault;
 use model::Mode;
 use model::Refusal;
 use model::Thing;
-use sheets::opened::Opened;
-use sheets::opened::open_net;
-use sheets::shape::NetShape;
-use sheets::starts::find_arcs;
+use opened::Opened;
+use opened::open_net;
+use opened::shape::NetShape;
+use opened::starts::find_arcs;
 use sheets::whole::whole_weights;
 ghost use mathlib.Core.Path.{_≡_};
 ghost use Rattle.model.specs.declared.Thing.the-variants.{Argument};
@@ -24,7 +24,7 @@ ghost use Rattle.model.specs.Firing.{absent};
 ghost use Rattle.model.specs.Figures.{figure as figureAt, change as changeBy};
 ghost use Rattle.sheets.specs.Whole.{wholeWeights};
 ghost use Rattle.sheets.specs.Decoded.{netOf, weightsOf};
-ghost use Rattle.sheets.specs.Shape.{Open};
+ghost use Rattle.opened.specs.Shape.{Open};
 ghost use Rattle.weigh.specs.Calls.{figured, figureOf, changeOf};
 
 // A figure or a change in kilograms, or why there is none.

@@ -1,11 +1,11 @@
 // Exact sums over an open net and weights that were accepted for its pairs: the figure of a marking, and a mode's weight change.
 use model::Mode;
 use model::Pair;
-use sheets::listed::weight;
-use sheets::shape::NetShape;
-use sheets::shape::arc;
-use sheets::starts::Segment;
-use sheets::starts::arcs_of;
+use opened::listed::weight;
+use opened::shape::NetShape;
+use opened::shape::arc;
+use opened::starts::Segment;
+use opened::starts::arcs_of;
 ghost use mathlib.Core.Path.{_≡_};
 ghost use mathlib.Core.Option.{none};
 ghost use Prim.Native.Nat.{_+_, _≤_, _<_};
@@ -16,8 +16,8 @@ ghost use Rattle.model.specs.Figures.{sum as sumTo, weight as weightOf, figure,
 ghost use Rattle.model.proofs.Figures.{gain as arcGain};
 ghost use Rattle.sheets.specs.Weights.{weightsRefusal};
 ghost use Rattle.sheets.specs.Decoded.{netOf, weightsOf};
-ghost use Rattle.sheets.specs.Shape.{Open};
-ghost use Rattle.sheets.specs.Starts.{StartsAre};
+ghost use Rattle.opened.specs.Shape.{Open};
+ghost use Rattle.opened.specs.Starts.{StartsAre};
 
 // "weight times (Post less Pre)", exact: 2^31 times less than 2^32 is less than 2^63.
 fn gain(weight: i32, pre: u32, post: u32) -> i64

@@ -2,7 +2,7 @@
 use borrow.Author.Needs.{needs}
 use mathlib.Core.Path.{refl}
 use Rattle.model.proofs.First.{none-then, some-then}
-use Rattle.sheets.proofs.Opening.{opened-refused, opened-shape, opens}
+use Rattle.opened.proofs.Opening.{opened-refused, opened-shape, opens}
 use Rattle.complement.specs.Complemented.{complementingRefusal}
 use Rattle.complement.proofs.Answers.{refused}
 use Rattle.complement.proofs.complement.Statement.{statement}

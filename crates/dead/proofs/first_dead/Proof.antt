@@ -1,6 +1,6 @@
 -- The net's refusals, then the search.
 use borrow.Author.Needs.{needs}
-use Rattle.sheets.proofs.Opening.{opened-refused, opened-shape, opens}
+use Rattle.opened.proofs.Opening.{opened-refused, opened-shape, opens}
 use Rattle.dead.proofs.first_dead.Statement.{statement}
 use Rattle.dead.proofs.first_dead.Tie as tie
 

@@ -2,7 +2,7 @@
 use borrow.Author.Needs.{needs}
 use mathlib.Core.Path.{refl}
 use Rattle.model.proofs.First.{none-then, some-then}
-use Rattle.sheets.proofs.Opening.{opened-refused, opened-shape, opens}
+use Rattle.opened.proofs.Opening.{opened-refused, opened-shape, opens}
 use Rattle.dead.specs.IsDead.{deadRefusal}
 use Rattle.dead.proofs.is_dead.Statement.{statement}
 use Rattle.dead.proofs.is_dead.Tie as tie

@@ -2,7 +2,7 @@
 use borrow.Author.Needs.{needs}
 use mathlib.Core.Path.{sym, _∙_}
 use Rattle.model.specs.declared.Thing.the-variants.{Argument}
-use Rattle.sheets.proofs.Modes.{open-there, open-missing}
+use Rattle.opened.proofs.Modes.{open-there, open-missing}
 use Rattle.dead.proofs.mode_answer.Statement.{statement}
 use Rattle.dead.proofs.mode_answer.Tie as tie
 

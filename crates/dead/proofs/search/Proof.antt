@@ -6,7 +6,7 @@ use mathlib.Core.Path.{_≡_, sym, _∙_}
 use native.Mathlib.Omega.{arith}
 use Rattle.model.proofs.Dead.{Passed, Alive}
 use Rattle.sheets.specs.Decoded.{netOf}
-use Rattle.sheets.proofs.Shapes.{sizes}
+use Rattle.opened.proofs.Shapes.{sizes}
 use Rattle.dead.specs.declared.FirstDead.the-variants.{None}
 use Rattle.dead.proofs.Searches.{arc-kills, none-kills, none-named, one-named}
 use Rattle.dead.proofs.search.Statement.{statement}

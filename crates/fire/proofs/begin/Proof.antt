@@ -1,6 +1,6 @@
 -- The net's refusal, or 17 and the first marking once it is open.
 use borrow.Author.Needs.{needs}
-use Rattle.sheets.proofs.Opening.{opens}
+use Rattle.opened.proofs.Opening.{opens}
 use Rattle.fire.specs.Calls.{beginRefusal}
 use Rattle.fire.proofs.Opening.{sheet-leaves, open-leaves}
 use Rattle.fire.proofs.begin.Statement.{statement}

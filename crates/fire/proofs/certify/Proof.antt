@@ -1,6 +1,6 @@
 -- The net's refusal, or the certificate once it is open.
 use borrow.Author.Needs.{needs}
-use Rattle.sheets.proofs.Opening.{opens}
+use Rattle.opened.proofs.Opening.{opens}
 use Rattle.fire.specs.Calls.{certifyRefusal}
 use Rattle.fire.proofs.Opening.{sheet-refused, sheet-open}
 use Rattle.fire.proofs.certify.Statement.{statement}

@@ -1,7 +1,7 @@
 -- The net's refusal, or what is left to test and run once it is open.
 use borrow.Author.Needs.{needs}
 use mathlib.Core.Path.{refl}
-use Rattle.sheets.proofs.Opening.{opened-shape, opens}
+use Rattle.opened.proofs.Opening.{opened-shape, opens}
 use Rattle.fire.specs.Calls.{beforeRun}
 use Rattle.fire.proofs.Opening.{sheet-refused}
 use Rattle.fire.proofs.Reporting.{begins-refused, begins-after, run-is}

@@ -1,6 +1,6 @@
 -- The net, then the rest.
 use borrow.Author.Needs.{needs}
-use Rattle.sheets.proofs.Opening.{opened-refused, opened-shape, opens}
+use Rattle.opened.proofs.Opening.{opened-refused, opened-shape, opens}
 use Rattle.weigh.specs.Calls.{changeRefusal}
 use Rattle.weigh.proofs.Answers.{figured-stops, figured-goes-on}
 use Rattle.weigh.proofs.change.Statement.{statement}

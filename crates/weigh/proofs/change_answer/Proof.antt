@@ -2,7 +2,7 @@
 use borrow.Author.Needs.{needs}
 use mathlib.Core.Path.{_∙_}
 use Rattle.model.specs.declared.Thing.the-variants.{Argument}
-use Rattle.sheets.proofs.Modes.{open-there, open-missing}
+use Rattle.opened.proofs.Modes.{open-there, open-missing}
 use Rattle.weigh.proofs.Answers.{figured-stops, figured-goes-on, figured-refused, figured-is, weights-refused, weights-pass, weights-accepted}
 use Rattle.weigh.proofs.Terms.{gains-change}
 use Rattle.weigh.proofs.change_answer.Statement.{statement}

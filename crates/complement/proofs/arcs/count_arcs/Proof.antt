@@ -6,7 +6,7 @@ use lib.ListN.{length}
 use native.Mathlib.Omega.{arith}
 use Rattle.model.specs.Complement.{joined}
 use Rattle.sheets.specs.Decoded.{netOf}
-use Rattle.sheets.proofs.Shapes.{sizes}
+use Rattle.opened.proofs.Shapes.{sizes}
 use Rattle.complement.proofs.Counts.{count-none, count-more}
 use Rattle.complement.proofs.ModeHalves.{bothHalves, arcs-count}
 use Rattle.complement.proofs.arcs.count_arcs.Statement.{statement}

@@ -2,7 +2,7 @@
 use borrow.Author.Needs.{needs}
 use mathlib.Core.Path.{sym, ap}
 use lib.ListN.{length}
-use Rattle.sheets.specs.Shape.{netArc}
+use Rattle.sheets.specs.Decoded.{netArc}
 use Rattle.complement.proofs.Entries.{kept-none, kept-one}
 use Rattle.complement.proofs.arcs.count_kept.Statement.{statement}
 use Rattle.complement.proofs.arcs.count_kept.Tie as tie

@@ -2,7 +2,7 @@
 use borrow.Author.Needs.{needs}
 use mathlib.Core.Path.{_∙_, ap}
 use native.Mathlib.Omega.{arith}
-use Rattle.sheets.proofs.Shapes.{sizes}
+use Rattle.opened.proofs.Shapes.{sizes}
 use Rattle.complement.specs.Arcs.{originalOf}
 use Rattle.complement.proofs.Below.{entry-few}
 use Rattle.complement.proofs.Read.{small, complement-is}

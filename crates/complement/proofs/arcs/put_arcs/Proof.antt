@@ -5,9 +5,9 @@ use mathlib.Core.Path.{sym}
 use native.Mathlib.Omega.{arith}
 use Rattle.model.specs.Complement.{joined}
 use Rattle.sheets.specs.Decoded.{netOf}
-use Rattle.sheets.specs.Starts.{FirstFrom}
-use Rattle.sheets.proofs.Shapes.{sizes}
-use Rattle.sheets.proofs.Segments.{below-up}
+use Rattle.opened.specs.Starts.{FirstFrom}
+use Rattle.opened.proofs.Shapes.{sizes}
+use Rattle.opened.proofs.Segments.{below-up}
 use Rattle.complement.specs.Arcs.{rowBytes}
 use Rattle.complement.specs.Puts.{Puts}
 use Rattle.complement.proofs.ModeHalves.{arc-parts, first-arc, ends-after, mode-part}

@@ -1,8 +1,8 @@
 -- A blank arc is left out.
 use borrow.Author.Needs.{needs}
 use mathlib.Core.Path.{sym}
-use Rattle.sheets.specs.Shape.{netArc}
-use Rattle.sheets.proofs.Puts.{nothing, put-length}
+use Rattle.sheets.specs.Decoded.{netArc}
+use Rattle.written.proofs.Puts.{nothing, put-length}
 use Rattle.complement.proofs.Entries.{no-bytes, one-bytes}
 use Rattle.complement.proofs.Puts.{room-as, puts-as, arc-fits}
 use Rattle.complement.proofs.arcs.put_kept.Statement.{statement}

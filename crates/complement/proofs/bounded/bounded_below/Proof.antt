@@ -8,7 +8,7 @@ use Rattle.model.specs.Nets.{K}
 use Rattle.model.specs.Complement.{boundedBelow}
 use Rattle.model.proofs.Bounded.{below-none, below-at-most}
 use Rattle.sheets.specs.Decoded.{netOf}
-use Rattle.sheets.proofs.Shapes.{sizes}
+use Rattle.opened.proofs.Shapes.{sizes}
 use Rattle.complement.proofs.Below.{UpTo, none-below, one-more, filled}
 use Rattle.complement.proofs.bounded.bounded_below.Statement.{statement}
 use Rattle.complement.proofs.bounded.bounded_below.Tie as tie

@@ -3,8 +3,8 @@ use borrow.Author.Needs.{needs}
 use mathlib.Core.Path.{sym, ap}
 use native.Mathlib.Omega.{arith}
 use Rattle.sheets.specs.Decoded.{netOf}
-use Rattle.sheets.proofs.Shapes.{sizes}
-use Rattle.sheets.proofs.Puts.{put-length}
+use Rattle.opened.proofs.Shapes.{sizes}
+use Rattle.written.proofs.Puts.{put-length}
 use Rattle.complement.specs.Pairs.{halfPair}
 use Rattle.complement.proofs.PairHalves.{old-pair}
 use Rattle.complement.proofs.Puts.{room-as, puts-as, pair-fits}

@@ -3,7 +3,7 @@ use borrow.Author.Needs.{needs}
 use borrow.Author.Tests.{not-true, not-false}
 use mathlib.Core.Path.{sym, _∙_}
 use native.Mathlib.Omega.{arith}
-use Rattle.sheets.proofs.Puts.{nothing, put-length}
+use Rattle.written.proofs.Puts.{nothing, put-length}
 use Rattle.sheets.proofs.BoundNumbers.{finite-is, unbounded-is}
 use Rattle.complement.proofs.PairHalves.{start-within, new-pair}
 use Rattle.complement.proofs.Puts.{room-as, puts-as, pair-fits}

@@ -7,7 +7,7 @@ use native.Mathlib.Omega.{arith}
 use native.Mathlib.Numerals.{add-one}
 use Rattle.model.specs.Complement.{joined}
 use Rattle.sheets.specs.Decoded.{netOf}
-use Rattle.sheets.proofs.Shapes.{sizes}
+use Rattle.opened.proofs.Shapes.{sizes}
 use Rattle.complement.specs.declared.half.Half.the-variants.{Complement}
 use Rattle.complement.specs.Places.{firstPair, halfPlace}
 use Rattle.complement.proofs.Counts.{count-none, count-more}

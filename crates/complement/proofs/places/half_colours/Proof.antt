@@ -3,7 +3,7 @@ use borrow.Author.Needs.{needs}
 use Prim.Native.Nat.{_-_}
 use mathlib.Core.Path.{refl, _∙_, ap₂}
 use native.Mathlib.Omega.{arith}
-use Rattle.sheets.proofs.Shapes.{sizes}
+use Rattle.opened.proofs.Shapes.{sizes}
 use Rattle.complement.proofs.Below.{entry-is, entry-few, entries-rise}
 use Rattle.complement.proofs.places.half_colours.Statement.{statement}
 use Rattle.complement.proofs.places.half_colours.Tie as tie

@@ -7,8 +7,8 @@ use native.Mathlib.Omega.{arith}
 use native.Mathlib.Numerals.{add-one}
 use Rattle.model.specs.Complement.{joined}
 use Rattle.sheets.specs.Decoded.{netOf}
-use Rattle.sheets.specs.Written.{bytes16}
-use Rattle.sheets.proofs.Shapes.{sizes}
+use Rattle.written.specs.Written.{bytes16}
+use Rattle.opened.proofs.Shapes.{sizes}
 use Rattle.complement.specs.Places.{firstPair, placeBytes}
 use Rattle.complement.specs.Puts.{Puts}
 use Rattle.complement.proofs.PlaceHalves.{half-place, next-first}

@@ -4,8 +4,8 @@ use Prim.Native.Nat.{_≤_, _-_}
 use mathlib.Core.Path.{sym, ap}
 use Rattle.model.specs.Complement.{joined}
 use Rattle.sheets.specs.Decoded.{netOf}
-use Rattle.sheets.specs.Written.{bytes16}
-use Rattle.sheets.proofs.Puts.{put-length}
+use Rattle.written.specs.Written.{bytes16}
+use Rattle.written.proofs.Puts.{put-length}
 use Rattle.complement.specs.Puts.{Puts}
 use Rattle.complement.proofs.PlaceHalves.{transitionBytes, mode-parts}
 use Rattle.complement.proofs.Puts.{room-as, puts-as, count-fits, puts-none, room-more, puts-more, puts-end}

@@ -2,7 +2,7 @@
 use borrow.Author.Needs.{needs}
 use mathlib.Core.Path.{sym}
 use native.Mathlib.Omega.{arith}
-use Rattle.sheets.proofs.Puts.{nothing, put-length}
+use Rattle.written.proofs.Puts.{nothing, put-length}
 use Rattle.complement.proofs.PlaceHalves.{no-place-bytes, one-place-bytes}
 use Rattle.complement.proofs.Puts.{room-as, puts-as, count-fits}
 use Rattle.complement.proofs.places.put_place.Statement.{statement}

@@ -1,7 +1,7 @@
 -- 15, then 16, then 10.
 use borrow.Author.Needs.{needs}
 use native.Mathlib.Omega.{arith}
-use Rattle.sheets.proofs.Shapes.{sizes}
+use Rattle.opened.proofs.Shapes.{sizes}
 use Rattle.complement.proofs.Answers.{in-order}
 use Rattle.complement.proofs.room.complement_answer.Statement.{statement}
 use Rattle.complement.proofs.room.complement_answer.Tie as tie

@@ -1,7 +1,7 @@
 -- The originals and what is new.
 use borrow.Author.Needs.{needs}
 use native.Mathlib.Omega.{arith}
-use Rattle.sheets.proofs.Shapes.{sizes}
+use Rattle.opened.proofs.Shapes.{sizes}
 use Rattle.complement.proofs.Below.{entry-few, entries-rise, pair-count}
 use Rattle.complement.proofs.PlaceHalves.{place-count}
 use Rattle.complement.proofs.sheet.complement_sizes.Statement.{statement}

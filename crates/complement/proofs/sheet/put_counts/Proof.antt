@@ -2,9 +2,9 @@
 use borrow.Author.Needs.{needs}
 use mathlib.Core.Path.{ap}
 use native.Mathlib.Omega.{arith}
-use Rattle.sheets.specs.Written.{bytes16, headBytes}
-use Rattle.sheets.proofs.Puts.{put-length}
-use Rattle.sheets.proofs.Shapes.{sizes}
+use Rattle.written.specs.Written.{bytes16, headBytes}
+use Rattle.written.proofs.Puts.{put-length}
+use Rattle.opened.proofs.Shapes.{sizes}
 use Rattle.complement.proofs.SheetParts.{transitions-are, length-is}
 use Rattle.complement.proofs.Puts.{puts-as, head-fits, count-fits, room-first, room-next, puts-both}
 use Rattle.complement.proofs.sheet.put_counts.Statement.{statement}

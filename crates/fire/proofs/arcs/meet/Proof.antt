@@ -1,7 +1,7 @@
 -- The arc, K and the count stand where the net has them.
 use borrow.Author.Needs.{needs}
 use native.Mathlib.Omega.{arith}
-use Rattle.sheets.proofs.Shapes.{sizes}
+use Rattle.opened.proofs.Shapes.{sizes}
 use Rattle.fire.proofs.arcs.meet.Statement.{statement}
 use Rattle.fire.proofs.arcs.meet.Tie as tie
 

@@ -4,7 +4,7 @@ use mathlib.Core.Path.{sym}
 use lib.Seq.{length-take-le}
 use Rattle.model.specs.Runs.{certificateRefusal}
 use Rattle.model.proofs.Refusals.{answer-passes, answer-fails}
-use Rattle.sheets.proofs.Shapes.{sizes}
+use Rattle.opened.proofs.Shapes.{sizes}
 use Rattle.fire.specs.Parts.{elsewhere, endsAt}
 use Rattle.fire.proofs.Opened.{one-each, not-one-each}
 use Rattle.fire.proofs.certificate.certificate_answer.Statement.{statement}

@@ -1,7 +1,7 @@
 -- The first marking is accepted; the run stops, or the marking that it left is compared.
 use borrow.Author.Needs.{needs}
 use mathlib.Core.Path.{_∙_}
-use Rattle.sheets.proofs.Shapes.{sizes}
+use Rattle.opened.proofs.Shapes.{sizes}
 use Rattle.fire.proofs.Certifying.{ends-stopped, ends-compared}
 use Rattle.fire.proofs.certificate.end_answer.Statement.{statement}
 use Rattle.fire.proofs.certificate.end_answer.Tie as tie

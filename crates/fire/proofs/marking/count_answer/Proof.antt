@@ -5,7 +5,7 @@ use mathlib.Core.Path.{sym, _∙_}
 use native.Mathlib.Omega.{arith}
 use Rattle.model.proofs.Refusals.{answer-passes, answer-fails}
 use Rattle.fire.specs.Parts.{countRefusal}
-use Rattle.sheets.proofs.Shapes.{sizes}
+use Rattle.opened.proofs.Shapes.{sizes}
 use Rattle.fire.proofs.marking.count_answer.Statement.{statement}
 use Rattle.fire.proofs.marking.count_answer.Tie as tie
 

@@ -2,7 +2,7 @@
 use borrow.Author.Needs.{needs}
 use Rattle.model.specs.Markings.{markingRefusal}
 use Rattle.model.proofs.Refusals.{answer-passes, answer-fails}
-use Rattle.sheets.proofs.Shapes.{sizes}
+use Rattle.opened.proofs.Shapes.{sizes}
 use Rattle.fire.specs.Parts.{countRefusal}
 use Rattle.fire.proofs.Opened.{one-each, not-one-each}
 use Rattle.fire.proofs.marking.marking_answer.Statement.{statement}

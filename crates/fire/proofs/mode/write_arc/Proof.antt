@@ -3,7 +3,7 @@ use borrow.Author.Needs.{needs}
 use mathlib.Core.Path.{ap}
 use native.Mathlib.Omega.{arith}
 use Rattle.model.specs.Nets.{NetArc}
-use Rattle.sheets.proofs.Shapes.{sizes}
+use Rattle.opened.proofs.Shapes.{sizes}
 use Rattle.fire.proofs.Meets.{written-is}
 use Rattle.fire.proofs.mode.write_arc.Statement.{statement}
 use Rattle.fire.proofs.mode.write_arc.Tie as tie

@@ -5,7 +5,7 @@ use mathlib.Core.Path.{_≡_, refl}
 use lib.ListN.{length, length-set}
 use native.Mathlib.Omega.{arith}
 use Rattle.sheets.specs.Decoded.{netOf}
-use Rattle.sheets.proofs.Shapes.{sizes}
+use Rattle.opened.proofs.Shapes.{sizes}
 use Rattle.fire.specs.Parts.{numberOf}
 use Rattle.fire.proofs.Filling.{Filled, fill-none, fill-more}
 use Rattle.fire.proofs.numbers.arc_numbers.Statement.{statement}

@@ -1,7 +1,7 @@
 -- Below Pre, or tested by the arc's number.
 use borrow.Author.Needs.{needs}
 use native.Mathlib.Omega.{arith}
-use Rattle.sheets.proofs.Shapes.{sizes}
+use Rattle.opened.proofs.Shapes.{sizes}
 use Rattle.fire.proofs.ByNumbers.{below-pre, below-number}
 use Rattle.fire.proofs.numbers.arc_within.Statement.{statement}
 use Rattle.fire.proofs.numbers.arc_within.Tie as tie

@@ -7,7 +7,7 @@ use lib.Seq.{ext-getD}
 use native.Mathlib.Omega.{arith}
 use Rattle.model.specs.Nets.{count}
 use Rattle.sheets.specs.Decoded.{netOf}
-use Rattle.sheets.proofs.Shapes.{sizes}
+use Rattle.opened.proofs.Shapes.{sizes}
 use Rattle.fire.proofs.Filling.{Filled, fill-none, fill-more}
 use Rattle.fire.proofs.start.write_start.Statement.{statement}
 use Rattle.fire.proofs.start.write_start.Tie as tie

@@ -1,7 +1,7 @@
 -- The three tests as the definition has them.
 use borrow.Author.Needs.{needs}
 use borrow.Author.Tests.{le-leb, lt-leb}
-use Prim.Native.Nat.{_+_, _*_}
+use Prim.Native.Nat.{_+_}
 use mathlib.Core.Path.{sym, _∙_}
 use native.Mathlib.Omega.{arith}
 use Rattle.model.proofs.Refusals.{answer-passes, answer-fails, answer-last-passes, answer-last-fails}

@@ -1,7 +1,6 @@
 -- The mode decides, or the pair where the modes are equal.
 use borrow.Author.Needs.{needs}
 use borrow.Author.Tests.{lt-ltb, le-ltb, eq-eqb, ne-eqb}
-use Prim.Native.Nat.{_+_}
 use native.Mathlib.Omega.{arith}
 use Rattle.sheets.specs.Bytes.{u16At}
 use Rattle.sheets.specs.Nets.{risesTo}

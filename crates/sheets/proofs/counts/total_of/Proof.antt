@@ -1,7 +1,7 @@
 -- The counts passed make the total so far.
 use borrow.Author.Needs.{needs}
 use Prim.Native.Nat.{_≤_, _-_, _*_}
-use mathlib.Core.Path.{_≡_, sym, _∙_, ap}
+use mathlib.Core.Path.{_≡_}
 use native.Mathlib.Omega.{arith}
 use Rattle.sheets.specs.Layout.{totalOf}
 use Rattle.sheets.proofs.RunningTotals.{total-none, total-more}

@@ -1,6 +1,5 @@
 -- K, then the first marking.
 use borrow.Author.Needs.{needs}
-use native.Mathlib.Omega.{arith}
 use Rattle.model.proofs.Refusals.{answer-none, answer-stops, answer-goes-on}
 use Rattle.sheets.specs.Nets.{pairRefusal}
 use Rattle.sheets.proofs.PairFields.{capacity-holds}

@@ -10,7 +10,7 @@ use Rattle.model.specs.Nets.{count}
 use Rattle.model.specs.Figures.{sum as sumTo, weight, figure}
 use Rattle.model.proofs.Figures.{sum-end}
 use Rattle.sheets.specs.Decoded.{weightsOf}
-use Rattle.sheets.proofs.Shapes.{sizes}
+use Rattle.opened.proofs.Shapes.{sizes}
 use Rattle.weigh.proofs.Terms.{next-fits, next-is, figure-terms}
 use Rattle.weigh.proofs.sums.figure_of.Statement.{statement}
 use Rattle.weigh.proofs.sums.figure_of.Tie as tie

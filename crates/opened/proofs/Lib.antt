@@ -1,0 +1,5 @@
+pub mod Shapes
+pub mod Opening
+pub mod Segments
+pub mod TwosComplement
+pub mod Modes

@@ -1,0 +1,85 @@
+-- The arcs of a mode stand together, since arcs rise by mode.
+use Prim.Native.Nat.{ℕ, _+_, _-_, _≤_, _<_}
+use mathlib.Core.Path.{_≡_}
+use mathlib.Core.List.{List}
+use mathlib.Core.Logic.{_⊎_, inl, inr, ⊎-elim}
+use lib.ListN.{length, getD, set}
+use lib.Seq.{getD-set-same, getD-set-other}
+use native.Mathlib.Omega.{arith}
+use native.Mathlib.Nat.{eq-or-lt-of-le}
+use Rattle.model.specs.declared.Mode.{Mode}
+use Rattle.model.specs.Nets.{NetArc, PNet, pairs, arcNo, row}
+use Rattle.model.specs.WellFormed.{Rises, WellFormed}
+use Rattle.model.proofs.First.{below-or}
+use Rattle.model.proofs.Nets.{Rising, rises-all}
+use Rattle.model.proofs.ByArcs.{Listing, segment-lists}
+use Rattle.opened.specs.Starts.{ModesBelow, FirstFrom, ModeArcs}
+
+-- i is the next number below i + 1, the others are below i
+below-next : (i j : ℕ) → j < i + 1 → (j < i) ⊎ (j ≡ i)
+below-next i j h = ⊎-elim (λ (q : j ≡ i). inr q) (λ (l : j < i). inl l) (eq-or-lt-of-le (omega arith))
+
+mode-rises : (a b : NetArc) → Rises a b → a .mode .0 ≤ b .mode .0
+mode-rises a b (inl h) = omega arith
+mode-rises a b (inr h) = omega arith
+
+module _ (arcs : List NetArc) where
+  pub below-none : (t : ℕ) → ModesBelow arcs t 0
+  below-none t = record { each = λ j h. absurd (omega arith) }
+
+  pub below-more : (t i : ℕ) → ModesBelow arcs t i → arcNo arcs i .mode .0 < t → ModesBelow arcs t (i + 1)
+  below-more t i below h =
+      record { each = λ j l. ⊎-elim (λ (b : j < i). below .each j b) (λ (q : j ≡ i). rw q h) (below-next i j l) }
+
+  pub below-up : (t k : ℕ) → ModesBelow arcs t k → ModesBelow arcs (t + 1) k
+  below-up t k below = record { each = λ j l. omega (arith, below .each j l) }
+
+  -- a search that stops at k, and one that comes to the end
+  pub first-stops : Rising arcs → (t k : ℕ) → k < length arcs → ModesBelow arcs t k → t ≤ arcNo arcs k .mode .0 → FirstFrom arcs t k
+  first-stops rising t k h below l =
+      record {
+        inside = omega arith;
+        before = below;
+        after =
+            λ j b i.
+            ⊎-elim (λ (q : k ≡ j). rw (← q) l)
+            (λ (g : k < j). omega (arith, mode-rises (arcNo arcs k) (arcNo arcs j) (rises-all arcs rising k j g i)))
+            (eq-or-lt-of-le b);
+      }
+
+  pub first-ends : (t k : ℕ) → k ≡ length arcs → ModesBelow arcs t k → FirstFrom arcs t k
+  first-ends t k e below = record { inside = omega arith; before = below; after = λ j b i. absurd (omega arith) }
+
+  -- the first n entries of a table of starts, and one more
+  abbrev pub Filled : List ℕ → ℕ → Type 0
+  Filled starts n = (t : ℕ) → t < n → FirstFrom arcs t (getD starts t 0)
+
+  pub filled-more : (starts : List ℕ) (t k : ℕ) → t < length starts → Filled starts t → FirstFrom arcs t k → Filled (set starts t k) (t + 1)
+  filled-more starts t k h filled f u l =
+      ⊎-elim (λ (b : u < t). rw (getD-set-other starts t u k 0 (λ e. omega arith)) (filled u b))
+      (λ (q : u ≡ t). rw (q, getD-set-same starts t k 0 h) f) (below-next t u l)
+
+  module _ (t : Mode) (start end : ℕ) (starts : FirstFrom arcs (t .0) start) (ends : FirstFrom arcs (t .0 + 1) end) where
+    pub in-turn : start ≤ end
+    in-turn =
+        ⊎-elim (λ (l : end < start). absurd (omega (arith, starts .before .each end l, ends .after end (omega arith) (omega arith)))) (λ (l : start ≤ end). l)
+        (below-or end start)
+
+    -- from the first arc of the mode to the first of a later one
+    pub mode-arcs : ModeArcs arcs t start (end - start)
+    mode-arcs =
+        let l = in-turn in
+        record {
+          fits = omega arith;
+          own = λ k h. omega (arith, starts .after (start + k) (omega arith) (omega arith), ends .before .each (start + k) (omega arith));
+          all =
+              λ k h e. (
+                ⊎-elim (λ (b : k < start). absurd (omega (arith, starts .before .each k b))) (λ (b : start ≤ k). b) (below-or k start),
+                ⊎-elim (λ (b : k < end). omega arith) (λ (b : end ≤ k). absurd (omega (arith, ends .after k b h))) (below-or k end),
+              );
+        }
+
+-- the arcs of a mode write its row
+pub mode-lists : (net : PNet) → WellFormed net → (t : Mode) (start count : ℕ) → ModeArcs (net .arcs) t start count
+    → Listing (pairs net) (row net t) count (λ k. arcNo (net .arcs) (start + k))
+mode-lists net well t start count m = segment-lists net well t start count (m .fits) (m .own) (m .all)

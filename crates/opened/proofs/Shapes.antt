@@ -1,0 +1,121 @@
+-- What a look into an accepted net sheet finds, where the sheet's shape says that it stands.
+use Prim.Native.Nat.{ℕ, _+_, _*_, _≤_, _<_}
+use mathlib.Core.Path.{_≡_, sym, _∙_, ap}
+use mathlib.Core.List.{List}
+use lib.ListN.{length, getD}
+use native.Mathlib.Omega.{arith}
+use Rattle.model.specs.declared.Arc.{Arc}
+use Rattle.model.specs.Numbers.{limit}
+use Rattle.model.specs.Nets.{pairs, modes, K, count, arcNo}
+use Rattle.model.specs.WellFormed.{ArcOf, Counted, WellFormed}
+use Rattle.opened.specs.declared.shape.NetShape.{NetShape}
+use Rattle.sheets.specs.Bytes.{u16At, u32At}
+use Rattle.sheets.specs.Layout.{coloursAt, modesAt, counts, placeCount, transitionCount, pairCount, modeCount, arcCount, pairsAt, arcsAt, countAt, pairAt, arcAt, arcSize, arcModeAt, capacityAt, startAt}
+use Rattle.sheets.specs.Nets.{bound}
+use Rattle.sheets.specs.Decoded.{netArcAt, netOf, netArc}
+use Rattle.opened.specs.Shape.{shapeOf, Open, ArcIs, arcOffset}
+use Rattle.sheets.proofs.Valid.{headed, counts-hold, arcs-within, colours-hold, modes-hold, start-holds, arc-holds}
+use Rattle.sheets.proofs.Meaning.{counts-length, counts-at, colours-are, modes-of-are, pairs-are, modes-are, capacity-at, start-at, arcs-length, arc-at}
+use Rattle.sheets.proofs.Accepted.{well-formed}
+
+-- each part of a shape is what the layout says
+pub record Shaped (s : List ℕ) (net : NetShape) : Type 0 where
+  pub places : net .places ≡ placeCount s
+  pub transitions : net .transitions ≡ transitionCount s
+  pub pairs : net .pairs ≡ pairCount s
+  pub modes : net .modes ≡ modeCount s
+  pub arcs : net .arcs ≡ arcCount s
+  pub pairsAt : net .«pairs_at» ≡ pairsAt s
+  pub arcsAt : net .«arcs_at» ≡ arcsAt s
+
+-- the net that an open sheet means is well-formed, and as large as its shape says
+pub record Sizes (s : List ℕ) (net : NetShape) : Type 0 where
+  pub places : net .places ≡ length (netOf s .colours)
+  pub transitions : net .transitions ≡ length (netOf s .modesOf)
+  pub pairs : net .pairs ≡ pairs (netOf s)
+  pub modes : net .modes ≡ modes (netOf s)
+  pub arcs : net .arcs ≡ length (netOf s .arcs)
+  pub pairsWithin : net .pairs ≤ 256
+  pub modesWithin : net .modes ≤ 256
+  pub arcsWithin : net .arcs ≤ 2048
+  pub wellFormed : WellFormed (netOf s)
+
+-- one of a net's counts, from where it stands
+count-read : (s : List ℕ) (start n : ℕ) {xs : List ℕ} → xs ≡ counts s start n → Counted xs → (i r : ℕ) → i < n → r ≡ u16At s (countAt start i)
+    → (r ≡ getD xs i 0) × (1 ≤ r) × (r ≤ 64)
+count-read s start n {xs} are counted i r h e =
+    let is : r ≡ getD xs i 0 = e ∙ sym (rw are (counts-at s start n i h)) in
+    let limits = counted .each i (omega (arith, ap length are, counts-length s start n)) in
+    (is, omega arith, omega arith)
+
+module _ {s : List ℕ} {net : NetShape} (o : Open s net) where
+  pub shaped : Shaped s net
+  unfolding shapeOf
+  shaped =
+      record {
+        places = ap (λ n. n .places) (o .shape);
+        transitions = ap (λ n. n .transitions) (o .shape);
+        pairs = ap (λ n. n .pairs) (o .shape);
+        modes = ap (λ n. n .modes) (o .shape);
+        arcs = ap (λ n. n .arcs) (o .shape);
+        pairsAt = ap (λ n. n .«pairs_at») (o .shape);
+        arcsAt = ap (λ n. n .«arcs_at») (o .shape);
+      }
+
+  pub sizes : Sizes s net
+  sizes =
+      record {
+        places = shaped .places ∙ sym (ap length (colours-are s) ∙ counts-length s _ _);
+        transitions = shaped .transitions ∙ sym (ap length (modes-of-are s) ∙ counts-length s _ _);
+        pairs = shaped .pairs ∙ sym (pairs-are s);
+        modes = shaped .modes ∙ sym (modes-are s);
+        arcs = shaped .arcs ∙ sym (arcs-length s);
+        pairsWithin = rw (shaped .pairs) (counts-hold s (o .accepted) .pairs);
+        modesWithin = rw (shaped .modes) (counts-hold s (o .accepted) .modes);
+        arcsWithin = rw (shaped .arcs) (arcs-within s (o .accepted));
+        wellFormed = well-formed s (o .accepted);
+      }
+
+  -- a place, a transition, a pair and an arc that the shape counts are in the sheet
+  pub place-there : (i : ℕ) → i < net .places → coloursAt + 2 * i + 2 ≤ length s
+  place-there i h = omega (arith, shaped, headed s (o .accepted), colours-hold s (o .accepted) i (rw (← shaped .places) h))
+
+  pub transition-there : (i : ℕ) → i < net .transitions → coloursAt + 2 * net .places + 2 * i + 2 ≤ length s
+  transition-there i h =
+      omega (arith, shaped, headed s (o .accepted), modes-hold s (o .accepted) i (rw (← shaped .transitions) h))
+
+  pub pair-there : (p : ℕ) → p < net .pairs → pairAt (pairsAt s) p + 8 ≤ length s
+  pair-there p h = omega (arith, headed s (o .accepted), start-holds s (o .accepted) p (rw (← shaped .pairs) h))
+
+  pub arc-there : (k : ℕ) → k < net .arcs → arcAt (arcsAt s) k + arcSize ≤ length s
+  arc-there k h = omega (arith, headed s (o .accepted), arc-holds s (o .accepted) k (rw (← shaped .arcs) h))
+
+  -- and what stands there is what the net has
+  pub colours-read : (i r : ℕ) → i < net .places → r ≡ u16At s (coloursAt + 2 * i) → (r ≡ getD (netOf s .colours) i 0) × (1 ≤ r) × (r ≤ 64)
+  colours-read i r h e = count-read s _ _ (colours-are s) (sizes .wellFormed .places) i r (rw (← shaped .places) h) e
+
+  pub modes-read : (i r : ℕ) → i < net .transitions → r ≡ u16At s (coloursAt + 2 * net .places + 2 * i)
+      → (r ≡ getD (netOf s .modesOf) i 0) × (1 ≤ r) × (r ≤ 64)
+  modes-read i r h e =
+      let q : coloursAt + 2 * net .places ≡ modesAt s = omega (arith, shaped) in
+      count-read s _ _ (modes-of-are s) (sizes .wellFormed .transitions) i r (rw (← shaped .transitions) h) (rw q at e)
+
+  pub capacity-read : (p : ℕ) → p < net .pairs → bound (u32At s (capacityAt (pairAt (pairsAt s) p))) ≡ K (netOf s) p
+  capacity-read p h = sym (capacity-at s p (rw (← shaped .pairs) h))
+
+  pub start-read : (p r : ℕ) → p < net .pairs → r ≡ u32At s (startAt (pairAt (pairsAt s) p)) → (r ≡ count (netOf s .start) p) × (r ≤ limit)
+  start-read p r h e =
+      let is : r ≡ count (netOf s .start) p = e ∙ sym (start-at s p (rw (← shaped .pairs) h)) in
+      (is, rw is (sizes .wellFormed .start .inRange p (rw (← sizes .pairs) h)))
+
+  pub arc-mode-is : (k : ℕ) {m : ℕ} → k < net .arcs → m ≡ u16At s (arcModeAt (arcOffset s k)) → m ≡ arcNo (netOf s .arcs) k .mode .0
+  unfolding arcOffset netArcAt
+  arc-mode-is k h e = e ∙ sym (ap (λ a. a .mode .0) (arc-at s k (rw (← shaped .arcs) h)))
+
+  pub arc-read : (k : ℕ) (a : Arc) → k < net .arcs → netArc a ≡ netArcAt s (arcOffset s k) → ArcIs s net k a
+  unfolding arcOffset
+  arc-read k a h e =
+      let is : netArc a ≡ arcNo (netOf s .arcs) k = e ∙ sym (arc-at s k (rw (← shaped .arcs) h)) in
+      let w : ArcOf (netOf s) (netArc a) = rw is (sizes .wellFormed .eachArc k (rw (← sizes .arcs) h)) in
+      let z = sizes in
+      record { is = is; mode = omega arith; pair = omega arith; pre = w .pre; post = w .post; inhibitor = w .inhibitor }

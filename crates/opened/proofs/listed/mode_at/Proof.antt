@@ -1,0 +1,12 @@
+-- The two bytes are there.
+use borrow.Author.Needs.{needs}
+use Rattle.sheets.specs.Listed.{modeAt}
+use Rattle.opened.proofs.listed.mode_at.Statement.{statement}
+use Rattle.opened.proofs.listed.mode_at.Tie as tie
+
+returns : tie.Need-returns
+unfolding modeAt
+returns c = cc
+
+pub mode-at-spec : {M : Type 1} → statement M
+mode-at-spec = tie.close (tie.spec (λ c. search needs) (λ c. search needs) (λ c κs. search needs) returns)

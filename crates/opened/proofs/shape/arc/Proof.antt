@@ -1,0 +1,28 @@
+-- The five fields that stand at the arc's offset.
+use borrow.Author.Needs.{needs}
+use Rattle.sheets.specs.Decoded.{netArcAt}
+use Rattle.opened.proofs.Shapes.{arc-read}
+use Rattle.opened.proofs.shape.arc.Statement.{statement}
+use Rattle.opened.proofs.shape.arc.Tie as tie
+
+returns : tie.Need-returns
+unfolding netArcAt
+returns c =
+    let pre = c .before .before .before .before .before .before .before .pre in
+    arc-read (pre .0) _ _ (pre .1) cc
+
+pub arc-spec : {M : Type 1} → statement M
+arc-spec =
+    tie.close
+    (tie.spec
+    (λ c κs. search needs)
+    (λ c κs. search needs)
+    (λ c. search needs)
+    (λ c κs. search needs)
+    (λ c. search needs)
+    (λ c κs. search needs)
+    (λ c. search needs)
+    (λ c κs. search needs)
+    (λ c. search needs)
+    (λ c κs. search needs)
+    returns)

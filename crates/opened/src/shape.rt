@@ -1,0 +1,130 @@
+// A net sheet that has been accepted, looked into in place: where its parts stand is worked out once a call, and kept by value.
+use model::Arc;
+use model::Mode;
+use model::Pair;
+use sheets::bytes::count_at;
+use sheets::bytes::u16_at;
+use sheets::bytes::u32_at;
+use sheets::net::mode_count;
+use sheets::net::pair_count;
+use sheets::net::pairs_at;
+ghost use mathlib.Core.Path.{_≡_};
+ghost use mathlib.Core.Option.{none};
+ghost use Prim.Native.Nat.{_+_, _≤_, _<_};
+ghost use lib.ListN.{length, getD};
+ghost use Rattle.model.specs.Numbers.{limit};
+ghost use Rattle.model.specs.Nets.{K, count, arcNo};
+ghost use Rattle.sheets.specs.Layout.{pairsAt, pairAt, arcSize};
+ghost use Rattle.sheets.specs.Nets.{bound, netRefusal};
+ghost use Rattle.sheets.specs.Decoded.{netOf};
+ghost use Rattle.opened.specs.Shape.{shapeOf, Open, ArcIs, arcOffset};
+
+// How many places, transitions, pairs, modes and arcs a net has, and where its pairs and its arcs stand in the sheet.
+pub struct NetShape {
+    pub places: usize,
+    pub transitions: usize,
+    pub pairs: usize,
+    pub modes: usize,
+    pub arcs: usize,
+    pairs_at: usize,
+    arcs_at: usize,
+}
+
+pub fn shape_of(s: &[u8]) -> NetShape
+    requires { ⌜ netRefusal (now s) ≡ none ⌝ }
+    ensures { λ r. ⌜ r ≡ shapeOf (now (s .entry)) ⌝ }
+{
+    let places = count_at(s, 5);
+    let transitions = count_at(s, 7);
+    let pairs = pair_count(s);
+    let first_pair = pairs_at(s);
+    let at = first_pair + 8 * pairs;
+    NetShape {
+        places,
+        transitions,
+        pairs,
+        modes: mode_count(s),
+        arcs: count_at(s, at),
+        pairs_at: first_pair,
+        arcs_at: at + 2,
+    }
+}
+
+// How many colours a place has.
+pub fn colours_of(s: &[u8], net: NetShape, place: usize) -> usize
+    requires { ⌜ Open (now s) net ⌝ }
+    requires { ⌜ place < net .places ⌝ }
+    ensures { λ r. ⌜ (r ≡ getD (netOf (now (s .entry)) .colours) place 0) × (1 ≤ r) × (r ≤ 64) ⌝ }
+{
+    count_at(s, 9 + 2 * place)
+}
+
+// How many modes a transition has.
+pub fn modes_of(s: &[u8], net: NetShape, transition: usize) -> usize
+    requires { ⌜ Open (now s) net ⌝ }
+    requires { ⌜ transition < net .transitions ⌝ }
+    ensures { λ r. ⌜ (r ≡ getD (netOf (now (s .entry)) .modesOf) transition 0) × (1 ≤ r) × (r ≤ 64) ⌝ }
+{
+    count_at(s, 9 + 2 * net.places + 2 * transition)
+}
+
+fn pair_at(s: &[u8], net: NetShape, pair: Pair) -> usize
+    requires { ⌜ Open (now s) net ⌝ }
+    requires { ⌜ pair .0 < net .pairs ⌝ }
+    ensures { λ r. ⌜ (r ≡ pairAt (pairsAt (now (s .entry))) (pair .0)) × (r + 8 ≤ length (now (s .entry))) ⌝ }
+{
+    net.pairs_at + 8 * (pair.0 as usize)
+}
+
+// K of a pair, as the sheet writes it: 4,294,967,295 is unbounded.
+pub fn capacity(s: &[u8], net: NetShape, pair: Pair) -> u32
+    requires { ⌜ Open (now s) net ⌝ }
+    requires { ⌜ pair .0 < net .pairs ⌝ }
+    ensures { λ r. ⌜ bound r ≡ K (netOf (now (s .entry))) (pair .0) ⌝ }
+{
+    u32_at(s, pair_at(s, net, pair))
+}
+
+// The first marking's count at a pair.
+pub fn start_count(s: &[u8], net: NetShape, pair: Pair) -> u32
+    requires { ⌜ Open (now s) net ⌝ }
+    requires { ⌜ pair .0 < net .pairs ⌝ }
+    ensures { λ r. ⌜ (r ≡ count (netOf (now (s .entry)) .start) (pair .0)) × (r ≤ limit) ⌝ }
+{
+    u32_at(s, pair_at(s, net, pair) + 4)
+}
+
+// Where an arc stands in the sheet: the position of refusals 15 and 16.
+pub fn arc_offset(s: &[u8], net: NetShape, k: usize) -> usize
+    requires { ⌜ Open (now s) net ⌝ }
+    requires { ⌜ k < net .arcs ⌝ }
+    ensures { λ r. ⌜ (r ≡ arcOffset (now (s .entry)) k) × (r + arcSize ≤ length (now (s .entry))) ⌝ }
+{
+    net.arcs_at + 16 * k
+}
+
+// The mode of an arc, as a number.
+pub(crate) fn arc_mode(s: &[u8], net: NetShape, k: usize) -> usize
+    requires { ⌜ Open (now s) net ⌝ }
+    requires { ⌜ k < net .arcs ⌝ }
+    ensures { λ r. ⌜ r ≡ arcNo (netOf (now (s .entry)) .arcs) k .mode .0 ⌝ }
+{
+    count_at(s, arc_offset(s, net, k))
+}
+
+pub fn arc(s: &[u8], net: NetShape, k: usize) -> Arc
+    requires { ⌜ Open (now s) net ⌝ }
+    requires { ⌜ k < net .arcs ⌝ }
+    ensures { λ r. ⌜ ArcIs (now (s .entry)) net k r ⌝ }
+{
+    let at = arc_offset(s, net, k);
+    let mode = Mode(u16_at(s, at));
+    let pair = Pair(u16_at(s, at + 2));
+    Arc {
+        mode,
+        pair,
+        pre: u32_at(s, at + 4),
+        post: u32_at(s, at + 8),
+        inhibitor: u32_at(s, at + 12),
+    }
+}

@@ -1,0 +1,78 @@
+// Where the arcs of each mode stand: a movement visits its mode's arcs alone.
+use crate::shape::NetShape;
+use crate::shape::arc_mode;
+use model::Mode;
+ghost use Prim.Native.Nat.{_+_, _≤_, _<_};
+ghost use Rattle.sheets.specs.Decoded.{netOf};
+ghost use Rattle.opened.specs.Shape.{Open};
+ghost use Rattle.opened.specs.Starts.{ModesBelow, FirstFrom, StartsAre, ModeArcs};
+
+// `count` arcs from `start` on, in the order of the sheet.
+pub struct Segment {
+    pub start: usize,
+    pub count: usize,
+}
+
+// The first arc whose mode is at least `t`, looked for from `k` on.
+pub(crate) fn first_from(s: &[u8], net: NetShape, t: usize, k: usize) -> usize
+    requires { ⌜ Open (now s) net ⌝ }
+    requires { ⌜ k ≤ net .arcs ⌝ }
+    requires { ⌜ ModesBelow (netOf (now s) .arcs) t k ⌝ }
+    ensures { λ r. ⌜ FirstFrom (netOf (now (s .entry)) .arcs) t r ⌝ }
+{
+    let arcs = net.arcs;
+    let mut i = k;
+    while i < arcs {
+        if t <= arc_mode(s, net, i) {
+            return i;
+        }
+        i += 1;
+    }
+    i
+}
+
+// The table for a run: entry t is the first arc whose mode is at least t.
+pub fn starts(s: &[u8], net: NetShape) -> [u16; 257]
+    requires { ⌜ Open (now s) net ⌝ }
+    ensures { λ r. ⌜ StartsAre (netOf (now (s .entry)) .arcs) r ⌝ }
+{
+    let mut table = [0u16; 257];
+    let mut k = 0;
+    let mut t = 0;
+    while t < 257 {
+        k = first_from(s, net, t, k);
+        table[t] = k as u16;
+        t += 1;
+    }
+    table
+}
+
+// The arcs of a mode, by the table.
+pub fn arcs_of(s: &[u8], net: NetShape, starts: &[u16; 257], mode: Mode) -> Segment
+    requires { ⌜ Open (now s) net ⌝ }
+    requires { ⌜ StartsAre (netOf (now s) .arcs) (now starts) ⌝ }
+    requires { ⌜ mode .0 < net .modes ⌝ }
+    ensures { λ r. ⌜ ModeArcs (netOf (now (s .entry)) .arcs) mode (r .start) (r .count) × (r .start + r .count ≤ net .arcs) ⌝ }
+{
+    let t = mode.0 as usize;
+    let start = starts[t] as usize;
+    let end = starts[t + 1] as usize;
+    Segment {
+        start,
+        count: end - start,
+    }
+}
+
+// The arcs of a mode, looked for in the sheet: where one mode is all that a call asks of.
+pub fn find_arcs(s: &[u8], net: NetShape, mode: Mode) -> Segment
+    requires { ⌜ Open (now s) net ⌝ }
+    ensures { λ r. ⌜ ModeArcs (netOf (now (s .entry)) .arcs) mode (r .start) (r .count) × (r .start + r .count ≤ net .arcs) ⌝ }
+{
+    let t = mode.0 as usize;
+    let start = first_from(s, net, t, 0);
+    let end = first_from(s, net, t + 1, start);
+    Segment {
+        start,
+        count: end - start,
+    }
+}

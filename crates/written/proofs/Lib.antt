@@ -1,0 +1,11 @@
+pub mod Stands
+pub mod BigEndian
+pub mod Sections
+pub mod Records
+pub mod SheetLength
+pub mod NetRead
+pub mod NetStands
+pub mod RoundTrip
+pub mod Accepts
+pub mod NetAccepts
+pub mod Puts

@@ -1,0 +1,14 @@
+use borrow.Author.Needs.{needs}
+use Rattle.written.specs.Written.{bytes32}
+use Rattle.written.proofs.Puts.{puts}
+use Rattle.written.proofs.put32.Statement.{statement}
+use Rattle.written.proofs.put32.Tie as tie
+
+returns : tie.Need-returns
+unfolding bytes32
+returns c = puts (c .before .before .before .before .before .before .put16 .ensures) (c .before .before .put162 .ensures)
+
+pub put32-spec : {M : Type 1} → statement M
+put32-spec =
+    tie.close
+    (tie.spec (λ c. search needs) (λ c κs. search needs) (λ c. search needs) (λ c κs. search needs) (λ c. search needs) returns)

@@ -1,0 +1,31 @@
+use borrow.Author.Needs.{needs}
+use mathlib.Core.List.{flatten}
+use Rattle.written.specs.Written.{arcBytes}
+use Rattle.written.proofs.Records.{number-bound}
+use Rattle.written.proofs.Puts.{nothing, puts}
+use Rattle.written.proofs.put_arc.Statement.{statement}
+use Rattle.written.proofs.put_arc.Tie as tie
+
+returns : tie.Need-returns
+unfolding arcBytes flatten
+returns c =
+    let inhibitor = c .before .before in
+    let post = inhibitor .before .before .before .before in
+    let pre = post .before .before .before .before in
+    let pair = pre .before .before .before .before in
+    let mode = pair .before .before .before .before in
+    rw number-bound
+    (puts (mode .put16 .ensures)
+    (puts (pair .put162 .ensures) (puts (pre .put32 .ensures) (puts (post .put322 .ensures) (puts (inhibitor .put323 .ensures) nothing)))))
+
+pub put-arc-spec : {M : Type 1} → statement M
+put-arc-spec =
+    tie.close
+    (tie.spec
+    (λ c κs. search needs)
+    (λ c κs. search needs)
+    (λ c κs. search needs)
+    (λ c κs. search needs)
+    (λ c κs. search needs)
+    (λ c. search needs)
+    returns)

@@ -1,0 +1,13 @@
+use borrow.Author.Needs.{needs}
+use Rattle.written.specs.Written.{pairBytes}
+use Rattle.written.proofs.Records.{number-bound}
+use Rattle.written.proofs.Puts.{puts}
+use Rattle.written.proofs.put_pair.Statement.{statement}
+use Rattle.written.proofs.put_pair.Tie as tie
+
+returns : tie.Need-returns
+unfolding pairBytes
+returns c = rw number-bound (puts (c .before .before .before .before .before .before .put32 .ensures) (c .before .before .put322 .ensures))
+
+pub put-pair-spec : {M : Type 1} → statement M
+put-pair-spec = tie.close (tie.spec (λ c κs. search needs) (λ c κs. search needs) (λ c. search needs) returns)

@@ -1,0 +1,29 @@
+-- What is promised of sheets. Each statement is a type; docs/ARCHITECTURE.md names the one term of proofs/ that has it.
+use Prim.Native.Nat.{ℕ, _<_}
+use mathlib.Core.Path.{_≡_}
+use mathlib.Core.List.{List, _++_}
+use mathlib.Core.Option.{none}
+use lib.ListN.{length}
+use Rattle.model.specs.Nets.{PNet}
+use Rattle.model.specs.Refusals.{answer}
+use Rattle.model.specs.WellFormed.{WellFormed}
+use Rattle.sheets.specs.Bytes.{byteAt}
+use Rattle.sheets.specs.Nets.{netRefusal}
+use Rattle.sheets.specs.Whole.{wholeNet, rest}
+use Rattle.sheets.specs.Decoded.{netOf}
+use Rattle.written.specs.Written.{sheetOf}
+
+-- Both directions of a sheet. A net that is written can be read back, alone and with bytes after it, which are handed back.
+pub record ReadBack (net : PNet) : Type 0 where
+  pub accepted : wholeNet (sheetOf net) ≡ none
+  pub same : netOf (sheetOf net) ≡ net
+  pub acceptedFirst : (more : List ℕ) → netRefusal (sheetOf net ++ more) ≡ none
+  pub sameFirst : (more : List ℕ) → netOf (sheetOf net ++ more) ≡ net
+  pub restAfter : (more : List ℕ) → rest (answer (netRefusal (sheetOf net ++ more))) (sheetOf net ++ more) ≡ more
+
+abbrev pub WrittenThenRead : Type 0
+WrittenThenRead = (net : PNet) → WellFormed net → ReadBack net
+
+-- An accepted sheet is the sheet of the net that was read from it: there is one sheet for each net.
+abbrev pub ReadThenWritten : Type 0
+ReadThenWritten = (s : List ℕ) → ((i : ℕ) → i < length s → byteAt s i < 256) → wholeNet s ≡ none → s ≡ sheetOf (netOf s)
