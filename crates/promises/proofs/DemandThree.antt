@@ -18,7 +18,7 @@ use Rattle.sheets.proofs.RoundTrip.{written-then-read}
 use Rattle.complement.specs.Complemented.{complementSheet, roomRefusal, complementingRefusal, outputOf}
 use Rattle.promises.specs.DemandThree.{OverBytes}
 
-complementable : (net : List ℕ) (room : ℕ) → complementingRefusal net room ≡ none → Complementable (netOf net)
+pub complementable : (net : List ℕ) (room : ℕ) → complementingRefusal net room ≡ none → Complementable (netOf net)
 unfolding complementingRefusal roomRefusal wholeNet
 complementable net room e =
     record {
