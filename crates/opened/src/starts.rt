@@ -14,7 +14,7 @@ pub struct Segment {
 }
 
 // The first arc whose mode is at least `t`, looked for from `k` on.
-pub(crate) fn first_from(s: &[u8], net: NetShape, t: usize, k: usize) -> usize
+pub fn first_from(s: &[u8], net: NetShape, t: usize, k: usize) -> usize
     requires { ⌜ Open (now s) net ⌝ }
     requires { ⌜ k ≤ net .arcs ⌝ }
     requires { ⌜ ModesBelow (netOf (now s) .arcs) t k ⌝ }

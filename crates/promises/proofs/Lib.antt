@@ -1,0 +1,3 @@
+pub mod DemandThree
+pub mod TwoRuns
+pub mod FigureOverRun

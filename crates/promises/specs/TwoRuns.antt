@@ -1,0 +1,48 @@
+-- Demand 3 of the calls: the run call over a net sheet and over its complement's, as the complementing call wrote it. One movement sheet, any bytes; two
+-- markings lent, each begun from its net's first marking.
+use Prim.Native.Nat.{ℕ}
+use mathlib.Core.Path.{_≡_}
+use mathlib.Core.List.{List}
+use mathlib.Core.Logic.{_↔_}
+use mathlib.Core.Option.{none, some}
+use lib.ListN.{getD}
+use Rattle.model.specs.declared.Mode.{Mode}
+use Rattle.model.specs.declared.Thing.the-variants.{Movements}
+use Rattle.model.specs.declared.Refusal.{Refusal}
+use Rattle.model.specs.Nets.{modeNo}
+use Rattle.model.specs.Runs.{Outcome}
+use Rattle.model.specs.Replies.{yields}
+use Rattle.model.specs.Complement.{Corresponds}
+use Rattle.model.specs.DemandThree.{becomes}
+use Rattle.sheets.specs.Whole.{wholeMovements}
+use Rattle.sheets.specs.Decoded.{netOf, movementsOf}
+use Rattle.fire.specs.Calls.{beginRefusal, begun, runOf}
+use Rattle.complement.specs.Complemented.{told, complementOf}
+use Rattle.promises.specs.DemandThree.{asWritten}
+
+module _ (net complement movements marking marking′ : List ℕ) where
+  abbrev inNet : Outcome
+  inNet = runOf net movements (begun net marking)
+
+  abbrev inComplement : Outcome
+  inComplement = runOf complement movements (begun complement marking′)
+
+  abbrev stopsAt : Mode
+  stopsAt = getD (movementsOf movements) (inNet .accepted) (modeNo 0)
+
+  pub record RunsAgree : Type 0 where
+    pub atStart : Corresponds (netOf net) (begun net marking) (begun complement marking′)
+    -- "both accept the same movements and stop at the same one", or run whole
+    pub accepted : inComplement .accepted ≡ inNet .accepted
+    pub whole : (inComplement .refusal ≡ none) ↔ (inNet .refusal ≡ none)
+    -- a movement sheet that is refused is refused alike, before the first movement
+    pub sheetRefused : (r : Refusal) → wholeMovements movements ≡ some r
+        → (inNet .refusal ≡ some r) × (inComplement .refusal ≡ some r) × (inNet .accepted ≡ 0)
+    -- "11, 12 and 13 in the net become 11 in its complement; 6 and 14 stay"
+    pub refusal : wholeMovements movements ≡ none → inComplement .refusal ≡ becomes Movements (netOf net) stopsAt (inNet .marking) (inNet .refusal)
+    pub atEnd : Corresponds (netOf net) (inNet .marking) (inComplement .marking)
+
+abbrev pub TwoRuns : Type 0
+TwoRuns = (net out : List ℕ) (n : ℕ) → told (complementOf net out) ≡ yields n
+    → (movements marking marking′ : List ℕ) → beginRefusal net marking ≡ none → beginRefusal (asWritten net out n) marking′ ≡ none
+    → RunsAgree net (asWritten net out n) movements marking marking′
