@@ -1,7 +1,4 @@
-pub mod Bounds
 pub mod ByMode
-pub mod ByNumbers
-pub mod Certifying
 pub mod Filling
 pub mod FourTests
 pub mod Leaving
@@ -9,5 +6,3 @@ pub mod Meets
 pub mod Opened
 pub mod Opening
 pub mod Promises
-pub mod Reporting
-pub mod Running

@@ -1,4 +1,4 @@
--- The calls over a net sheet and a lent marking: what each answers, and what it leaves in the marking.
+-- begin, test and fire over a net sheet and a lent marking: what each answers, and what it leaves in the marking.
 -- "Across things: net, weights, movements, then the marking (17, then pair by pair 5 before 9), then the mode (6, 11 over all pairs, 12, 13, 14)."
 use Prim.Native.Nat.{ℕ}
 use mathlib.Core.Bool.{not}
@@ -14,11 +14,8 @@ use Rattle.model.specs.First.{_▸_, onlyIf}
 use Rattle.model.specs.Nets.{pairs}
 use Rattle.model.specs.Markings.{markingRefusal}
 use Rattle.model.specs.Firing.{modeRefusal, fired}
-use Rattle.model.specs.Runs.{Outcome, goOn, run, certificateRefusal}
-use Rattle.model.specs.Refusals.{answer}
-use Rattle.sheets.specs.Whole.{wholeNet, wholeMovements}
-use Rattle.sheets.specs.Decoded.{netOf, movementsOf}
-use Rattle.fire.specs.declared.Ran.{Ran}
+use Rattle.sheets.specs.Whole.{wholeNet}
+use Rattle.sheets.specs.Decoded.{netOf}
 
 -- "Other refused calls write nothing."
 abbrev pub written : Option Refusal → List ℕ → List ℕ → List ℕ
@@ -39,18 +36,3 @@ testRefusal net marking t = wholeNet net ▸ markingRefusal (netOf net) marking 
 
 abbrev pub firedBy : List ℕ → List ℕ → Mode → List ℕ
 firedBy net marking t = written (testRefusal net marking t) (fired (netOf net) t marking) marking
-
--- run: "net, .. movements, then the marking", then movement by movement; a run refused before its first movement has accepted 0
-unfoldable pub beforeRun : List ℕ → List ℕ → List ℕ → Option Refusal
-beforeRun net movements marking = wholeNet net ▸ wholeMovements movements ▸ markingRefusal (netOf net) marking
-
-unfoldable pub runOf : List ℕ → List ℕ → List ℕ → Outcome
-runOf net movements marking = goOn (beforeRun net movements marking) 0 marking (run (netOf net) (movementsOf movements) marking)
-
--- what the caller is told of it
-abbrev pub ranOf : Outcome → Ran
-ranOf o = record { accepted = o .accepted; answer = answer (o .refusal) }
-
--- "Certificate: net, movements, 17 for the claim, the run (6, 11 to 14), 18."
-unfoldable pub certifyRefusal : List ℕ → List ℕ → List ℕ → Option Refusal
-certifyRefusal net movements claim = wholeNet net ▸ wholeMovements movements ▸ certificateRefusal (netOf net) (movementsOf movements) claim

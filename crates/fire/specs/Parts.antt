@@ -5,35 +5,32 @@ use mathlib.Core.Bool.{Bool, true, false, not}
 use mathlib.Core.Logic.{_↔_}
 use mathlib.Core.List.{List}
 use mathlib.Core.Option.{Option, none}
-use lib.ListN.{length, getD, set}
+use lib.ListN.{length, set}
 use lib.Dec.{eqb, leb}
 use Rattle.model.specs.declared.Arc.{Arc}
 use Rattle.model.specs.declared.Mode.{Mode}
 use Rattle.model.specs.declared.Why.{Why}
 use Rattle.model.specs.declared.Thing.{Thing}
 use Rattle.model.specs.declared.Thing.the-variants.{Argument}
-use Rattle.model.specs.declared.Fault.the-variants.{MarkingOutside, MarkingAboveCapacity, NotThere, NotOneEach, EndsElsewhere}
+use Rattle.model.specs.declared.Fault.the-variants.{MarkingOutside, MarkingAboveCapacity, NotThere, NotOneEach}
 use Rattle.model.specs.declared.Refusal.{Refusal}
 use Rattle.model.specs.declared.Answer.{Answer}
-use Rattle.model.specs.First.{_▸_, first, onlyIf}
+use Rattle.model.specs.First.{_▸_, onlyIf}
 use Rattle.model.specs.Refusals.{answer}
 use Rattle.model.specs.Numbers.{ℕ∞, fin, above, limit}
 use Rattle.model.specs.Rows.{Entry}
 use Rattle.model.specs.Nets.{PNet, pairs, pairNo, K, count, arcNo, row}
 use Rattle.model.specs.Markings.{Marking, markingRefusal}
 use Rattle.model.specs.Firing.{after, stops, stopped, lowestStop, rowRefusal, modeRefusal}
-use Rattle.model.specs.Runs.{Outcome, goOn, run}
-use Rattle.model.proofs.PassBelow.{passBelow}
 use Rattle.opened.specs.declared.shape.NetShape.{NetShape}
 use Rattle.opened.specs.declared.starts.Segment.{Segment}
 use Rattle.sheets.specs.Nets.{bound}
 use Rattle.sheets.specs.Checks.{wrong}
 use Rattle.sheets.specs.Decoded.{netOf, netArc}
 use Rattle.opened.specs.Shape.{Open}
-use Rattle.opened.specs.Starts.{StartsAre, ModeArcs}
+use Rattle.opened.specs.Starts.{ModeArcs}
 use Rattle.fire.specs.declared.rule.AtPair.{AtPair}
-use Rattle.fire.specs.declared.Ran.{Ran}
-use Rattle.fire.specs.Calls.{written, ranOf}
+use Rattle.fire.specs.Calls.{written}
 
 -- the count of a marking at pair p: "pair by pair 5 before 9"
 unfoldable pub countRefusal : PNet → List ℕ → ℕ → Option Refusal
@@ -125,34 +122,3 @@ argumentRefusal net m t = markingRefusal net m ▸ modeRefusal Argument net t m
 -- 17: "marking or weights not one for each pair"
 abbrev pub unequal : PNet → List ℕ → Option Refusal
 unequal net m = onlyIf (not (eqb (length m) (pairs net))) (wrong Argument (NotOneEach 0))
-
--- the number of the k-th arc of a net, below which its counts pass; and a table of them
-unfoldable pub numberOf : PNet → ℕ → ℕ
-numberOf net k =
-    let a = arcNo (net .arcs) k in
-    passBelow (a .entry) (K net (a .pair .0))
-
-pub record NumbersAre (net : PNet) (numbers : List ℕ) : Type 0 where
-  pub each : (k : ℕ) → k < length (net .arcs) → getD numbers k 0 ≡ numberOf net k
-
--- an open net with both tables of a run
-pub record Tables (s : List ℕ) (net : NetShape) (starts numbers : List ℕ) : Type 0 where
-  pub opened : Open s net
-  pub startsAre : StartsAre (netOf s .arcs) starts
-  pub numbersAre : NumbersAre (netOf s) numbers
-
--- a run with this outcome: what it tells, and what it leaves in the marking
-pub record Reports (o : Outcome) (told : Ran) (left : List ℕ) : Type 0 where
-  pub tells : told ≡ ranOf o
-  pub leaves : left ≡ o .marking
-
--- a run that is refused by o before its first movement, or has the outcome `next`
-pub record Begins (o : Option Refusal) (m : List ℕ) (next : Outcome) (told : Ran) (left : List ℕ) : Type 0 where
-  pub reports : Reports (goOn o 0 m next) told left
-
--- 18: "certificate ends at another marking", at pair p; and the run from the first marking before it
-unfoldable pub elsewhere : List ℕ → List ℕ → ℕ → Option Refusal
-elsewhere last claim p = onlyIf (not (eqb (count last p) (count claim p))) (wrong Argument (EndsElsewhere (pairNo p)))
-
-unfoldable pub endsAt : PNet → List Mode → List ℕ → Option Refusal
-endsAt net ts claim = run net ts (net .start) .refusal ▸ first (pairs net) (elsewhere (run net ts (net .start) .marking) claim)

@@ -17,7 +17,7 @@ ghost use Rattle.opened.specs.Starts.{StartsAre};
 ghost use Rattle.fire.specs.Parts.{absent, Leaves};
 
 // 6: "a movement's mode is not there".
-pub(crate) fn mode_answer(net: NetShape, thing: Thing, mode: Mode) -> Answer
+pub fn mode_answer(net: NetShape, thing: Thing, mode: Mode) -> Answer
     ensures { λ r. ⌜ r ≡ answer (absent thing (net .modes) mode) ⌝ }
 {
     if net.modes <= mode.0 as usize {

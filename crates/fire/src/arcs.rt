@@ -1,4 +1,4 @@
-// One arc of an open net at a marking: what it meets there, which test stops its mode, and the count that it writes.
+// One arc of an open net at a marking: what it meets there.
 use crate::rule::AtPair;
 use opened::shape::NetShape;
 use opened::shape::arc;
@@ -9,7 +9,7 @@ ghost use Rattle.sheets.specs.Decoded.{netOf};
 ghost use Rattle.opened.specs.Shape.{Open};
 ghost use Rattle.fire.specs.Parts.{Meets};
 
-pub(crate) fn meet(s: &[u8], net: NetShape, k: usize, marking: &[u32]) -> AtPair
+pub fn meet(s: &[u8], net: NetShape, k: usize, marking: &[u32]) -> AtPair
     requires { ⌜ Open (now s) net ⌝ }
     requires { ⌜ Marking (netOf (now s)) (now marking) ⌝ }
     requires { ⌜ k < net .arcs ⌝ }

@@ -62,13 +62,7 @@ fn find_stop(
 }
 
 // "11 over all pairs, 12, 13, 14": each is looked for before the next.
-pub(crate) fn find_refusal(
-    s: &[u8],
-    net: NetShape,
-    arcs: Segment,
-    thing: Thing,
-    marking: &[u32],
-) -> Answer
+pub fn find_refusal(s: &[u8], net: NetShape, arcs: Segment, thing: Thing, marking: &[u32]) -> Answer
     requires { ⌜ AtMode (now s) net arcs (now marking) ⌝ }
     ensures { λ r. ⌜ OfMode (now (s .entry)) arcs (λ t. r ≡ answer (refusalOf thing (netOf (now (s .entry))) (now (marking .entry)) t)) ⌝ }
 {
@@ -125,7 +119,7 @@ fn write_arc(s: &[u8], net: NetShape, k: usize, marking: &mut [u32])
 }
 
 // Fires the mode: only the pairs that its arcs name are written.
-pub(crate) fn write_arcs(s: &[u8], net: NetShape, arcs: Segment, marking: &mut [u32])
+pub fn write_arcs(s: &[u8], net: NetShape, arcs: Segment, marking: &mut [u32])
     requires { ⌜ AtMode (now s) net arcs (now marking) ⌝ }
     ensures { λ r. ⌜ OfMode (now (s .entry)) arcs (λ t. now (marking .exit) ≡ fired (netOf (now (s .entry))) t (now (marking .entry))) ⌝ }
 {

@@ -1,14 +1,13 @@
-// What a mode meets at one of its pairs: refusals 11 to 14, the count after firing, and the one number that stands for all four tests.
+// What a mode meets at one of its pairs: refusals 11 to 14, and the count after firing.
 use model::Arc;
 use model::Why;
 use sheets::numbers::above_bound;
 ghost use mathlib.Core.Path.{_≡_};
 ghost use mathlib.Core.Bool.{true};
 ghost use mathlib.Core.Logic.{_↔_};
-ghost use Prim.Native.Nat.{_≤_, min};
+ghost use Prim.Native.Nat.{_≤_};
 ghost use Rattle.model.specs.Numbers.{limit};
 ghost use Rattle.model.specs.Firing.{after, stops};
-ghost use Rattle.model.proofs.PassBelow.{passBelow};
 ghost use Rattle.sheets.specs.Nets.{bound};
 ghost use Rattle.sheets.specs.Decoded.{netArc};
 ghost use Rattle.fire.specs.Parts.{InRange, Counted, Unstopped};
@@ -63,25 +62,4 @@ pub(crate) fn is_free(at: AtPair) -> bool
         return false;
     }
     true
-}
-
-fn least(a: u32, b: u32) -> u32
-    ensures { λ r. ⌜ r ≡ min a b ⌝ }
-{
-    if a < b {
-        return a;
-    }
-    b
-}
-
-// The counts below this number, from Pre on, are those that pass all four tests.
-pub(crate) fn pass_below(arc: Arc, capacity: u32) -> u32
-    requires { ⌜ InRange arc ⌝ }
-    ensures { λ r. ⌜ r ≡ passBelow (netArc arc .entry) (bound capacity) ⌝ }
-{
-    if capacity < arc.post {
-        return 0;
-    }
-    let kept = least(arc.inhibitor, 1_000_000 + arc.pre - arc.post);
-    least(capacity - arc.post, kept) + 1
 }

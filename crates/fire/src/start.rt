@@ -7,7 +7,7 @@ ghost use lib.ListN.{length};
 ghost use Rattle.sheets.specs.Decoded.{netOf};
 ghost use Rattle.opened.specs.Shape.{Open};
 
-pub(crate) fn write_start(s: &[u8], net: NetShape, marking: &mut [u32])
+pub fn write_start(s: &[u8], net: NetShape, marking: &mut [u32])
     requires { ⌜ Open (now s) net ⌝ }
     requires { ⌜ length (now marking) ≡ net .pairs ⌝ }
     ensures { λ r. ⌜ now (marking .exit) ≡ netOf (now (s .entry)) .start ⌝ }

@@ -20,8 +20,8 @@ use Rattle.model.proofs.Firing.{accepted-there, mode-there}
 use Rattle.model.proofs.Figures.{figure-leads}
 use Rattle.model.proofs.Runs.{runs}
 use Rattle.sheets.specs.Decoded.{netOf, weightsOf, movementsOf}
-use Rattle.fire.specs.Calls.{beforeRun, runOf}
-use Rattle.fire.proofs.Promises.{runs-leave, marking-stays}
+use Rattle.run.specs.Calls.{runOf, beforeRun}
+use Rattle.run.proofs.Promises.{runs-leave, runs-keep}
 use Rattle.weigh.specs.Calls.{told, figured, figureRefusal, changeRefusal}
 use Rattle.promises.specs.FigureOverRun.{FigureOverRun}
 
@@ -71,7 +71,7 @@ module _ (net weights marking : List ℕ) (e : figureRefusal net weights marking
   unfolding figureRefusal
   after-accepted movements =
       none-then (left-none _ _ e)
-      (none-then (left-none _ _ (right-none _ _ e)) (marking-stays .runs net movements marking (right-none _ _ (right-none _ _ e))))
+      (none-then (left-none _ _ (right-none _ _ e)) (runs-keep net movements marking (right-none _ _ (right-none _ _ e))))
 
   change-accepted : (t : Mode) → t .0 < modes (netOf net) → changeRefusal net weights t ≡ none
   unfolding figureRefusal changeRefusal

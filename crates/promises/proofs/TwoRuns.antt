@@ -16,7 +16,8 @@ use Rattle.model.proofs.ComplementNet.{start-corresponds}
 use Rattle.model.proofs.Demand3.{alike, demand3}
 use Rattle.sheets.specs.Whole.{wholeNet, wholeMovements}
 use Rattle.sheets.specs.Decoded.{netOf, movementsOf}
-use Rattle.fire.specs.Calls.{beginRefusal, begun, beforeRun, runOf}
+use Rattle.fire.specs.Calls.{beginRefusal, begun}
+use Rattle.run.specs.Calls.{runOf, beforeRun}
 use Rattle.fire.proofs.Promises.{marking-stays}
 use Rattle.complement.specs.Complemented.{told, complemented, complementingRefusal, complementOf}
 use Rattle.promises.specs.DemandThree.{asWritten, WrittenComplement}

@@ -11,7 +11,7 @@ use Rattle.model.specs.Runs.{Outcome}
 use Rattle.model.specs.Figures.{sum}
 use Rattle.model.specs.Replies.{yields}
 use Rattle.sheets.specs.Decoded.{movementsOf}
-use Rattle.fire.specs.Calls.{runOf}
+use Rattle.run.specs.Calls.{runOf}
 use Rattle.weigh.specs.Calls.{told, figureRefusal, figureOf, changeOf}
 
 module _ (net weights movements marking : List ℕ) where

@@ -16,7 +16,8 @@ use Rattle.model.specs.Complement.{Corresponds}
 use Rattle.model.specs.DemandThree.{becomes}
 use Rattle.sheets.specs.Whole.{wholeMovements}
 use Rattle.sheets.specs.Decoded.{netOf, movementsOf}
-use Rattle.fire.specs.Calls.{beginRefusal, begun, runOf}
+use Rattle.fire.specs.Calls.{beginRefusal, begun}
+use Rattle.run.specs.Calls.{runOf}
 use Rattle.complement.specs.Complemented.{told, complementOf}
 use Rattle.promises.specs.DemandThree.{asWritten}
 

@@ -1,0 +1,43 @@
+-- One number for an arc decides what the four tests decide.
+use Prim.Native.Nat.{ℕ, _≤_, _<_}
+use mathlib.Core.Path.{_≡_, sym, subst}
+use mathlib.Core.Bool.{true, false}
+use mathlib.Core.List.{List}
+use mathlib.Core.Logic.{_↔_}
+use lib.Dec.{ltb}
+use native.Mathlib.Omega.{arith}
+use borrow.Author.Tests.{ltb-true, lt-ltb}
+use Rattle.model.specs.declared.Arc.{Arc}
+use Rattle.model.specs.Nets.{NetArc, PNet, K}
+use Rattle.model.proofs.PassBelow.{passBelow, pass-is}
+use Rattle.opened.specs.declared.shape.NetShape.{NetShape}
+use Rattle.sheets.specs.Nets.{bound}
+use Rattle.sheets.specs.Decoded.{netOf, netArc}
+use Rattle.opened.specs.Shape.{ArcIs}
+use Rattle.fire.specs.declared.rule.AtPair.{AtPair}
+use Rattle.fire.specs.Parts.{Unstopped, Meets, Free}
+use Rattle.run.specs.Parts.{numberOf}
+use Rattle.fire.proofs.FourTests.{clash}
+use Rattle.fire.proofs.Meets.{meets-as}
+
+-- the number of an arc that was read is that of the arc of the net
+pub number-is : {s : List ℕ} {net : NetShape} {k : ℕ} {a : Arc} (x : ℕ) {r : ℕ} → ArcIs s net k a → bound x ≡ K (netOf s) (a .pair .0)
+    → r ≡ passBelow (netArc a .entry) (bound x) → r ≡ numberOf (netOf s) k
+unfolding numberOf
+number-is {s} x {r} arc e q = subst (λ (b : NetArc). r ≡ passBelow (b .entry) (K (netOf s) (b .pair .0))) (arc .is) (rw e at q)
+
+module _ {net : PNet} {m : List ℕ} {k : ℕ} {at : AtPair} (h : Meets net m k at) where
+  decides : Free net m k ↔ ((at .arc .pre ≤ at .count) × (at .count < numberOf net k))
+  unfolding Free numberOf
+  decides =
+      meets-as h (λ e k m. Unstopped e k m ↔ ((at .arc .pre ≤ at .count) × (at .count < passBelow e k)))
+      (pass-is (netArc (at .arc) .entry) (bound (at .capacity)) (at .count) (h .counted .arc .post))
+
+  pub below-pre : at .count < at .arc .pre → (false ≡ true) ↔ Free net m k
+  below-pre l = (λ z. clash (sym z), λ free. absurd (omega (arith, decides .0 free)))
+
+  pub below-number : (n : ℕ) → n ≡ numberOf net k → at .arc .pre ≤ at .count → (ltb (at .count) n ≡ true) ↔ Free net m k
+  below-number n e l = (
+    λ t. decides .1 (l, rw (← e) (ltb-true (at .count) n t)),
+    λ free. lt-ltb (at .count) n (rw e (decides .0 free .1)),
+  )

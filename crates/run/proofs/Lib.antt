@@ -1,0 +1,6 @@
+pub mod Bounds
+pub mod ByNumbers
+pub mod Certifying
+pub mod Promises
+pub mod Reporting
+pub mod Running

@@ -1,0 +1,52 @@
+-- The first marking is accepted; the run stops, or the marking that it left is compared.
+use borrow.Author.Needs.{needs}
+use mathlib.Core.Path.{_∙_}
+use Rattle.opened.proofs.Shapes.{sizes}
+use Rattle.run.proofs.Certifying.{ends-stopped, ends-compared}
+use Rattle.run.proofs.certificate.end_answer.Statement.{statement}
+use Rattle.run.proofs.certificate.end_answer.Tie as tie
+
+run-sheet-requires : tie.Need-run-sheet-requires
+run-sheet-requires c κs =
+    let wrote = c .before .before .before in
+    let start = wrote .before .before .before .before .before .before in
+    (start .pre .0, (start .pre .1 .0, rw (wrote .write-start .ensures) (sizes (start .pre .0) .wellFormed .start)))
+
+returns : tie.Need-returns
+returns c =
+    let ran = c .before .before .before .before in
+    let wrote = ran .before .before .before .before in
+    ends-stopped _ _ _ (wrote .write-start .ensures) (ran .run-sheet .ensures) (c .enum-told .given .1)
+
+compare-requires : tie.Need-compare-requires
+compare-requires c κs =
+    let ran = c .before .before .before .before .before in
+    let wrote = ran .before .before .before .before in
+    let start = wrote .before .before .before .before .before .before in (
+      ran .run-sheet .kept .1 .1 .1 .0 ∙ wrote .write-start .kept .1 .1 .0 ∙ start .pre .1 .1 .1,
+      start .pre .1 .1 .0,
+      sizes (start .pre .0) .pairsWithin,
+    )
+
+returns-2 : tie.Need-returns-2
+returns-2 c =
+    let told = c .before .before in
+    let ran = told .before .before .before .before in
+    let wrote = ran .before .before .before .before in
+    let start = wrote .before .before .before .before .before .before in
+    ends-compared _ _ _ (wrote .write-start .ensures) (ran .run-sheet .ensures) (told .enum-told2 .given .1)
+    (rw (sizes (start .pre .0) .pairs) at (c .compare .ensures))
+
+pub end-answer-spec : {M : Type 1} → statement M
+end-answer-spec =
+    tie.close
+    (tie.spec
+    (λ c κs. search needs)
+    run-sheet-requires
+    (λ c. search needs)
+    (λ c. search needs)
+    returns
+    (λ c. search needs)
+    compare-requires
+    (λ c. search needs)
+    returns-2)

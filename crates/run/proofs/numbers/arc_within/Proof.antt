@@ -1,0 +1,25 @@
+-- Below Pre, or tested by the arc's number.
+use borrow.Author.Needs.{needs}
+use native.Mathlib.Omega.{arith}
+use Rattle.opened.proofs.Shapes.{sizes}
+use Rattle.run.proofs.ByNumbers.{below-pre, below-number}
+use Rattle.run.proofs.numbers.arc_within.Statement.{statement}
+use Rattle.run.proofs.numbers.arc_within.Tie as tie
+
+returns : tie.Need-returns
+returns c = below-pre (c .before .before .meet .ensures) (c .if1 .taken)
+
+mul-result : tie.Need-mul-result
+mul-result c = omega (arith, sizes (c .before .before .before .before .before .pre .0) .arcsWithin)
+
+element-copy-out-result : tie.Need-element-copy-out-result
+element-copy-out-result c = omega (arith, sizes (c .before .before .before .before .before .pre .0) .arcsWithin)
+
+returns-2 : tie.Need-returns-2
+returns-2 c =
+    let test = c .before .before in
+    let pre = test .before .before .before .before .before .pre in
+    below-number (test .before .before .meet .ensures) _ (pre .1 .0 .each _ (rw (sizes (pre .0) .arcs) at (pre .1 .1 .1))) (test .if1 .left)
+
+pub arc-within-spec : {M : Type 1} → statement M
+arc-within-spec = tie.close (tie.spec (λ c κs. search needs) returns mul-result element-copy-out-result returns-2)

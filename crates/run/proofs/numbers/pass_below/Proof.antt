@@ -1,0 +1,19 @@
+-- The least of the three highest counts, and one more; or never.
+use borrow.Author.Needs.{needs}
+use mathlib.Core.Path.{sym}
+use Rattle.run.proofs.Bounds.{never-passes, passes-below}
+use Rattle.run.proofs.numbers.pass_below.Statement.{statement}
+use Rattle.run.proofs.numbers.pass_below.Tie as tie
+
+returns : tie.Need-returns
+returns c = sym (never-passes _ _ (c .before .before .pre) (c .if1 .taken))
+
+returns-2 : tie.Need-returns-2
+returns-2 c =
+    let test = c .before .before .before .before .before in
+    rw (c .least2 .ensures, c .before .before .least .ensures) (sym (passes-below _ _ (test .before .before .pre) (test .if1 .left)))
+
+pub pass-below-spec : {M : Type 1} → statement M
+pass-below-spec =
+    tie.close
+    (tie.spec returns (λ c. search needs) (λ c. search needs) (λ c κs. search needs) (λ c κs. search needs) (λ c. search needs) returns-2)

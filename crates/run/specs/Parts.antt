@@ -1,0 +1,54 @@
+-- What the private functions and the shared parts of this crate speak of, beyond the calls.
+use Prim.Native.Nat.{ℕ, _<_}
+use mathlib.Core.Path.{_≡_}
+use mathlib.Core.Bool.{not}
+use mathlib.Core.List.{List}
+use mathlib.Core.Option.{Option}
+use lib.ListN.{length, getD}
+use lib.Dec.{eqb}
+use Rattle.model.specs.declared.Mode.{Mode}
+use Rattle.model.specs.declared.Thing.the-variants.{Argument}
+use Rattle.model.specs.declared.Fault.the-variants.{EndsElsewhere}
+use Rattle.model.specs.declared.Refusal.{Refusal}
+use Rattle.model.specs.First.{_▸_, first, onlyIf}
+use Rattle.model.specs.Nets.{PNet, pairs, pairNo, K, count, arcNo}
+use Rattle.model.specs.Runs.{Outcome, goOn, run}
+use Rattle.model.proofs.PassBelow.{passBelow}
+use Rattle.opened.specs.declared.shape.NetShape.{NetShape}
+use Rattle.sheets.specs.Checks.{wrong}
+use Rattle.sheets.specs.Decoded.{netOf}
+use Rattle.opened.specs.Shape.{Open}
+use Rattle.opened.specs.Starts.{StartsAre}
+use Rattle.run.specs.declared.Ran.{Ran}
+use Rattle.run.specs.Calls.{ranOf}
+
+-- the number of the k-th arc of a net, below which its counts pass; and a table of them
+unfoldable pub numberOf : PNet → ℕ → ℕ
+numberOf net k =
+    let a = arcNo (net .arcs) k in
+    passBelow (a .entry) (K net (a .pair .0))
+
+pub record NumbersAre (net : PNet) (numbers : List ℕ) : Type 0 where
+  pub each : (k : ℕ) → k < length (net .arcs) → getD numbers k 0 ≡ numberOf net k
+
+-- an open net with both tables of a run
+pub record Tables (s : List ℕ) (net : NetShape) (starts numbers : List ℕ) : Type 0 where
+  pub opened : Open s net
+  pub startsAre : StartsAre (netOf s .arcs) starts
+  pub numbersAre : NumbersAre (netOf s) numbers
+
+-- a run with this outcome: what it tells, and what it leaves in the marking
+pub record Reports (o : Outcome) (told : Ran) (left : List ℕ) : Type 0 where
+  pub tells : told ≡ ranOf o
+  pub leaves : left ≡ o .marking
+
+-- a run that is refused by o before its first movement, or has the outcome `next`
+pub record Begins (o : Option Refusal) (m : List ℕ) (next : Outcome) (told : Ran) (left : List ℕ) : Type 0 where
+  pub reports : Reports (goOn o 0 m next) told left
+
+-- 18: "certificate ends at another marking", at pair p; and the run from the first marking before it
+unfoldable pub elsewhere : List ℕ → List ℕ → ℕ → Option Refusal
+elsewhere last claim p = onlyIf (not (eqb (count last p) (count claim p))) (wrong Argument (EndsElsewhere (pairNo p)))
+
+unfoldable pub endsAt : PNet → List Mode → List ℕ → Option Refusal
+endsAt net ts claim = run net ts (net .start) .refusal ▸ first (pairs net) (elsewhere (run net ts (net .start) .marking) claim)

@@ -1,0 +1,109 @@
+// A list of movements: mode by mode, up to the first that is refused.
+use crate::Ran;
+use crate::numbers::arc_numbers;
+use crate::numbers::fire_within;
+use fire::advance::mode_answer;
+use model::Answer;
+use model::Mode;
+use model::Thing;
+use opened::listed::mode_at;
+use opened::listed::movements_at;
+use opened::shape::NetShape;
+use opened::starts::arcs_of;
+use opened::starts::starts;
+use sheets::movements::movement_count;
+ghost use mathlib.Core.Path.{_≡_};
+ghost use mathlib.Core.Option.{none};
+ghost use Rattle.model.specs.declared.Thing.the-variants.{Movements};
+ghost use Rattle.model.specs.Markings.{Marking};
+ghost use Rattle.model.specs.Firing.{modeRefusal, fired};
+ghost use Rattle.model.specs.Runs.{run};
+ghost use Rattle.sheets.specs.Decoded.{netOf, movementsOf};
+ghost use Rattle.sheets.specs.Movements.{movementsRefusal};
+ghost use Rattle.opened.specs.Shape.{Open};
+ghost use Rattle.sheets.specs.Listed.{modesFrom, ModesStand};
+ghost use Rattle.fire.specs.Parts.{Leaves};
+ghost use Rattle.run.specs.Parts.{Tables, Reports};
+
+// One movement, tested by the numbers of its mode's arcs.
+fn step(
+    s: &[u8],
+    net: NetShape,
+    starts: &[u16; 257],
+    numbers: &[u32; 2048],
+    mode: Mode,
+    marking: &mut [u32],
+) -> Answer
+    requires { ⌜ Tables (now s) net (now starts) (now numbers) ⌝ }
+    requires { ⌜ Marking (netOf (now s)) (now marking) ⌝ }
+    ensures { λ r. ⌜ Leaves (modeRefusal Movements (netOf (now (s .entry))) mode (now (marking .entry))) (fired (netOf (now (s .entry))) mode (now (marking .entry))) (now (marking .entry)) r (now (marking .exit)) ⌝ }
+{
+    let there = mode_answer(net, Thing::Movements, mode);
+    if let Answer::Refused(_) = there {
+        return there;
+    }
+    let arcs = arcs_of(s, net, starts, mode);
+    fire_within(s, net, numbers, arcs, marking)
+}
+
+// The inner part of a run: `count` mode numbers that stand in a run of bytes from `start` on.
+pub fn run_modes(
+    s: &[u8],
+    net: NetShape,
+    starts: &[u16; 257],
+    numbers: &[u32; 2048],
+    movements: &[u8],
+    start: usize,
+    count: usize,
+    marking: &mut [u32],
+) -> Ran
+    requires { ⌜ Tables (now s) net (now starts) (now numbers) ⌝ }
+    requires { ⌜ ModesStand (now movements) start count ⌝ }
+    requires { ⌜ Marking (netOf (now s)) (now marking) ⌝ }
+    ensures { λ r. ⌜ Reports (run (netOf (now (s .entry))) (modesFrom (now (movements .entry)) start count) (now (marking .entry))) r (now (marking .exit)) ⌝ }
+{
+    let mut k = 0;
+    while k < count {
+        let answer = step(
+            s,
+            net,
+            starts,
+            numbers,
+            mode_at(movements, start, k),
+            marking,
+        );
+        if let Answer::Refused(_) = answer {
+            return Ran {
+                accepted: k,
+                answer,
+            };
+        }
+        k += 1;
+    }
+    Ran {
+        accepted: k,
+        answer: Answer::Accepted,
+    }
+}
+
+// The whole list of a movement sheet that was accepted, with both tables made once.
+pub(crate) fn run_sheet(s: &[u8], net: NetShape, movements: &[u8], marking: &mut [u32]) -> Ran
+    requires { ⌜ Open (now s) net ⌝ }
+    requires { ⌜ movementsRefusal (now movements) ≡ none ⌝ }
+    requires { ⌜ Marking (netOf (now s)) (now marking) ⌝ }
+    ensures { λ r. ⌜ Reports (run (netOf (now (s .entry))) (movementsOf (now (movements .entry))) (now (marking .entry))) r (now (marking .exit)) ⌝ }
+{
+    let starts = starts(s, net);
+    let numbers = arc_numbers(s, net);
+    let count = movement_count(movements);
+    run_modes(
+        s,
+        net,
+        &starts,
+        &numbers,
+        movements,
+        movements_at(),
+        count,
+        marking,
+    )
+}

@@ -1,0 +1,126 @@
+// One number for each arc of a net, made once for a run: a count passes all four tests when it is at least Pre and below that number.
+use fire::arcs::meet;
+use fire::mode::find_refusal;
+use fire::mode::write_arcs;
+use model::Answer;
+use model::Arc;
+use model::Thing;
+use opened::shape::NetShape;
+use opened::shape::arc;
+use opened::shape::capacity;
+use opened::starts::Segment;
+ghost use mathlib.Core.Path.{_≡_};
+ghost use mathlib.Core.Bool.{true};
+ghost use mathlib.Core.Logic.{_↔_};
+ghost use Prim.Native.Nat.{_<_, min};
+ghost use Rattle.model.specs.declared.Thing.the-variants.{Movements};
+ghost use Rattle.model.specs.Markings.{Marking};
+ghost use Rattle.model.specs.Firing.{fired};
+ghost use Rattle.model.proofs.PassBelow.{passBelow};
+ghost use Rattle.sheets.specs.Nets.{bound};
+ghost use Rattle.sheets.specs.Decoded.{netOf, netArc};
+ghost use Rattle.opened.specs.Shape.{Open};
+ghost use Rattle.fire.specs.Parts.{InRange, Free, AtMode, OfMode, refusalOf, Decides, Leaves};
+ghost use Rattle.run.specs.Parts.{numberOf, NumbersAre};
+
+fn least(a: u32, b: u32) -> u32
+    ensures { λ r. ⌜ r ≡ min a b ⌝ }
+{
+    if a < b {
+        return a;
+    }
+    b
+}
+
+// The counts below this number, from Pre on, are those that pass all four tests.
+fn pass_below(arc: Arc, capacity: u32) -> u32
+    requires { ⌜ InRange arc ⌝ }
+    ensures { λ r. ⌜ r ≡ passBelow (netArc arc .entry) (bound capacity) ⌝ }
+{
+    if capacity < arc.post {
+        return 0;
+    }
+    let kept = least(arc.inhibitor, 1_000_000 + arc.pre - arc.post);
+    least(capacity - arc.post, kept) + 1
+}
+
+fn arc_number(s: &[u8], net: NetShape, k: usize) -> u32
+    requires { ⌜ Open (now s) net ⌝ }
+    requires { ⌜ k < net .arcs ⌝ }
+    ensures { λ r. ⌜ r ≡ numberOf (netOf (now (s .entry))) k ⌝ }
+{
+    let arc = arc(s, net, k);
+    let pair = arc.pair;
+    pass_below(arc, capacity(s, net, pair))
+}
+
+pub fn arc_numbers(s: &[u8], net: NetShape) -> [u32; 2048]
+    requires { ⌜ Open (now s) net ⌝ }
+    ensures { λ r. ⌜ NumbersAre (netOf (now (s .entry))) r ⌝ }
+{
+    let arcs = net.arcs;
+    let mut numbers = [0u32; 2048];
+    let mut k = 0;
+    while k < arcs {
+        numbers[k] = arc_number(s, net, k);
+        k += 1;
+    }
+    numbers
+}
+
+fn arc_within(s: &[u8], net: NetShape, numbers: &[u32; 2048], k: usize, marking: &[u32]) -> bool
+    requires { ⌜ Open (now s) net ⌝ }
+    requires { ⌜ NumbersAre (netOf (now s)) (now numbers) ⌝ }
+    requires { ⌜ Marking (netOf (now s)) (now marking) ⌝ }
+    requires { ⌜ k < net .arcs ⌝ }
+    ensures { λ r. ⌜ (r ≡ true) ↔ Free (netOf (now (s .entry))) (now (marking .entry)) k ⌝ }
+{
+    let at = meet(s, net, k, marking);
+    if at.count < at.arc.pre {
+        return false;
+    }
+    at.count < numbers[k]
+}
+
+// One pass over the arcs of a mode, each tested by its number.
+fn arcs_within(
+    s: &[u8],
+    net: NetShape,
+    numbers: &[u32; 2048],
+    arcs: Segment,
+    marking: &[u32],
+) -> bool
+    requires { ⌜ NumbersAre (netOf (now s)) (now numbers) ⌝ }
+    requires { ⌜ AtMode (now s) net arcs (now marking) ⌝ }
+    ensures { λ r. ⌜ OfMode (now (s .entry)) arcs (λ t. Decides r (netOf (now (s .entry))) (now (marking .entry)) t) ⌝ }
+{
+    let start = arcs.start;
+    let count = arcs.count;
+    let mut i = 0;
+    while i < count {
+        if !arc_within(s, net, numbers, start + i, marking) {
+            return false;
+        }
+        i += 1;
+    }
+    true
+}
+
+// Tested by the numbers first, then written; only a refused movement is looked through again.
+pub(crate) fn fire_within(
+    s: &[u8],
+    net: NetShape,
+    numbers: &[u32; 2048],
+    arcs: Segment,
+    marking: &mut [u32],
+) -> Answer
+    requires { ⌜ NumbersAre (netOf (now s)) (now numbers) ⌝ }
+    requires { ⌜ AtMode (now s) net arcs (now marking) ⌝ }
+    ensures { λ r. ⌜ OfMode (now (s .entry)) arcs (λ t. Leaves (refusalOf Movements (netOf (now (s .entry))) (now (marking .entry)) t) (fired (netOf (now (s .entry))) t (now (marking .entry))) (now (marking .entry)) r (now (marking .exit))) ⌝ }
+{
+    if !arcs_within(s, net, numbers, arcs, marking) {
+        return find_refusal(s, net, arcs, Thing::Movements, marking);
+    }
+    write_arcs(s, net, arcs, marking);
+    Answer::Accepted
+}
