@@ -5,3 +5,4 @@ pub mod Places
 pub mod Pairs
 pub mod Sizes
 pub mod Puts
+pub mod Contracts

@@ -22,7 +22,8 @@ use opened::shape::NetShape;
 ghost use mathlib.Core.Path.{_≡_};
 ghost use lib.ListN.{length};
 ghost use Rattle.opened.specs.Shape.{Open};
-ghost use Rattle.complement.specs.Complemented.{complementSheet, roomRefusal, complemented, output, complementOf, outputOf};
+ghost use Rattle.complement.specs.Complemented.{complementSheet, roomRefusal, complemented, output};
+ghost use Rattle.complement.specs.Contracts.{ComplementAllows};
 
 // How many bytes were written, or why none.
 pub enum Complemented {
@@ -46,8 +47,7 @@ fn complement_open(s: &[u8], net: NetShape, out: &mut [u8]) -> Complemented
 
 // Writes the sheet of the net's complement from the first byte of `out` on.
 pub fn complement(net: &[u8], out: &mut [u8]) -> Complemented
-    ensures { λ r. ⌜ r ≡ complementOf (now (net .entry)) (now (out .entry)) ⌝ }
-    ensures { λ _. ⌜ now (out .exit) ≡ outputOf (now (net .entry)) (now (out .entry)) ⌝ }
+    ensures { λ r. ⌜ ComplementAllows (now (net .entry)) (now (out .entry)) (r, now (out .exit)) ⌝ }
 {
     let opened = open_net(net);
     match opened {

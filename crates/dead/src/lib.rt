@@ -25,8 +25,9 @@ ghost use Rattle.model.specs.Dead.{kills as killsHere, isDead, firstDead};
 ghost use Rattle.sheets.specs.Decoded.{netOf, netArc};
 ghost use Rattle.opened.specs.Shape.{Open};
 ghost use Rattle.opened.specs.Starts.{StartsAre, ModeArcs};
-ghost use Rattle.dead.specs.IsDead.{deadness, deadnessOf};
-ghost use Rattle.dead.specs.FirstDead.{named, firstDeadOf};
+ghost use Rattle.dead.specs.IsDead.{deadness};
+ghost use Rattle.dead.specs.FirstDead.{named};
+ghost use Rattle.dead.specs.Contracts.{IsDeadAllows, FirstDeadAllows};
 
 // "gives yes or no", or why not.
 pub enum Deadness {
@@ -128,7 +129,7 @@ fn mode_answer(s: &[u8], net: NetShape, mode: Mode) -> Deadness
 }
 
 pub fn is_dead(net: &[u8], mode: Mode) -> Deadness
-    ensures { λ r. ⌜ r ≡ deadnessOf (now (net .entry)) mode ⌝ }
+    ensures { λ r. ⌜ IsDeadAllows (now (net .entry)) mode r ⌝ }
 {
     let opened = open_net(net);
     match opened {
@@ -138,7 +139,7 @@ pub fn is_dead(net: &[u8], mode: Mode) -> Deadness
 }
 
 pub fn first_dead(net: &[u8]) -> FirstDead
-    ensures { λ r. ⌜ r ≡ firstDeadOf (now (net .entry)) ⌝ }
+    ensures { λ r. ⌜ FirstDeadAllows (now (net .entry)) r ⌝ }
 {
     let opened = open_net(net);
     match opened {

@@ -19,8 +19,8 @@ ghost use Rattle.model.specs.Refusals.{answer};
 ghost use Rattle.model.specs.Firing.{fired};
 ghost use Rattle.sheets.specs.Decoded.{netOf};
 ghost use Rattle.opened.specs.Shape.{Open};
-ghost use Rattle.fire.specs.Calls.{beginRefusal, begun, testRefusal, firedBy};
 ghost use Rattle.fire.specs.Parts.{unequal, argumentRefusal, Leaves};
+ghost use Rattle.fire.specs.Contracts.{BeginAllows, TestAllows, FireAllows};
 
 pub mod advance;
 pub mod arcs;
@@ -42,8 +42,7 @@ fn begin_open(s: &[u8], net: NetShape, marking: &mut [u32]) -> Answer
 
 // Writes the net's first marking.
 pub fn begin(net: &[u8], marking: &mut [u32]) -> Answer
-    ensures { λ r. ⌜ r ≡ answer (beginRefusal (now (net .entry)) (now (marking .entry))) ⌝ }
-    ensures { λ r. ⌜ now (marking .exit) ≡ begun (now (net .entry)) (now (marking .entry)) ⌝ }
+    ensures { λ r. ⌜ BeginAllows (now (net .entry)) (now (marking .entry)) (r, now (marking .exit)) ⌝ }
 {
     let opened = open_net(net);
     match opened {
@@ -69,7 +68,7 @@ fn test_open(s: &[u8], net: NetShape, marking: &[u32], mode: Mode) -> Answer
 
 // Whether the mode may fire.
 pub fn test(net: &[u8], marking: &[u32], mode: Mode) -> Answer
-    ensures { λ r. ⌜ r ≡ answer (testRefusal (now (net .entry)) (now (marking .entry)) mode) ⌝ }
+    ensures { λ r. ⌜ TestAllows (now (net .entry)) (now (marking .entry)) mode r ⌝ }
 {
     let opened = open_net(net);
     match opened {
@@ -96,8 +95,7 @@ fn fire_open(s: &[u8], net: NetShape, marking: &mut [u32], mode: Mode) -> Answer
 
 // Fires the mode where it may, and writes nothing where it may not.
 pub fn fire(net: &[u8], marking: &mut [u32], mode: Mode) -> Answer
-    ensures { λ r. ⌜ r ≡ answer (testRefusal (now (net .entry)) (now (marking .entry)) mode) ⌝ }
-    ensures { λ r. ⌜ now (marking .exit) ≡ firedBy (now (net .entry)) (now (marking .entry)) mode ⌝ }
+    ensures { λ r. ⌜ FireAllows (now (net .entry)) (now (marking .entry)) mode (r, now (marking .exit)) ⌝ }
 {
     let opened = open_net(net);
     match opened {

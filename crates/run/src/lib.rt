@@ -16,8 +16,8 @@ ghost use Rattle.model.specs.Runs.{run as modelRun, certificateRefusal};
 ghost use Rattle.sheets.specs.Whole.{wholeMovements};
 ghost use Rattle.sheets.specs.Decoded.{netOf, movementsOf};
 ghost use Rattle.opened.specs.Shape.{Open};
-ghost use Rattle.run.specs.Calls.{runOf, ranOf, certifyRefusal};
 ghost use Rattle.run.specs.Parts.{Begins};
+ghost use Rattle.run.specs.Contracts.{RunAllows, CertifyAllows};
 
 mod certificate;
 pub mod movements;
@@ -52,8 +52,7 @@ fn run_open(s: &[u8], net: NetShape, movements: &[u8], marking: &mut [u32]) -> R
 
 // Runs a list of movements from the counts found, up to the first that is refused.
 pub fn run(net: &[u8], movements: &[u8], marking: &mut [u32]) -> Ran
-    ensures { λ r. ⌜ r ≡ ranOf (runOf (now (net .entry)) (now (movements .entry)) (now (marking .entry))) ⌝ }
-    ensures { λ r. ⌜ now (marking .exit) ≡ runOf (now (net .entry)) (now (movements .entry)) (now (marking .entry)) .marking ⌝ }
+    ensures { λ r. ⌜ RunAllows (now (net .entry)) (now (movements .entry)) (now (marking .entry)) (r, now (marking .exit)) ⌝ }
 {
     let opened = open_net(net);
     match opened {
@@ -78,7 +77,7 @@ fn certify_open(s: &[u8], net: NetShape, movements: &[u8], claim: &[u32]) -> Ans
 
 // Whether a list of movements leads from the net's first marking to the claim.
 pub fn certify(net: &[u8], movements: &[u8], claim: &[u32]) -> Answer
-    ensures { λ r. ⌜ r ≡ answer (certifyRefusal (now (net .entry)) (now (movements .entry)) (now (claim .entry))) ⌝ }
+    ensures { λ r. ⌜ CertifyAllows (now (net .entry)) (now (movements .entry)) (now (claim .entry)) r ⌝ }
 {
     let opened = open_net(net);
     match opened {

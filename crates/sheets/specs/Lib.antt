@@ -10,3 +10,4 @@ pub mod Held
 pub mod Accepted
 pub mod RefusalTables
 pub mod Listed
+pub mod Contracts

@@ -9,7 +9,8 @@ ghost use mathlib.Core.Path.{_≡_};
 ghost use Rattle.model.specs.Refusals.{answer};
 ghost use Rattle.sheets.specs.Layout.{movementCount};
 ghost use Rattle.sheets.specs.Held.{Headed};
-ghost use Rattle.sheets.specs.Movements.{movementsRefusal, movementFields};
+ghost use Rattle.sheets.specs.Movements.{movementFields};
+ghost use Rattle.sheets.specs.Contracts.{ReadMovementsAllows};
 
 // How many whole mode numbers stand in the sheet.
 pub fn movement_count(s: &[u8]) -> usize
@@ -35,7 +36,7 @@ fn movement_fields(s: &[u8]) -> Answer
 }
 
 pub fn read_movements(s: &[u8]) -> Answer
-    ensures { λ r. ⌜ r ≡ answer (movementsRefusal (now (s .entry))) ⌝ }
+    ensures { λ r. ⌜ ReadMovementsAllows (now (s .entry)) r ⌝ }
 {
     let head = read_head(s, Thing::Movements);
     if let Answer::Refused(_) = head {

@@ -11,7 +11,8 @@ ghost use mathlib.Core.Path.{_≡_};
 ghost use Rattle.model.specs.Refusals.{answer};
 ghost use Rattle.sheets.specs.Layout.{pairCount, modeCount, pairsAt};
 ghost use Rattle.sheets.specs.Held.{Headed, Counted};
-ghost use Rattle.sheets.specs.Nets.{pairAndArcFields, netFields, netRefusal};
+ghost use Rattle.sheets.specs.Nets.{pairAndArcFields, netFields};
+ghost use Rattle.sheets.specs.Contracts.{ReadNetAllows};
 
 pub fn pair_count(s: &[u8]) -> usize
     requires { ⌜ Counted (now s) ⌝ }
@@ -60,7 +61,7 @@ fn net_fields(s: &[u8]) -> Answer
 }
 
 pub fn read_net(s: &[u8]) -> Answer
-    ensures { λ r. ⌜ r ≡ answer (netRefusal (now (s .entry))) ⌝ }
+    ensures { λ r. ⌜ ReadNetAllows (now (s .entry)) r ⌝ }
 {
     let head = read_head(s, Thing::Net);
     if let Answer::Refused(_) = head {

@@ -16,7 +16,8 @@ ghost use Rattle.model.specs.First.{first};
 ghost use Rattle.model.specs.Refusals.{answer};
 ghost use Rattle.sheets.specs.Layout.{weightAt};
 ghost use Rattle.sheets.specs.Held.{Headed};
-ghost use Rattle.sheets.specs.Weights.{signed, weightRefusal, weightFields, weightsRefusal};
+ghost use Rattle.sheets.specs.Weights.{signed, weightRefusal, weightFields};
+ghost use Rattle.sheets.specs.Contracts.{ReadWeightsAllows};
 
 // Outside -1,000,000..1,000,000, as two's complement.
 fn too_heavy(x: u32) -> bool
@@ -79,7 +80,7 @@ fn weight_fields(s: &[u8], pairs: usize) -> Answer
 
 // The reader is also given the net's pair count, for 17.
 pub fn read_weights(s: &[u8], pairs: usize) -> Answer
-    ensures { λ r. ⌜ r ≡ answer (weightsRefusal pairs (now (s .entry))) ⌝ }
+    ensures { λ r. ⌜ ReadWeightsAllows (now (s .entry)) pairs r ⌝ }
 {
     let head = read_head(s, Thing::Weights);
     if let Answer::Refused(_) = head {

@@ -10,10 +10,8 @@ use model::Thing;
 ghost use mathlib.Core.Path.{_≡_};
 ghost use Rattle.model.specs.Refusals.{answer};
 ghost use Rattle.sheets.specs.Held.{Headed};
-ghost use Rattle.sheets.specs.Movements.{movementsRefusal};
-ghost use Rattle.sheets.specs.Nets.{netRefusal};
-ghost use Rattle.sheets.specs.Weights.{weightsRefusal};
-ghost use Rattle.sheets.specs.Whole.{bytesAfter, wholeNet, wholeWeights, wholeMovements, rest};
+ghost use Rattle.sheets.specs.Whole.{bytesAfter, rest};
+ghost use Rattle.sheets.specs.Contracts.{WholeNetAllows, WholeWeightsAllows, WholeMovementsAllows, AfterNetAllows, AfterWeightsAllows, AfterMovementsAllows};
 
 fn bytes_after(s: &[u8], thing: Thing) -> Answer
     requires { ⌜ Headed (now s) ⌝ }
@@ -27,7 +25,7 @@ fn bytes_after(s: &[u8], thing: Thing) -> Answer
 }
 
 pub fn whole_net(s: &[u8]) -> Answer
-    ensures { λ r. ⌜ r ≡ answer (wholeNet (now (s .entry))) ⌝ }
+    ensures { λ r. ⌜ WholeNetAllows (now (s .entry)) r ⌝ }
 {
     let sheet = read_net(s);
     if let Answer::Refused(_) = sheet {
@@ -37,7 +35,7 @@ pub fn whole_net(s: &[u8]) -> Answer
 }
 
 pub fn whole_weights(s: &[u8], pairs: usize) -> Answer
-    ensures { λ r. ⌜ r ≡ answer (wholeWeights pairs (now (s .entry))) ⌝ }
+    ensures { λ r. ⌜ WholeWeightsAllows (now (s .entry)) pairs r ⌝ }
 {
     let sheet = read_weights(s, pairs);
     if let Answer::Refused(_) = sheet {
@@ -47,7 +45,7 @@ pub fn whole_weights(s: &[u8], pairs: usize) -> Answer
 }
 
 pub fn whole_movements(s: &[u8]) -> Answer
-    ensures { λ r. ⌜ r ≡ answer (wholeMovements (now (s .entry))) ⌝ }
+    ensures { λ r. ⌜ WholeMovementsAllows (now (s .entry)) r ⌝ }
 {
     let sheet = read_movements(s);
     if let Answer::Refused(_) = sheet {
@@ -69,19 +67,19 @@ fn after(s: &[u8], sheet: Answer) -> &[u8]
 }
 
 pub fn after_net(s: &[u8]) -> &[u8]
-    ensures { λ r. ⌜ now r ≡ rest (answer (netRefusal (now (s .entry)))) (now (s .entry)) ⌝ }
+    ensures { λ r. ⌜ AfterNetAllows (now (s .entry)) (now r) ⌝ }
 {
     after(s, read_net(s))
 }
 
 pub fn after_weights(s: &[u8], pairs: usize) -> &[u8]
-    ensures { λ r. ⌜ now r ≡ rest (answer (weightsRefusal pairs (now (s .entry)))) (now (s .entry)) ⌝ }
+    ensures { λ r. ⌜ AfterWeightsAllows (now (s .entry)) pairs (now r) ⌝ }
 {
     after(s, read_weights(s, pairs))
 }
 
 pub fn after_movements(s: &[u8]) -> &[u8]
-    ensures { λ r. ⌜ now r ≡ rest (answer (movementsRefusal (now (s .entry)))) (now (s .entry)) ⌝ }
+    ensures { λ r. ⌜ AfterMovementsAllows (now (s .entry)) (now r) ⌝ }
 {
     after(s, read_movements(s))
 }

@@ -25,7 +25,8 @@ ghost use Rattle.model.specs.Figures.{figure as figureAt, change as changeBy};
 ghost use Rattle.sheets.specs.Whole.{wholeWeights};
 ghost use Rattle.sheets.specs.Decoded.{netOf, weightsOf};
 ghost use Rattle.opened.specs.Shape.{Open};
-ghost use Rattle.weigh.specs.Calls.{figured, figureOf, changeOf};
+ghost use Rattle.weigh.specs.Calls.{figured};
+ghost use Rattle.weigh.specs.Contracts.{FigureAllows, ChangeAllows};
 
 // A figure or a change in kilograms, or why there is none.
 pub enum Figured {
@@ -66,7 +67,7 @@ fn change_answer(s: &[u8], net: NetShape, weights: &[u8], mode: Mode) -> Figured
 }
 
 pub fn figure(net: &[u8], weights: &[u8], marking: &[u32]) -> Figured
-    ensures { λ r. ⌜ r ≡ figureOf (now (net .entry)) (now (weights .entry)) (now (marking .entry)) ⌝ }
+    ensures { λ r. ⌜ FigureAllows (now (net .entry)) (now (weights .entry)) (now (marking .entry)) r ⌝ }
 {
     let opened = open_net(net);
     match opened {
@@ -76,7 +77,7 @@ pub fn figure(net: &[u8], weights: &[u8], marking: &[u32]) -> Figured
 }
 
 pub fn change(net: &[u8], weights: &[u8], mode: Mode) -> Figured
-    ensures { λ r. ⌜ r ≡ changeOf (now (net .entry)) (now (weights .entry)) mode ⌝ }
+    ensures { λ r. ⌜ ChangeAllows (now (net .entry)) (now (weights .entry)) mode r ⌝ }
 {
     let opened = open_net(net);
     match opened {
