@@ -17,7 +17,7 @@ use Rattle.model.specs.Refusals.{answer}
 use Rattle.model.specs.Complement.{refusal15, refusal16, sheetLimits, complementRefusal}
 use Rattle.model.proofs.First.{then-assoc, right-none, only-if-none}
 use Rattle.opened.specs.declared.shape.NetShape.{NetShape}
-use Rattle.sheets.specs.Checks.{wrong}
+use Rattle.nets.specs.Checks.{wrong}
 use Rattle.sheets.specs.Decoded.{netOf}
 use Rattle.opened.specs.Shape.{Open, arcOffset}
 use Rattle.written.proofs.Puts.{from-start}

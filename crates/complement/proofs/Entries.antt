@@ -9,8 +9,8 @@ use borrow.Author.Tests.{le-leb, lt-leb}
 use Rattle.model.specs.Numbers.{ℕ∞, fin, ∞}
 use Rattle.model.specs.Nets.{NetArc}
 use Rattle.model.specs.Complement.{listIf, reserve, blank}
-use Rattle.sheets.specs.Nets.{unbounded, bound}
-use Rattle.sheets.proofs.Bounds.{bound-finite}
+use Rattle.nets.specs.Nets.{unbounded, bound}
+use Rattle.nets.proofs.Bounds.{bound-finite}
 use Rattle.written.specs.Written.{arcBytes}
 use Rattle.written.proofs.Sections.{section-one}
 use Rattle.complement.specs.Arcs.{kept, keptBytes}

@@ -12,11 +12,11 @@ use Rattle.model.proofs.Joined.{joined-ext, joined-split, joined-sparse}
 use Rattle.model.proofs.Bounded.{bounded-pair, at-complements, bounded-rises, unbounded as not-bounded}
 use Rattle.model.proofs.ComplementNet.{pairs-complement, capacity-complement, start-corresponds}
 use Rattle.opened.specs.declared.shape.NetShape.{NetShape}
-use Rattle.sheets.specs.Nets.{unbounded, bound}
+use Rattle.nets.specs.Nets.{unbounded, bound}
 use Rattle.sheets.specs.Decoded.{netOf}
 use Rattle.opened.specs.Shape.{Open}
 use Rattle.written.specs.Written.{pairBytes, pairsBytes}
-use Rattle.sheets.proofs.Bounds.{bound-unbounded}
+use Rattle.nets.proofs.Bounds.{bound-unbounded}
 use Rattle.opened.proofs.Shapes.{sizes}
 use Rattle.complement.specs.declared.half.Half.{Half}
 use Rattle.complement.specs.declared.half.Half.the-variants.{Original, Complement}

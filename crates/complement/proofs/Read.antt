@@ -10,7 +10,7 @@ use Rattle.model.specs.declared.Arc.{Arc}
 use Rattle.model.specs.Nets.{pairs, pairNo, K, arcNo}
 use Rattle.model.specs.Complement.{finite, complementPair, complementEntry, inhibitsUnbounded, tooLarge}
 use Rattle.opened.specs.declared.shape.NetShape.{NetShape}
-use Rattle.sheets.specs.Nets.{bound}
+use Rattle.nets.specs.Nets.{bound}
 use Rattle.sheets.specs.Decoded.{netOf, netArc}
 use Rattle.opened.specs.Shape.{Open, ArcIs}
 use Rattle.opened.proofs.Shapes.{sizes}

@@ -12,8 +12,8 @@ use Rattle.model.specs.Numbers.{ℕ∞, limit}
 use Rattle.model.specs.Nets.{NetArc, PNet, pairs, pairNo, modeNo, K, arcNo, row}
 use Rattle.model.specs.WellFormed.{InRange}
 use Rattle.model.specs.Complement.{joined, complementPair, original, complementEntry, complementRow, written, allPairs, inhibitsUnbounded, tooLarge}
-use Rattle.sheets.specs.Nets.{bound}
-use Rattle.sheets.specs.Checks.{wrong}
+use Rattle.nets.specs.Nets.{bound}
+use Rattle.nets.specs.Checks.{wrong}
 use Rattle.sheets.specs.Decoded.{netOf}
 use Rattle.opened.specs.Shape.{arcOffset}
 use Rattle.written.specs.Written.{arcBytes}

@@ -14,7 +14,7 @@ use Rattle.model.specs.declared.Answer.the-variants.{Accepted, Refused}
 use Rattle.model.specs.First.{_▸_, onlyIf}
 use Rattle.model.specs.Nets.{PNet, pairs}
 use Rattle.model.specs.Complement.{complement}
-use Rattle.sheets.specs.Checks.{wrong}
+use Rattle.nets.specs.Checks.{wrong}
 use Rattle.written.specs.Puts.{sheetSize}
 use Rattle.written.specs.Written.{bytes16, arcBytes, headBytes, pairsBytes, lengthOf}
 use Rattle.complement.specs.declared.sheet.Sizes.{Sizes}

@@ -5,7 +5,7 @@ use opened::finite::is_finite;
 ghost use mathlib.Core.Path.{_≡_};
 ghost use Prim.Native.Nat.{max};
 ghost use Rattle.model.specs.Complement.{reserve, blank, tooLarge};
-ghost use Rattle.sheets.specs.Nets.{bound};
+ghost use Rattle.nets.specs.Nets.{bound};
 ghost use Rattle.sheets.specs.Decoded.{netArc};
 ghost use Rattle.complement.specs.Arcs.{Small, originalOf, complementAt};
 

@@ -16,8 +16,8 @@ use Rattle.model.specs.Rows.{Entry}
 use Rattle.model.specs.Refusals.{answer}
 use Rattle.model.specs.Nets.{NetArc, PNet, K, count, arcNo}
 use Rattle.model.specs.Firing.{after, stops}
-use Rattle.sheets.specs.Nets.{bound}
-use Rattle.sheets.specs.Checks.{wrong}
+use Rattle.nets.specs.Nets.{bound}
+use Rattle.nets.specs.Checks.{wrong}
 use Rattle.sheets.specs.Decoded.{netArc}
 use Rattle.fire.specs.declared.rule.AtPair.{AtPair}
 use Rattle.fire.specs.Parts.{Meets, Unstopped, Free, writtenAt, stopAt}

@@ -10,7 +10,7 @@ use Rattle.model.specs.Markings.{Marking, markingRefusal}
 use Rattle.model.specs.Firing.{fired}
 use Rattle.model.proofs.First.{left-none, right-none}
 use Rattle.model.proofs.Markings.{marking-test, marking-kept}
-use Rattle.sheets.specs.Nets.{netRefusal}
+use Rattle.nets.specs.Nets.{netRefusal}
 use Rattle.sheets.specs.Whole.{wholeNet}
 use Rattle.sheets.specs.Decoded.{netOf}
 use Rattle.sheets.proofs.Accepted.{well-formed}

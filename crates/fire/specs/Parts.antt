@@ -24,8 +24,8 @@ use Rattle.model.specs.Markings.{Marking, markingRefusal}
 use Rattle.model.specs.Firing.{after, stops, stopped, lowestStop, rowRefusal, modeRefusal}
 use Rattle.opened.specs.declared.shape.NetShape.{NetShape}
 use Rattle.opened.specs.declared.starts.Segment.{Segment}
-use Rattle.sheets.specs.Nets.{bound}
-use Rattle.sheets.specs.Checks.{wrong}
+use Rattle.nets.specs.Nets.{bound}
+use Rattle.nets.specs.Checks.{wrong}
 use Rattle.sheets.specs.Decoded.{netOf, netArc}
 use Rattle.opened.specs.Shape.{Open}
 use Rattle.opened.specs.Starts.{ModeArcs}

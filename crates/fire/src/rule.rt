@@ -1,14 +1,14 @@
 // What a mode meets at one of its pairs: refusals 11 to 14, and the count after firing.
 use model::Arc;
 use model::Why;
-use sheets::numbers::above_bound;
+use nets::numbers::above_bound;
 ghost use mathlib.Core.Path.{_≡_};
 ghost use mathlib.Core.Bool.{true};
 ghost use mathlib.Core.Logic.{_↔_};
 ghost use Prim.Native.Nat.{_≤_};
 ghost use Rattle.model.specs.Numbers.{limit};
 ghost use Rattle.model.specs.Firing.{after, stops};
-ghost use Rattle.sheets.specs.Nets.{bound};
+ghost use Rattle.nets.specs.Nets.{bound};
 ghost use Rattle.sheets.specs.Decoded.{netArc};
 ghost use Rattle.fire.specs.Parts.{InRange, Counted, Unstopped};
 

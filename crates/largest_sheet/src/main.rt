@@ -58,7 +58,7 @@ fn show_answer(answer: Answer) {
 }
 
 fn show_read(s: &[u8; 35083]) {
-    show_answer(sheets::net::read_net(s));
+    show_answer(nets::net::read_net(s));
 }
 
 fn main() {

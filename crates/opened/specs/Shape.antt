@@ -8,8 +8,8 @@ use Rattle.model.specs.Numbers.{limit}
 use Rattle.model.specs.Nets.{arcNo}
 use Rattle.model.specs.WellFormed.{InRange}
 use Rattle.opened.specs.declared.shape.NetShape.{NetShape}
-use Rattle.sheets.specs.Layout.{placeCount, transitionCount, pairCount, modeCount, arcCount, pairsAt, arcsAt, arcAt}
-use Rattle.sheets.specs.Nets.{bound, netRefusal}
+use Rattle.nets.specs.Layout.{placeCount, transitionCount, pairCount, modeCount, arcCount, pairsAt, arcsAt, arcAt}
+use Rattle.nets.specs.Nets.{bound, netRefusal}
 use Rattle.sheets.specs.Decoded.{netOf, netArc}
 
 unfoldable pub shapeOf : List ℕ → NetShape

@@ -2,20 +2,20 @@
 use model::Arc;
 use model::Mode;
 use model::Pair;
-use sheets::bytes::count_at;
-use sheets::bytes::u16_at;
-use sheets::bytes::u32_at;
-use sheets::net::mode_count;
-use sheets::net::pair_count;
-use sheets::net::pairs_at;
+use nets::bytes::count_at;
+use nets::bytes::u16_at;
+use nets::bytes::u32_at;
+use nets::net::mode_count;
+use nets::net::pair_count;
+use nets::net::pairs_at;
 ghost use mathlib.Core.Path.{_≡_};
 ghost use mathlib.Core.Option.{none};
 ghost use Prim.Native.Nat.{_+_, _≤_, _<_};
 ghost use lib.ListN.{length, getD};
 ghost use Rattle.model.specs.Numbers.{limit};
 ghost use Rattle.model.specs.Nets.{K, count, arcNo};
-ghost use Rattle.sheets.specs.Layout.{pairsAt, pairAt, arcSize};
-ghost use Rattle.sheets.specs.Nets.{bound, netRefusal};
+ghost use Rattle.nets.specs.Layout.{pairsAt, pairAt, arcSize};
+ghost use Rattle.nets.specs.Nets.{bound, netRefusal};
 ghost use Rattle.sheets.specs.Decoded.{netOf};
 ghost use Rattle.opened.specs.Shape.{shapeOf, Open, ArcIs, arcOffset};
 

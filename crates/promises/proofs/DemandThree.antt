@@ -9,7 +9,7 @@ use Rattle.model.specs.Complement.{complement}
 use Rattle.model.specs.DemandThree.{Complementable}
 use Rattle.model.proofs.First.{left-none, right-none}
 use Rattle.model.proofs.Demand3.{demand3}
-use Rattle.sheets.specs.Nets.{netRefusal}
+use Rattle.nets.specs.Nets.{netRefusal}
 use Rattle.sheets.specs.Whole.{wholeNet}
 use Rattle.sheets.specs.Decoded.{netOf}
 use Rattle.opened.specs.Shape.{arcOffset}

@@ -8,9 +8,9 @@ use borrow.Author.Tests.{eqb-true, eqb-false, lt-ltb, le-ltb}
 use Rattle.model.specs.declared.Arc.{Arc}
 use Rattle.model.specs.Numbers.{ℕ∞, fin, ∞, above, limit}
 use Rattle.model.proofs.PassBelow.{least, room, passBelow}
-use Rattle.sheets.specs.Nets.{unbounded, bound}
+use Rattle.nets.specs.Nets.{unbounded, bound}
 use Rattle.sheets.specs.Decoded.{netArc}
-use Rattle.sheets.proofs.Bounds.{bound-unbounded, bound-finite}
+use Rattle.nets.proofs.Bounds.{bound-unbounded, bound-finite}
 use Rattle.fire.specs.Parts.{InRange}
 
 by-bound : (P : ℕ∞ → Type 0) (x : ℕ) → (x ≡ unbounded → P ∞) → P (fin x) → P (bound x)

@@ -11,7 +11,7 @@ use Rattle.model.specs.declared.Arc.{Arc}
 use Rattle.model.specs.Nets.{NetArc, PNet, K}
 use Rattle.model.proofs.PassBelow.{passBelow, pass-is}
 use Rattle.opened.specs.declared.shape.NetShape.{NetShape}
-use Rattle.sheets.specs.Nets.{bound}
+use Rattle.nets.specs.Nets.{bound}
 use Rattle.sheets.specs.Decoded.{netOf, netArc}
 use Rattle.opened.specs.Shape.{ArcIs}
 use Rattle.fire.specs.declared.rule.AtPair.{AtPair}

@@ -15,7 +15,7 @@ use Rattle.model.specs.Nets.{PNet, pairs, pairNo, K, count, arcNo}
 use Rattle.model.specs.Runs.{Outcome, goOn, run}
 use Rattle.model.proofs.PassBelow.{passBelow}
 use Rattle.opened.specs.declared.shape.NetShape.{NetShape}
-use Rattle.sheets.specs.Checks.{wrong}
+use Rattle.nets.specs.Checks.{wrong}
 use Rattle.sheets.specs.Decoded.{netOf}
 use Rattle.opened.specs.Shape.{Open}
 use Rattle.opened.specs.Starts.{StartsAre}

@@ -1,10 +1,4 @@
-pub mod Heads
 pub mod Signs
-pub mod RunningTotals
-pub mod Bounds
-pub mod BoundNumbers
-pub mod PairFields
-pub mod Valid
 pub mod Meaning
 pub mod Accepted
 pub mod Lists

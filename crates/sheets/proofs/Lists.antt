@@ -14,16 +14,16 @@ use Rattle.model.specs.Nets.{modeNo}
 use Rattle.model.specs.Figures.{weight}
 use Rattle.model.proofs.First.{left-none, right-none, first-each, only-if-none}
 use Rattle.model.proofs.Tables.{table-length, table-at}
-use Rattle.sheets.specs.Bytes.{u32At}
-use Rattle.sheets.specs.Layout.{sheetEnd, movementsAt, movementCount, weightCount, weightCountAt, weightAt}
-use Rattle.sheets.specs.Checks.{headRefusal, missing}
-use Rattle.sheets.specs.Held.{Headed}
+use Rattle.nets.specs.Bytes.{u32At}
+use Rattle.nets.specs.Layout.{sheetEnd, movementsAt, movementCount, weightCount, weightCountAt, weightAt}
+use Rattle.nets.specs.Checks.{headRefusal, missing}
+use Rattle.nets.specs.Held.{Headed}
 use Rattle.sheets.specs.Movements.{movementFields, movementsRefusal}
 use Rattle.sheets.specs.Weights.{signed, weightRefusal, weightFields, weightsRefusal}
 use Rattle.sheets.specs.Decoded.{movementsOf, weightsOf}
 use Rattle.sheets.specs.Listed.{modeAt, modesFrom, ModesStand}
 use Rattle.sheets.specs.Accepted.{AcceptedMovements, AcceptedWeights}
-use Rattle.sheets.proofs.Heads.{head-holds}
+use Rattle.nets.proofs.Heads.{head-holds}
 
 pub modes-from-length : (s : List ℕ) (start n : ℕ) → length (modesFrom s start n) ≡ n
 unfolding modesFrom

@@ -20,12 +20,12 @@ use Rattle.model.specs.RefusalTables.{row, Reads}
 use Rattle.model.proofs.First.{then-assoc}
 use Rattle.model.proofs.Decisions.{Decided, by-less, by-at-most, by-equal, by-above, by-not, by-or, by-and, by-other}
 use Rattle.model.proofs.RefusalTables.{reads-row, reads-then, reads-each, reads-either}
-use Rattle.sheets.specs.Bytes.{u16At, u32At}
-use Rattle.sheets.specs.Layout.{bodyLength, sheetEnd, weightCountAt, version, countAt, totalOf, pairAt, arcAt, arcCountAt, arcsAfter, placeCount, transitionCount, coloursAt, modesAt, pairCount, pairsAt, modeCount, movementCount, movementAt, weightCount, weightAt}
-use Rattle.sheets.specs.Checks.{wrong, headRefusal, missing, leftOver, countRefusal}
+use Rattle.nets.specs.Bytes.{u16At, u32At}
+use Rattle.nets.specs.Layout.{bodyLength, sheetEnd, weightCountAt, version, countAt, totalOf, pairAt, arcAt, arcCountAt, arcsAfter, placeCount, transitionCount, coloursAt, modesAt, pairCount, pairsAt, modeCount, movementCount, movementAt, weightCount, weightAt}
+use Rattle.nets.specs.Checks.{wrong, headRefusal, missing, leftOver, countRefusal}
 use Rattle.sheets.specs.Movements.{mostMovements, movementFields, movementsRefusal}
 use Rattle.sheets.specs.Weights.{signed, weightRefusal, weightFields, weightsRefusal}
-use Rattle.sheets.specs.Nets.{unbounded, bound, outside, runningRefusal, capacityRefusal, startRefusal, pairRefusal, risesTo, notRising, isBlank, arcNumbersRefusal, arcNamesRefusal, arcRefusal, arcFields, eachCount, countFields, pairAndArcFields, netFields, netRefusal}
+use Rattle.nets.specs.Nets.{unbounded, bound, outside, runningRefusal, capacityRefusal, startRefusal, pairRefusal, risesTo, notRising, isBlank, arcNumbersRefusal, arcNamesRefusal, arcRefusal, arcFields, eachCount, countFields, pairAndArcFields, netFields, netRefusal}
 use Rattle.sheets.specs.RefusalTables.{headTable, pastEnd, leftAfter, countTable, movementTable, Outweighs, weightTable, runningTable, pairTable, Higher, arcNamesTable, arcNumbersTable, arcTable, netTable, SheetTables}
 
 -- a row that stands in the chain as it stands in the table

@@ -10,7 +10,7 @@ use Rattle.model.specs.Figures.{weight}
 use Rattle.model.specs.WellFormed.{WellFormed}
 use Rattle.sheets.specs.Movements.{mostMovements, movementsRefusal}
 use Rattle.sheets.specs.Weights.{weightsRefusal}
-use Rattle.sheets.specs.Nets.{netRefusal}
+use Rattle.nets.specs.Nets.{netRefusal}
 use Rattle.sheets.specs.Decoded.{netOf, movementsOf, weightsOf}
 
 -- the net that a net sheet means keeps document 01's limits, its arcs rise, none is blank, and its first marking is within K

@@ -4,15 +4,12 @@ use mathlib.Core.Path.{_≡_}
 use mathlib.Core.List.{List}
 use Rattle.model.specs.declared.Answer.{Answer}
 use Rattle.model.specs.Refusals.{answer}
-use Rattle.sheets.specs.Nets.{netRefusal}
+use Rattle.nets.specs.Nets.{netRefusal}
 use Rattle.sheets.specs.Weights.{weightsRefusal}
 use Rattle.sheets.specs.Movements.{movementsRefusal}
 use Rattle.sheets.specs.Whole.{wholeNet, wholeWeights, wholeMovements, rest}
 
 module _ (s : List ℕ) where
-  abbrev pub ReadNetAllows : Answer → Type 0
-  ReadNetAllows told = told ≡ answer (netRefusal s)
-
   abbrev pub ReadMovementsAllows : Answer → Type 0
   ReadMovementsAllows told = told ≡ answer (movementsRefusal s)
 

@@ -1,12 +1,7 @@
-pub mod Bytes
-pub mod Layout
-pub mod Checks
 pub mod Movements
 pub mod Weights
-pub mod Nets
 pub mod Whole
 pub mod Decoded
-pub mod Held
 pub mod Accepted
 pub mod RefusalTables
 pub mod Listed

@@ -5,8 +5,8 @@ use lib.ListN.{length}
 use Rattle.model.specs.declared.Mode.{Mode}
 use Rattle.model.specs.Nets.{modeNo}
 use Rattle.model.specs.Firing.{table}
-use Rattle.sheets.specs.Bytes.{u16At}
-use Rattle.sheets.specs.Layout.{countAt}
+use Rattle.nets.specs.Bytes.{u16At}
+use Rattle.nets.specs.Layout.{countAt}
 
 -- "Mode numbers, 2 bytes each", from `start` on: the k-th, the first n, and room for n
 unfoldable pub modeAt : List ℕ → ℕ → ℕ → Mode

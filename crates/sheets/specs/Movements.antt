@@ -7,8 +7,8 @@ use Rattle.model.specs.declared.Thing.the-variants.{Movements}
 use Rattle.model.specs.declared.Fault.the-variants.{CountOutside}
 use Rattle.model.specs.declared.Refusal.{Refusal}
 use Rattle.model.specs.First.{_▸_, onlyIf}
-use Rattle.sheets.specs.Layout.{movementsAt, movementAt, movementCount}
-use Rattle.sheets.specs.Checks.{wrong, headRefusal, leftOver}
+use Rattle.nets.specs.Layout.{movementsAt, movementAt, movementCount}
+use Rattle.nets.specs.Checks.{wrong, headRefusal, leftOver}
 
 -- "at most 8,192"
 abbrev pub mostMovements : ℕ

@@ -12,9 +12,9 @@ use Rattle.model.specs.declared.Fault.the-variants.{NumberOutside, NotOneEach}
 use Rattle.model.specs.declared.Refusal.{Refusal}
 use Rattle.model.specs.First.{_▸_, first, onlyIf}
 use Rattle.model.specs.Numbers.{limit}
-use Rattle.sheets.specs.Bytes.{u32At}
-use Rattle.sheets.specs.Layout.{weightCount, weightCountAt, weightAt}
-use Rattle.sheets.specs.Checks.{wrong, headRefusal, missing, leftOver}
+use Rattle.nets.specs.Bytes.{u32At}
+use Rattle.nets.specs.Layout.{weightCount, weightCountAt, weightAt}
+use Rattle.nets.specs.Checks.{wrong, headRefusal, missing, leftOver}
 
 -- a signed number of 4 bytes, in two's complement
 unfoldable pub signed : ℕ → ℤ

@@ -11,9 +11,9 @@ use Rattle.model.specs.declared.Refusal.{Refusal}
 use Rattle.model.specs.declared.Answer.{Answer}
 use Rattle.model.specs.declared.Answer.the-variants.{Accepted, Refused}
 use Rattle.model.specs.First.{_▸_, onlyIf}
-use Rattle.sheets.specs.Layout.{sheetEnd}
-use Rattle.sheets.specs.Checks.{wrong}
-use Rattle.sheets.specs.Nets.{netRefusal}
+use Rattle.nets.specs.Layout.{sheetEnd}
+use Rattle.nets.specs.Checks.{wrong}
+use Rattle.nets.specs.Nets.{netRefusal}
 use Rattle.sheets.specs.Weights.{weightsRefusal}
 use Rattle.sheets.specs.Movements.{movementsRefusal}
 

@@ -1,12 +1,4 @@
-// Sheets: bytes in. A net stays in the bytes that the caller lent; reading tests it once.
-// Where each field stands is said in specs/Layout.antt, and what each reader answers in the specs file of its sheet.
-mod arcs;
-pub mod bytes;
-mod counts;
-pub mod head;
+// Weight sheets and movement sheets, the part of the caller's bytes after each sheet, and a sheet as an argument of a call.
 pub mod movements;
-pub mod net;
-pub mod numbers;
-mod pairs;
 pub mod weights;
 pub mod whole;

@@ -1,14 +1,14 @@
 // A movement sheet: mode numbers, 2 bytes each, at most 8,192.
-use crate::head::read_head;
-use crate::head::refused;
-use crate::head::sheet_end;
 use model::Answer;
 use model::Fault;
 use model::Thing;
+use nets::head::read_head;
+use nets::head::refused;
+use nets::head::sheet_end;
 ghost use mathlib.Core.Path.{_≡_};
 ghost use Rattle.model.specs.Refusals.{answer};
-ghost use Rattle.sheets.specs.Layout.{movementCount};
-ghost use Rattle.sheets.specs.Held.{Headed};
+ghost use Rattle.nets.specs.Layout.{movementCount};
+ghost use Rattle.nets.specs.Held.{Headed};
 ghost use Rattle.sheets.specs.Movements.{movementFields};
 ghost use Rattle.sheets.specs.Contracts.{ReadMovementsAllows};
 

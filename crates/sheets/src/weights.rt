@@ -1,21 +1,21 @@
 // A weight sheet: the pair count, then one signed weight of 4 bytes for each pair.
-use crate::bytes::count_at;
-use crate::bytes::u32_at;
-use crate::head::left_over;
-use crate::head::read_head;
-use crate::head::refused;
-use crate::head::sheet_end;
 use model::Answer;
 use model::Fault;
 use model::Thing;
+use nets::bytes::count_at;
+use nets::bytes::u32_at;
+use nets::head::left_over;
+use nets::head::read_head;
+use nets::head::refused;
+use nets::head::sheet_end;
 ghost use mathlib.Core.Path.{_≡_};
 ghost use Prim.Native.Nat.{_+_, _*_, _<_};
 ghost use lib.Dec.{ltb};
 ghost use lib.IntN.{natAbs};
 ghost use Rattle.model.specs.First.{first};
 ghost use Rattle.model.specs.Refusals.{answer};
-ghost use Rattle.sheets.specs.Layout.{weightAt};
-ghost use Rattle.sheets.specs.Held.{Headed};
+ghost use Rattle.nets.specs.Layout.{weightAt};
+ghost use Rattle.nets.specs.Held.{Headed};
 ghost use Rattle.sheets.specs.Weights.{signed, weightRefusal, weightFields};
 ghost use Rattle.sheets.specs.Contracts.{ReadWeightsAllows};
 

@@ -12,14 +12,14 @@ use Rattle.model.specs.declared.Thing.the-variants.{Net}
 use Rattle.model.specs.First.{_▸_}
 use Rattle.model.specs.Numbers.{limit}
 use Rattle.model.proofs.First.{none-then, below-or}
-use Rattle.sheets.specs.Bytes.{u16At, u32At}
-use Rattle.sheets.specs.Layout.{bodyLength, sheetEnd, version, totalOf, capacityAt, startAt, arcAt, arcSize, arcModeAt, arcPairAt, preAt, postAt}
-use Rattle.sheets.specs.Checks.{headRefusal, countRefusal}
-use Rattle.sheets.specs.Nets.{runningRefusal, capacityRefusal, startRefusal, pairRefusal, risesTo, notRising, arcNumbersRefusal, arcNamesRefusal, arcRefusal}
-use Rattle.sheets.specs.Held.{Headed}
-use Rattle.sheets.proofs.RunningTotals.{CountRead, RunningRead}
-use Rattle.sheets.proofs.PairFields.{CapacityRead, StartRead}
-use Rattle.sheets.proofs.Valid.{ArcRead}
+use Rattle.nets.specs.Bytes.{u16At, u32At}
+use Rattle.nets.specs.Layout.{bodyLength, sheetEnd, version, totalOf, capacityAt, startAt, arcAt, arcSize, arcModeAt, arcPairAt, preAt, postAt}
+use Rattle.nets.specs.Checks.{headRefusal, countRefusal}
+use Rattle.nets.specs.Nets.{runningRefusal, capacityRefusal, startRefusal, pairRefusal, risesTo, notRising, arcNumbersRefusal, arcNamesRefusal, arcRefusal}
+use Rattle.nets.specs.Held.{Headed}
+use Rattle.nets.proofs.RunningTotals.{CountRead, RunningRead}
+use Rattle.nets.proofs.PairFields.{CapacityRead, StartRead}
+use Rattle.nets.proofs.Valid.{ArcRead}
 
 module _ (s : List ℕ) where
   pub head-accepts : Headed s → version s ≡ 1 → headRefusal Net s ≡ none

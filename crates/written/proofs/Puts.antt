@@ -9,7 +9,7 @@ use native.Mathlib.Omega.{arith}
 use native.Mathlib.Numerals.{add-one}
 use Rattle.model.specs.Nets.{PNet}
 use Rattle.model.specs.Complement.{joined}
-use Rattle.sheets.specs.Bytes.{byteAt}
+use Rattle.nets.specs.Bytes.{byteAt}
 use Rattle.written.specs.Written.{bytes16, headBytes, fieldsOf, lengthOf, sheetOf}
 use Rattle.written.specs.Puts.{Written, Put}
 use Rattle.written.proofs.SheetLength.{sheet-length}

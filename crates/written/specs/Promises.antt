@@ -7,8 +7,8 @@ use lib.ListN.{length}
 use Rattle.model.specs.Nets.{PNet}
 use Rattle.model.specs.Refusals.{answer}
 use Rattle.model.specs.WellFormed.{WellFormed}
-use Rattle.sheets.specs.Bytes.{byteAt}
-use Rattle.sheets.specs.Nets.{netRefusal}
+use Rattle.nets.specs.Bytes.{byteAt}
+use Rattle.nets.specs.Nets.{netRefusal}
 use Rattle.sheets.specs.Whole.{wholeNet, rest}
 use Rattle.sheets.specs.Decoded.{netOf}
 use Rattle.written.specs.Written.{sheetOf}

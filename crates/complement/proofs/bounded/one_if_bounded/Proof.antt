@@ -3,7 +3,7 @@ use borrow.Author.Needs.{needs}
 use mathlib.Core.Path.{sym, _∙_}
 use native.Mathlib.Omega.{arith}
 use Rattle.opened.proofs.Shapes.{sizes}
-use Rattle.sheets.proofs.BoundNumbers.{finite-is, unbounded-is}
+use Rattle.nets.proofs.BoundNumbers.{finite-is, unbounded-is}
 use Rattle.complement.proofs.bounded.one_if_bounded.Statement.{statement}
 use Rattle.complement.proofs.bounded.one_if_bounded.Tie as tie
 

@@ -5,9 +5,9 @@ use Prim.Native.Nat.{_≤_}
 use mathlib.Core.Path.{refl, sym, _∙_}
 use native.Mathlib.Omega.{arith}
 use Rattle.model.specs.Numbers.{limit}
-use Rattle.sheets.specs.Nets.{unbounded, bound}
-use Rattle.sheets.proofs.Bounds.{bound-unbounded}
-use Rattle.sheets.proofs.BoundNumbers.{finite-is, unbounded-is}
+use Rattle.nets.specs.Nets.{unbounded, bound}
+use Rattle.nets.proofs.Bounds.{bound-unbounded}
+use Rattle.nets.proofs.BoundNumbers.{finite-is, unbounded-is}
 use Rattle.complement.proofs.Entries.{reserve-within}
 use Rattle.complement.proofs.entry.complement_arc.Statement.{statement}
 use Rattle.complement.proofs.entry.complement_arc.Tie as tie

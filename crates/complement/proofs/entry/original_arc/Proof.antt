@@ -1,5 +1,5 @@
 -- The number that means unbounded does.
-use Rattle.sheets.specs.Nets.{bound}
+use Rattle.nets.specs.Nets.{bound}
 use Rattle.complement.proofs.entry.original_arc.Statement.{statement}
 use Rattle.complement.proofs.entry.original_arc.Tie as tie
 use mathlib.Core.Path.{refl}

@@ -4,7 +4,7 @@ use borrow.Author.Tests.{not-true, not-false}
 use mathlib.Core.Path.{sym, _∙_}
 use native.Mathlib.Omega.{arith}
 use Rattle.written.proofs.Puts.{nothing, put-length}
-use Rattle.sheets.proofs.BoundNumbers.{finite-is, unbounded-is}
+use Rattle.nets.proofs.BoundNumbers.{finite-is, unbounded-is}
 use Rattle.complement.proofs.PairHalves.{start-within, new-pair}
 use Rattle.complement.proofs.Puts.{room-as, puts-as, pair-fits}
 use Rattle.complement.proofs.pairs.put_new_pair.Statement.{statement}

@@ -3,7 +3,7 @@ use borrow.Author.Needs.{needs}
 use borrow.Author.Tests.{lt-ltb, le-ltb}
 use native.Mathlib.Omega.{arith}
 use Rattle.model.specs.First.{_▸_}
-use Rattle.sheets.specs.Layout.{sheetEnd, movementAt, movementCount}
+use Rattle.nets.specs.Layout.{sheetEnd, movementAt, movementCount}
 use Rattle.sheets.specs.Movements.{movementFields}
 use Rattle.sheets.proofs.movements.movement_fields.Statement.{statement}
 use Rattle.sheets.proofs.movements.movement_fields.Tie as tie

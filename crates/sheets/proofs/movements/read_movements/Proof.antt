@@ -2,7 +2,7 @@
 use borrow.Author.Needs.{needs}
 use Rattle.model.proofs.Refusals.{answer-none, answer-stops, answer-goes-on}
 use Rattle.sheets.specs.Movements.{movementsRefusal}
-use Rattle.sheets.proofs.Heads.{head-holds}
+use Rattle.nets.proofs.Heads.{head-holds}
 use Rattle.sheets.proofs.movements.read_movements.Statement.{statement}
 use Rattle.sheets.proofs.movements.read_movements.Tie as tie
 

@@ -5,7 +5,7 @@ use mathlib.Core.Path.{_≡_}
 use mathlib.Core.Option.{none}
 use Rattle.model.specs.First.{first}
 use Rattle.model.proofs.Refusals.{answer-first-at, answer-first-end, answer-first-more}
-use Rattle.sheets.specs.Layout.{weightAt}
+use Rattle.nets.specs.Layout.{weightAt}
 use Rattle.sheets.specs.Weights.{weightRefusal}
 use Rattle.sheets.proofs.weights.each_weight.Statement.{statement}
 use Rattle.sheets.proofs.weights.each_weight.Tie as tie

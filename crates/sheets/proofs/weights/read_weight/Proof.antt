@@ -4,7 +4,7 @@ use borrow.Author.Tests.{lt-ltb, le-ltb}
 use native.Mathlib.Omega.{arith}
 use Prim.Native.Nat.{_+_}
 use Rattle.model.specs.First.{_▸_}
-use Rattle.sheets.specs.Layout.{sheetEnd}
+use Rattle.nets.specs.Layout.{sheetEnd}
 use Rattle.sheets.specs.Weights.{weightRefusal}
 use Rattle.sheets.proofs.weights.read_weight.Statement.{statement}
 use Rattle.sheets.proofs.weights.read_weight.Tie as tie

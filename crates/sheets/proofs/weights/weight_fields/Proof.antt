@@ -5,7 +5,7 @@ use mathlib.Core.Path.{ap}
 use mathlib.Core.Bool.{not}
 use native.Mathlib.Omega.{arith}
 use Rattle.model.proofs.Refusals.{answer-passes, answer-fails, answer-stops, answer-goes-on}
-use Rattle.sheets.specs.Layout.{sheetEnd, weightCount}
+use Rattle.nets.specs.Layout.{sheetEnd, weightCount}
 use Rattle.sheets.specs.Weights.{weightFields}
 use Rattle.sheets.proofs.weights.weight_fields.Statement.{statement}
 use Rattle.sheets.proofs.weights.weight_fields.Tie as tie

@@ -1,12 +1,12 @@
 -- The part after the sheet, by its answer.
 use borrow.Author.Needs.{needs}
 use Rattle.model.proofs.Refusals.{answer-none}
-use Rattle.sheets.proofs.Heads.{movements-head}
+use Rattle.sheets.proofs.Lists.{movements-headed}
 use Rattle.sheets.proofs.whole.after_movements.Statement.{statement}
 use Rattle.sheets.proofs.whole.after_movements.Tie as tie
 
 after-requires : tie.Need-after-requires
-after-requires c κs = λ e. movements-head _ (answer-none _ (c .read-movements .ensures) e)
+after-requires c κs = λ e. movements-headed _ (answer-none _ (c .read-movements .ensures) e)
 
 returns : tie.Need-returns
 returns c = rw (c .before .read-movements .ensures) at (c .after .ensures)

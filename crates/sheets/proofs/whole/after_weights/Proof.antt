@@ -1,12 +1,12 @@
 -- The part after the sheet, by its answer.
 use borrow.Author.Needs.{needs}
 use Rattle.model.proofs.Refusals.{answer-none}
-use Rattle.sheets.proofs.Heads.{weights-head}
+use Rattle.sheets.proofs.Lists.{weights-headed}
 use Rattle.sheets.proofs.whole.after_weights.Statement.{statement}
 use Rattle.sheets.proofs.whole.after_weights.Tie as tie
 
 after-requires : tie.Need-after-requires
-after-requires c κs = λ e. weights-head _ _ (answer-none _ (c .read-weights .ensures) e)
+after-requires c κs = λ e. weights-headed _ _ (answer-none _ (c .read-weights .ensures) e)
 
 returns : tie.Need-returns
 returns c = rw (c .before .read-weights .ensures) at (c .after .ensures)

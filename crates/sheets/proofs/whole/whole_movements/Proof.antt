@@ -2,7 +2,7 @@
 use borrow.Author.Needs.{needs}
 use Rattle.model.proofs.Refusals.{answer-none, answer-stops, answer-goes-on}
 use Rattle.sheets.specs.Whole.{wholeMovements}
-use Rattle.sheets.proofs.Heads.{movements-head}
+use Rattle.sheets.proofs.Lists.{movements-headed}
 use Rattle.sheets.proofs.whole.whole_movements.Statement.{statement}
 use Rattle.sheets.proofs.whole.whole_movements.Tie as tie
 
@@ -11,7 +11,7 @@ unfolding wholeMovements
 returns c = answer-stops _ _ (c .before .before .read-movements .ensures) (c .enum-told .given .1)
 
 bytes-after-requires : tie.Need-bytes-after-requires
-bytes-after-requires c κs = movements-head _ (answer-none _ (c .before .before .read-movements .ensures) (c .enum-told2 .given .1))
+bytes-after-requires c κs = movements-headed _ (answer-none _ (c .before .before .read-movements .ensures) (c .enum-told2 .given .1))
 
 returns-2 : tie.Need-returns-2
 unfolding wholeMovements

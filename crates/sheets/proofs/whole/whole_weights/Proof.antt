@@ -2,7 +2,7 @@
 use borrow.Author.Needs.{needs}
 use Rattle.model.proofs.Refusals.{answer-none, answer-stops, answer-goes-on}
 use Rattle.sheets.specs.Whole.{wholeWeights}
-use Rattle.sheets.proofs.Heads.{weights-head}
+use Rattle.sheets.proofs.Lists.{weights-headed}
 use Rattle.sheets.proofs.whole.whole_weights.Statement.{statement}
 use Rattle.sheets.proofs.whole.whole_weights.Tie as tie
 
@@ -11,7 +11,7 @@ unfolding wholeWeights
 returns c = answer-stops _ _ (c .before .before .read-weights .ensures) (c .enum-told .given .1)
 
 bytes-after-requires : tie.Need-bytes-after-requires
-bytes-after-requires c κs = weights-head _ _ (answer-none _ (c .before .before .read-weights .ensures) (c .enum-told2 .given .1))
+bytes-after-requires c κs = weights-headed _ _ (answer-none _ (c .before .before .read-weights .ensures) (c .enum-told2 .given .1))
 
 returns-2 : tie.Need-returns-2
 unfolding wholeWeights

@@ -1,0 +1,6 @@
+pub mod Heads
+pub mod RunningTotals
+pub mod Bounds
+pub mod BoundNumbers
+pub mod PairFields
+pub mod Valid

@@ -1,0 +1,23 @@
+-- The head, then the fields.
+use borrow.Author.Needs.{needs}
+use Rattle.model.proofs.Refusals.{answer-none, answer-stops, answer-goes-on}
+use Rattle.nets.specs.Nets.{netRefusal}
+use Rattle.nets.proofs.Heads.{head-holds}
+use Rattle.nets.proofs.net.read_net.Statement.{statement}
+use Rattle.nets.proofs.net.read_net.Tie as tie
+
+returns : tie.Need-returns
+unfolding netRefusal
+returns c = answer-stops _ _ (c .before .before .read-head .ensures) (c .enum-told .given .1)
+
+net-fields-requires : tie.Need-net-fields-requires
+net-fields-requires c κs = head-holds _ _ (answer-none _ (c .before .before .read-head .ensures) (c .enum-told2 .given .1))
+
+returns-2 : tie.Need-returns-2
+unfolding netRefusal
+returns-2 c = answer-goes-on _ _ (c .before .before .before .read-head .ensures) (c .before .enum-told2 .given .1) (c .net-fields .ensures)
+
+pub read-net-spec : {M : Type 1} → statement M
+read-net-spec =
+    tie.close
+    (tie.spec (λ c κs. search needs) (λ c. search needs) returns (λ c. search needs) net-fields-requires returns-2)

@@ -1,0 +1,145 @@
+// The arcs of a net sheet, which rise strictly by mode, then pair.
+use crate::bytes::count_at;
+use crate::bytes::u16_at;
+use crate::bytes::u32_at;
+use crate::counts::read_count;
+use crate::head::left_over;
+use crate::head::refused;
+use crate::head::sheet_end;
+use crate::numbers::bound_outside;
+use model::Answer;
+use model::Fault;
+use model::Thing;
+ghost use mathlib.Core.Path.{_≡_};
+ghost use Prim.Native.Nat.{_+_, _*_, _<_, _≤_};
+ghost use lib.ListN.{length};
+ghost use Rattle.model.specs.First.{first};
+ghost use Rattle.model.specs.Refusals.{answer};
+ghost use Rattle.nets.specs.Held.{Headed};
+ghost use Rattle.nets.specs.Nets.{risesTo, notRising, isBlank, arcNamesRefusal, arcNumbersRefusal, arcRefusal, arcFields};
+
+fn rises_to(s: &[u8], before: usize, at: usize) -> bool
+    requires { ⌜ (before + 4 ≤ length (now s)) × (at + 4 ≤ length (now s)) ⌝ }
+    ensures { λ r. ⌜ r ≡ risesTo (now (s .entry)) before at ⌝ }
+{
+    let last = u16_at(s, before);
+    let mode = u16_at(s, at);
+    if last < mode {
+        return true;
+    }
+    if last != mode {
+        return false;
+    }
+    u16_at(s, before + 2) < u16_at(s, at + 2)
+}
+
+fn not_rising(s: &[u8], start: usize, k: usize) -> bool
+    requires { ⌜ (k < 65536) × (start + 16 * k + 16 ≤ length (now s)) ⌝ }
+    ensures { λ r. ⌜ r ≡ notRising (now (s .entry)) start k ⌝ }
+{
+    if k == 0 {
+        return false;
+    }
+    !rises_to(s, start + 16 * (k - 1), start + 16 * k)
+}
+
+fn is_blank(s: &[u8], at: usize) -> bool
+    requires { ⌜ at + 16 ≤ length (now s) ⌝ }
+    ensures { λ r. ⌜ r ≡ isBlank (now (s .entry)) at ⌝ }
+{
+    if u32_at(s, at + 4) != 0 {
+        return false;
+    }
+    if u32_at(s, at + 8) != 0 {
+        return false;
+    }
+    u32_at(s, at + 12) == 0xffff_ffff
+}
+
+// 6 for the mode, 6 for the pair, 7.
+fn read_arc_names(s: &[u8], modes: usize, pairs: usize, start: usize, k: usize) -> Answer
+    requires { ⌜ (k < 65536) × (start + 16 * k + 16 ≤ length (now s)) ⌝ }
+    ensures { λ r. ⌜ r ≡ answer (arcNamesRefusal (now (s .entry)) modes pairs start k) ⌝ }
+{
+    let at = start + 16 * k;
+    if modes <= count_at(s, at) {
+        return refused(Thing::Net, Fault::NotThereAt(at));
+    }
+    if pairs <= count_at(s, at + 2) {
+        return refused(Thing::Net, Fault::NotThereAt(at + 2));
+    }
+    if not_rising(s, start, k) {
+        return refused(Thing::Net, Fault::NotRising(at));
+    }
+    Answer::Accepted
+}
+
+// 5 for Pre, Post and I in turn, 8.
+fn read_arc_numbers(s: &[u8], at: usize) -> Answer
+    requires { ⌜ at + 16 ≤ length (now s) ⌝ }
+    ensures { λ r. ⌜ r ≡ answer (arcNumbersRefusal (now (s .entry)) at) ⌝ }
+{
+    if 1_000_000 < u32_at(s, at + 4) {
+        return refused(Thing::Net, Fault::NumberOutside(at + 4));
+    }
+    if 1_000_000 < u32_at(s, at + 8) {
+        return refused(Thing::Net, Fault::NumberOutside(at + 8));
+    }
+    if bound_outside(u32_at(s, at + 12)) {
+        return refused(Thing::Net, Fault::NumberOutside(at + 12));
+    }
+    if is_blank(s, at) {
+        return refused(Thing::Net, Fault::Blank(at));
+    }
+    Answer::Accepted
+}
+
+fn read_arc(s: &[u8], modes: usize, pairs: usize, start: usize, k: usize) -> Answer
+    requires { ⌜ Headed (now s) ⌝ }
+    requires { ⌜ (start < 4096) × (k < 65536) ⌝ }
+    ensures { λ r. ⌜ r ≡ answer (arcRefusal (now (s .entry)) modes pairs start k) ⌝ }
+{
+    let at = start + 16 * k;
+    if sheet_end(s) < at + 16 {
+        return refused(Thing::Net, Fault::WrongLength(at));
+    }
+    let names = read_arc_names(s, modes, pairs, start, k);
+    if let Answer::Refused(_) = names {
+        return names;
+    }
+    read_arc_numbers(s, at)
+}
+
+fn read_arcs(s: &[u8], modes: usize, pairs: usize, start: usize, n: usize) -> Answer
+    requires { ⌜ Headed (now s) ⌝ }
+    requires { ⌜ (start < 4096) × (n < 65536) ⌝ }
+    ensures { λ r. ⌜ r ≡ answer (first n (arcRefusal (now (s .entry)) modes pairs start)) ⌝ }
+{
+    let mut k = 0;
+    while k < n {
+        let answer = read_arc(s, modes, pairs, start, k);
+        if let Answer::Refused(_) = answer {
+            return answer;
+        }
+        k += 1;
+    }
+    Answer::Accepted
+}
+
+// The arc count at `at`, the arcs, and nothing after them.
+pub(crate) fn arc_fields(s: &[u8], modes: usize, pairs: usize, at: usize) -> Answer
+    requires { ⌜ Headed (now s) ⌝ }
+    requires { ⌜ at < 4000 ⌝ }
+    ensures { λ r. ⌜ r ≡ answer (arcFields (now (s .entry)) modes pairs at) ⌝ }
+{
+    let count = read_count(s, at, 0, 2048);
+    if let Answer::Refused(_) = count {
+        return count;
+    }
+    let n = count_at(s, at);
+    let arcs = read_arcs(s, modes, pairs, at + 2, n);
+    if let Answer::Refused(_) = arcs {
+        return arcs;
+    }
+    left_over(s, Thing::Net, at + 2 + 16 * n)
+}
