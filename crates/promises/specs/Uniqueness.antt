@@ -3,7 +3,8 @@ use Prim.Native.Nat.{ℕ}
 use mathlib.Core.Path.{_≡_}
 use mathlib.Core.List.{List}
 use Rattle.model.specs.declared.Mode.{Mode}
-use Rattle.sheets.specs.Contracts.{ReadNetAllows, ReadWeightsAllows, ReadMovementsAllows, AfterNetAllows, AfterWeightsAllows, AfterMovementsAllows, WholeNetAllows, WholeWeightsAllows, WholeMovementsAllows}
+use Rattle.sheets.specs.Contracts.{ReadWeightsAllows, ReadMovementsAllows, AfterNetAllows, AfterWeightsAllows, AfterMovementsAllows, WholeNetAllows, WholeWeightsAllows, WholeMovementsAllows}
+use Rattle.nets.specs.Contracts.{ReadNetAllows}
 use Rattle.fire.specs.Contracts.{BeginAllows, TestAllows, FireAllows}
 use Rattle.run.specs.Contracts.{RunAllows, CertifyAllows}
 use Rattle.weigh.specs.Contracts.{FigureAllows, ChangeAllows}
