@@ -55,7 +55,7 @@ pub fn whole_movements(s: &[u8]) -> Answer
 }
 
 // The part of the caller's bytes after a sheet with this answer, the whole run on a refusal.
-fn after(s: &[u8], sheet: Answer) -> &[u8]
+pub fn after(s: &[u8], sheet: Answer) -> &[u8]
     requires { ⌜ (sheet ≡ Answer.Accepted → Headed (now s)) ⌝ }
     ensures { λ r. ⌜ now r ≡ rest sheet (now (s .entry)) ⌝ }
 {

@@ -1,1 +1,6 @@
 pub mod Continued
+pub mod LineSizes
+pub mod Stating
+pub mod Telling
+pub mod Texts
+pub mod Weighed

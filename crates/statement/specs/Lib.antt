@@ -1,3 +1,5 @@
 pub mod Ascii
+pub mod Contracts
 pub mod Lines
 pub mod Parts
+pub mod Replay

@@ -17,14 +17,14 @@ ghost use Rattle.statement.specs.Lines.{startLine, acceptedLine, refused
 ghost use Rattle.statement.specs.Parts.{Continues};
 
 pub(crate) fn put_start(out: &mut [u8], before: Put, figure: i64) -> Put
-    ensures { λ r. ⌜ Continues (now (out .entry)) before (startLine figure) r (now (out .exit)) ⌝ }
+    ensures { λ r. ⌜ Continues 27 (now (out .entry)) before (startLine figure) r (now (out .exit)) ⌝ }
 {
     let word = then_bytes(out, before, b"start");
     last_figure(out, word, figure)
 }
 
 pub(crate) fn put_accepted(out: &mut [u8], before: Put, place: u64, mode: Mode, figure: i64) -> Put
-    ensures { λ r. ⌜ Continues (now (out .entry)) before (acceptedLine place mode figure) r (now (out .exit)) ⌝ }
+    ensures { λ r. ⌜ Continues 84 (now (out .entry)) before (acceptedLine place mode figure) r (now (out .exit)) ⌝ }
 {
     let first = then_decimal(out, before, place);
     let second = next_decimal(out, first, mode.0 as u64);
@@ -34,7 +34,7 @@ pub(crate) fn put_accepted(out: &mut [u8], before: Put, place: u64, mode: Mode, 
 
 // The number and the position of a refusal, as the last words of a line.
 fn last_refusal(out: &mut [u8], before: Put, refusal: Refusal) -> Put
-    ensures { λ r. ⌜ Continues (now (out .entry)) before (space ∷ decimal (number (Refused refusal)) ++ (space ∷ decimal (position (Refused refusal)) ++ newline ∷ [])) r (now (out .exit)) ⌝ }
+    ensures { λ r. ⌜ Continues 43 (now (out .entry)) before (space ∷ decimal (number (Refused refusal)) ++ (space ∷ decimal (position (Refused refusal)) ++ newline ∷ [])) r (now (out .exit)) ⌝ }
 {
     let fault = refusal.fault;
     let line = line_of(fault);
@@ -50,7 +50,7 @@ pub(crate) fn put_refused(
     mode: Mode,
     refusal: Refusal,
 ) -> Put
-    ensures { λ r. ⌜ Continues (now (out .entry)) before (refusedLine place mode refusal) r (now (out .exit)) ⌝ }
+    ensures { λ r. ⌜ Continues 92 (now (out .entry)) before (refusedLine place mode refusal) r (now (out .exit)) ⌝ }
 {
     let word = then_bytes(out, before, b"refused");
     let first = next_decimal(out, word, place);
@@ -59,7 +59,7 @@ pub(crate) fn put_refused(
 }
 
 pub(crate) fn put_end(out: &mut [u8], before: Put, accepted: u64, figure: i64) -> Put
-    ensures { λ r. ⌜ Continues (now (out .entry)) before (endLine accepted figure) r (now (out .exit)) ⌝ }
+    ensures { λ r. ⌜ Continues 46 (now (out .entry)) before (endLine accepted figure) r (now (out .exit)) ⌝ }
 {
     let word = then_bytes(out, before, b"end");
     let first = next_decimal(out, word, accepted);
@@ -67,7 +67,7 @@ pub(crate) fn put_end(out: &mut [u8], before: Put, accepted: u64, figure: i64) -
 }
 
 pub(crate) fn put_bad(out: &mut [u8], before: Put, refusal: Refusal) -> Put
-    ensures { λ r. ⌜ Continues (now (out .entry)) before (badLine refusal) r (now (out .exit)) ⌝ }
+    ensures { λ r. ⌜ Continues 67 (now (out .entry)) before (badLine refusal) r (now (out .exit)) ⌝ }
 {
     let word = then_bytes(out, before, b"bad");
     let first = next_decimal(out, word, thing_of(refusal));
@@ -75,7 +75,7 @@ pub(crate) fn put_bad(out: &mut [u8], before: Put, refusal: Refusal) -> Put
 }
 
 pub(crate) fn put_long(out: &mut [u8], before: Put) -> Put
-    ensures { λ r. ⌜ Continues (now (out .entry)) before longLine r (now (out .exit)) ⌝ }
+    ensures { λ r. ⌜ Continues 5 (now (out .entry)) before longLine r (now (out .exit)) ⌝ }
 {
     then_bytes(out, before, b"long\n")
 }

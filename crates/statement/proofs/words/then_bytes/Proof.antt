@@ -1,5 +1,6 @@
 -- Where there was no room, nothing is put and the answer stays.
 use borrow.Author.Needs.{needs}
+use native.Mathlib.Nat.{le-refl}
 use Rattle.statement.proofs.Continued.{continued, stopped}
 use Rattle.statement.proofs.words.then_bytes.Statement.{statement}
 use Rattle.statement.proofs.words.then_bytes.Tie as tie
@@ -7,10 +8,10 @@ use Rattle.statement.proofs.words.then_bytes.Tie as tie
 returns : tie.Need-returns
 returns c =
     let call = c .before .before .put-bytes .ensures in
-    continued (c .before .before .before .before .before .before2 .given .1) (call .0) (call .1)
+    continued (le-refl _) (c .before .before .before .before .before .before2 .given .1) (call .0) (call .1)
 
 returns-2 : tie.Need-returns-2
-returns-2 c = stopped (c .enum-told .given .1)
+returns-2 c = stopped (le-refl _) (c .enum-told .given .1)
 
 pub then-bytes-spec : {M : Type 1} → statement M
 then-bytes-spec = tie.close (tie.spec (λ c. search needs) (λ c κs. search needs) (λ c. search needs) (λ c. search needs) returns returns-2)

@@ -1,0 +1,40 @@
+-- The text of an input, sheet by sheet: a sheet that is refused, or what follows an accepted one.
+use Prim.Native.Nat.{ℕ}
+use mathlib.Core.Path.{_≡_, sym, _∙_}
+use mathlib.Core.List.{List}
+use mathlib.Core.Option.{Option}
+use lib.IntN.{ℤ}
+use native.Mathlib.Omega.{arith}
+use Rattle.model.specs.declared.Mode.{Mode}
+use Rattle.model.specs.declared.Refusal.{Refusal}
+use Rattle.model.specs.declared.Answer.{Answer}
+use Rattle.model.specs.declared.Answer.the-variants.{Accepted, Refused}
+use Rattle.model.specs.Refusals.{answer}
+use Rattle.model.specs.Nets.{PNet}
+use Rattle.model.specs.Figures.{figure}
+use Rattle.model.proofs.Refusals.{answer-refused, answer-none}
+use Rattle.text.specs.declared.Put.{Put}
+use Rattle.statement.specs.Lines.{startLine, badLine}
+use Rattle.statement.specs.Parts.{Continues}
+use Rattle.statement.specs.Replay.{unlessRefused, linesFrom, runText, room}
+use Rattle.statement.proofs.Continued.{_and_, within}
+use Rattle.statement.proofs.Telling.{mostLines}
+
+module _ {out : List ℕ} {before put : Put} {now : List ℕ} where
+  module _ {a : Answer} (o : Option Refusal) (text : List ℕ) (e : a ≡ answer o) where
+    pub bad-told : {r : Refusal} → a ≡ Refused r → Continues 67 out before (badLine r) put now → Continues room out before (unlessRefused o text badLine) put now
+    unfolding unlessRefused
+    bad-told h p = rw (answer-refused o (sym e ∙ h)) (within p (omega (arith, p .within)))
+
+    pub text-told : a ≡ Accepted → Continues room out before text put now → Continues room out before (unlessRefused o text badLine) put now
+    unfolding unlessRefused
+    text-told h p = rw (answer-none o e h) p
+
+  -- `start`, then the movements
+  pub run-told : (net : PNet) (weights : List ℤ) (ts : List Mode) {m : List ℕ} {z : ℤ} {then : Put} {middle : List ℕ} → m ≡ net .start → z ≡ figure net weights m
+      → Continues 27 out before (startLine z) then middle → Continues mostLines middle then (linesFrom net weights 0 ts m) put now
+      → Continues room out before (runText net weights ts) put now
+  unfolding runText
+  run-told net weights ts e f p q =
+      let all = rw (f, e) at p and rw e at q in
+      within all (omega (arith, all .within))
