@@ -22,7 +22,7 @@ use Rattle.model.proofs.Firing.{accepted-there, accepted-enough}
 use Rattle.model.proofs.Markings.{marking-kept}
 use Rattle.model.proofs.Refusals.{answer-refused, answer-none}
 use Rattle.opened.specs.declared.shape.NetShape.{NetShape}
-use Rattle.sheets.specs.Layout.{movementCount}
+use Rattle.nets.specs.Layout.{movementCount}
 use Rattle.sheets.specs.Decoded.{netOf, weightsOf, movementsOf}
 use Rattle.sheets.proofs.Lists.{movements-length, movements-within}
 use Rattle.opened.proofs.Shapes.{sizes}

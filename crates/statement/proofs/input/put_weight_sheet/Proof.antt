@@ -1,7 +1,7 @@
 -- The weight sheet, or what stands in the part after it.
 use borrow.Author.Needs.{needs}
 use Rattle.model.proofs.Refusals.{answer-none}
-use Rattle.sheets.proofs.Heads.{weights-head}
+use Rattle.sheets.proofs.Lists.{weights-headed}
 use Rattle.opened.proofs.Shapes.{sizes}
 use Rattle.statement.specs.Replay.{weightsText}
 use Rattle.statement.proofs.Texts.{bad-told, text-told}
@@ -17,7 +17,7 @@ returns c =
     (bad-told _ _ (read .read-weights .ensures) (told .before .before .before .answer .given .1) (told .put-bad .ensures))
 
 after-requires : tie.Need-after-requires
-after-requires c κs = λ e. weights-head _ _ (answer-none _ (c .before .before .read-weights .ensures) e)
+after-requires c κs = λ e. weights-headed _ _ (answer-none _ (c .before .before .read-weights .ensures) e)
 
 put-movement-sheet-requires : tie.Need-put-movement-sheet-requires
 put-movement-sheet-requires c κs =
