@@ -9,3 +9,4 @@ pub mod WritesNothing
 pub mod CopiesNet
 pub mod RunFrauds
 pub mod Frauds
+pub mod CallTables

@@ -20,7 +20,8 @@ use Rattle.promises.specs.Frauds.{WritesNothing}
 use Rattle.promises.proofs.Accepting.{number-none}
 use Rattle.promises.proofs.OwnExample.{own-example}
 
-fired-moves : (net : PNet) (t : Mode) (m : List ℕ) (p : ℕ) → p < pairs net → modeRefusal Argument net t m ≡ none → row net t p .pre ≢ row net t p .post → fired net t m ≢ m
+fired-moves : (net : PNet) (t : Mode) (m : List ℕ) (p : ℕ) → p < pairs net → modeRefusal Argument net t m ≡ none
+    → row net t p .pre ≢ row net t p .post → fired net t m ≢ m
 fired-moves net t m p h e apart same =
     apart (omega (arith, marking-after net t m .0 p h, accepted-enough Argument net t m e p h, ap (λ m. count m p) same))
 

@@ -61,7 +61,8 @@ module _ (net movements marking : List ℕ) where
 
 -- "A run that fires only its first movement, or invents the accepted count, breaks demand 2."
 pub record RunFrauds : Type 0 where
-  pub invented : (net movements marking : List ℕ) (o : Ran × List ℕ) → o .0 .accepted ≢ runOf net movements marking .accepted → ¬ RunAllows net movements marking o
+  pub invented : (net movements marking : List ℕ) (o : Ran × List ℕ)
+      → o .0 .accepted ≢ runOf net movements marking .accepted → ¬ RunAllows net movements marking o
   -- those accepted after the first change some count in all (with two accepted: the second does)
   pub firstOnly : (net movements marking : List ℕ) (p : ℕ) → p < pairs (netOf net)
       → taken (netOf net) (later net movements marking) p ≢ given (netOf net) (later net movements marking) p

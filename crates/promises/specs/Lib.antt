@@ -5,3 +5,4 @@ pub mod Uniqueness
 pub mod OwnExample
 pub mod ConstantAnswers
 pub mod Frauds
+pub mod CallTables
