@@ -2,3 +2,11 @@ pub mod DemandThree
 pub mod TwoRuns
 pub mod FigureOverRun
 pub mod Uniqueness
+pub mod OwnExample
+pub mod ConstantAnswers
+pub mod Accepting
+pub mod WritesNothing
+pub mod CopiesNet
+pub mod RunFrauds
+pub mod Frauds
+pub mod CallTables

@@ -1,0 +1,205 @@
+-- Each call's chain of checks is read off its table.
+use Prim.Native.Nat.{ℕ, zero, suc, _+_, _<_}
+use mathlib.Core.Path.{_≡_, refl, sym, _∙_, ap, subst, subst⁻¹}
+use mathlib.Core.Bool.{Bool, true, false, false≢true, not, _&&_}
+use mathlib.Core.List.{List, [], _∷_}
+use mathlib.Core.Logic.{_⊎_, inl, inr, ⊎-elim, _≢_}
+use mathlib.Core.Option.{Option, none, some}
+use lib.Dec.{leb}
+use lib.ListN.{length, take, getD}
+use native.Mathlib.Omega.{arith}
+use Rattle.model.specs.declared.Mode.{Mode}
+use Rattle.model.specs.declared.Thing.{Thing}
+use Rattle.model.specs.declared.Thing.the-variants.{Net, Weights, Movements, Argument}
+use Rattle.model.specs.declared.Why.{Why}
+use Rattle.model.specs.declared.Why.the-variants.{Lacking, OverCapacity, Inhibited, OverLimit}
+use Rattle.model.specs.declared.Refusal.{Refusal}
+use Rattle.model.specs.First.{_▸_, first, onlyIf}
+use Rattle.model.specs.RefusalTables.{Table, row, _then_, each, Reads}
+use Rattle.model.specs.Numbers.{ℕ∞, fin, ∞, limit}
+use Rattle.model.specs.Nets.{PNet, pairs, modes, modeNo, K, count, row as modeRow}
+use Rattle.model.specs.Markings.{markingRefusal}
+use Rattle.model.specs.Firing.{compared, Stops, stopped, lowestStop, ruleRefusal, rowRefusal, absent, modeRefusal, fired}
+use Rattle.model.specs.Runs.{Outcome, goOn, runFrom, run, certificateRefusal}
+use Rattle.model.specs.Complement.{finite, complement, refusal15, refusal16, sheetLimits, complementRefusal}
+use Rattle.model.proofs.First.{below-or, left-none, then-none, then-assoc, then-under}
+use Rattle.model.proofs.Runs.{runs}
+use Rattle.model.proofs.Decisions.{Decided, by-less, by-at-most, by-equal, by-above, by-not, by-or, by-and, by-other}
+use Rattle.model.proofs.RefusalTables.{reads-row, reads-then, reads-each, reads-either}
+use Rattle.sheets.specs.Layout.{sheetEnd}
+use Rattle.sheets.specs.Whole.{bytesAfter, wholeNet, wholeWeights, wholeMovements}
+use Rattle.sheets.specs.Decoded.{netOf, movementsOf}
+use Rattle.sheets.proofs.RefusalTables.{sheet-tables}
+use Rattle.written.specs.Written.{sheetOf}
+use Rattle.fire.specs.Calls.{beginRefusal, testRefusal}
+use Rattle.fire.specs.Parts.{unequal}
+use Rattle.run.specs.Calls.{beforeRun, runOf, certifyRefusal}
+use Rattle.weigh.specs.Calls.{figureRefusal, changeRefusal}
+use Rattle.dead.specs.IsDead.{deadRefusal}
+use Rattle.complement.specs.Complemented.{roomRefusal, complementingRefusal}
+use Rattle.promises.specs.CallTables.{bytesLeft, wholeNetTable, wholeWeightTable, wholeMovementTable, oneEachTable, markingTable, missingTable, modeTable, markingAfter, movesTable, certificateTable, roomTable, RunReads, CallTables}
+
+plain : {test : Bool} {P : Type 0} (r : Refusal) → Decided test P → Reads (row P r) (onlyIf test r)
+plain r d = reads-row r d (λ p. refl)
+
+-- three checks and then one more are four in a row
+four : (a b c d : Option Refusal) → a ▸ b ▸ c ▸ d ≡ (a ▸ b ▸ c) ▸ d
+four a b c d = sym (then-assoc a (b ▸ c) d ∙ ap (λ e. a ▸ e) (then-assoc b c d))
+
+-- a sheet's table, then left-over bytes
+whole-reads : (thing : Thing) (s : List ℕ) {table : Table} {o : Option Refusal} → Reads table o → Reads (table then bytesLeft thing s) (o ▸ bytesAfter thing s)
+unfolding bytesAfter
+whole-reads thing s sheet = reads-then sheet (plain _ (by-less (sheetEnd s) (length s)))
+
+net-reads : (s : List ℕ) → Reads (wholeNetTable s) (wholeNet s)
+unfolding wholeNet
+net-reads s = whole-reads Net s (sheet-tables .nets s)
+
+weights-reads : (pairs : ℕ) (s : List ℕ) → Reads (wholeWeightTable pairs s) (wholeWeights pairs s)
+unfolding wholeWeights
+weights-reads pairs s = whole-reads Weights s (sheet-tables .weights pairs s)
+
+movements-reads : (s : List ℕ) → Reads (wholeMovementTable s) (wholeMovements s)
+unfolding wholeMovements
+movements-reads s = whole-reads Movements s (sheet-tables .movements s)
+
+one-each-reads : (net : PNet) (m : List ℕ) → Reads (oneEachTable net m) (unequal net m)
+one-each-reads net m = plain _ (by-not (by-equal (length m) (pairs net)))
+
+marking-reads : (net : PNet) (m : List ℕ) → Reads (markingTable net m) (markingRefusal net m)
+unfolding markingRefusal
+marking-reads net m =
+    reads-then (one-each-reads net m)
+    (reads-each (pairs net) (λ p l. reads-then (plain _ (by-less limit (count m p))) (plain _ (by-above (count m p) (K net p)))))
+
+missing-reads : (thing : Thing) (net : PNet) (t : Mode) → Reads (missingTable thing net t) (absent thing (modes net) t)
+missing-reads thing net t = plain _ (by-at-most (modes net) (t .0))
+
+module _ (thing : Thing) (net : PNet) (t : Mode) (m : List ℕ) where
+  stop-reads : (why : Why)
+      → Reads (each (pairs net) (λ p. row (Stops why (modeRow net t p) (K net p) (count m p)) (stopped thing why p)))
+      (lowestStop thing (pairs net) (K net) (modeRow net t) (count m) why)
+  stop-reads why =
+      reads-each (pairs net) (λ p l. let c = compared why (modeRow net t p) (K net p) (count m p) in plain _ (by-above (c .number) (c .bound)))
+
+  mode-reads : Reads (modeTable thing net t m) (modeRefusal thing net t m)
+  unfolding modeRefusal rowRefusal ruleRefusal
+  mode-reads =
+      reads-then (missing-reads thing net t)
+      (subst (Reads _) (four _ _ _ _) (reads-then (stop-reads Lacking)
+      (reads-then (stop-reads OverCapacity) (reads-then (stop-reads Inhibited) (stop-reads OverLimit)))))
+
+-- a run: its first refusal is that of the first movement refused, each tried at the marking that those before it gave
+first-front : (n : ℕ) (f : ℕ → Option Refusal) → first (suc n) f ≡ f 0 ▸ first n (λ i. f (suc i))
+unfolding first _▸_
+first-front zero f = sym (then-none (f 0))
+first-front (suc n) f = ap (λ o. o ▸ f (suc n)) (first-front n f) ∙ then-assoc (f 0) (first n (λ i. f (suc i))) (f (suc n))
+
+goes-on : (o : Option Refusal) (k : ℕ) (m : List ℕ) (next : Outcome) → goOn o k m next .refusal ≡ o ▸ next .refusal
+unfolding _▸_
+goes-on none k m next = refl
+goes-on (some r) k m next = refl
+
+module _ (net : PNet) where
+  abbrev moveRefusal : List Mode → List ℕ → ℕ → Option Refusal
+  moveRefusal ts m k = modeRefusal Movements net (getD ts k (modeNo 0)) (markingAfter net (take k ts) m)
+
+  run-refusal : (k : ℕ) (ts : List Mode) (m : List ℕ) → runFrom net k ts m .refusal ≡ first (length ts) (moveRefusal ts m)
+  unfolding runFrom markingAfter first
+  run-refusal k [] m = refl
+  run-refusal k (t ∷ ts) m =
+      goes-on (modeRefusal Movements net t m) k m (runFrom net (k + 1) ts (fired net t m))
+      ∙ ap (λ o. modeRefusal Movements net t m ▸ o) (run-refusal (k + 1) ts (fired net t m))
+      ∙ sym (first-front (length ts) (moveRefusal (t ∷ ts) m))
+
+  run-whole : (k : ℕ) (ts : List Mode) (m : List ℕ) → runFrom net k ts m .refusal ≡ none → runFrom net k ts m .marking ≡ markingAfter net ts m
+  unfolding runFrom markingAfter
+  run-whole k [] m e = refl
+  run-whole k (t ∷ ts) m e =
+      let passed = left-none (modeRefusal Movements net t m) _ (sym (goes-on _ k m _) ∙ e) in
+      rw passed (run-whole (k + 1) ts (fired net t m) (rw passed at e))
+
+  moves-reads : (ts : List Mode) (m : List ℕ) → Reads (movesTable net ts m) (run net ts m .refusal)
+  moves-reads ts m = subst⁻¹ (Reads _) (run-refusal 0 ts m) (reads-each (length ts) (λ k l. mode-reads Movements net _ _))
+
+  certificate-reads : (ts : List Mode) (claim : List ℕ) → Reads (certificateTable net ts claim) (certificateRefusal net ts claim)
+  unfolding certificateRefusal
+  certificate-reads ts claim =
+      reads-then (one-each-reads net claim)
+      (subst⁻¹ (Reads _) (then-under (run net ts (net .start) .refusal) (λ e. rw (run-whole 0 ts (net .start) e)))
+      (reads-then (moves-reads ts (net .start))
+      (reads-each (pairs net) (λ p l. plain _ (by-not (by-equal (count (markingAfter net ts (net .start)) p) (count claim p)))))))
+
+module _ (net movements marking : List ℕ) where
+  begun-run : beforeRun net movements marking ≡ none → runOf net movements marking ≡ run (netOf net) (movementsOf movements) marking
+  unfolding runOf
+  begun-run e = rw e
+
+  run-reads : RunReads net movements marking
+  unfolding runOf beforeRun
+  run-reads =
+      record {
+        refusal =
+            subst (Reads _) (four _ _ _ _ ∙ sym (goes-on (beforeRun net movements marking) 0 marking _))
+            (reads-then (net-reads net)
+            (reads-then (movements-reads movements)
+            (reads-then (marking-reads (netOf net) marking) (moves-reads (netOf net) (movementsOf movements) marking))));
+        stopsAt = λ e l.
+            let same = begun-run e in
+            rw same
+            (subst⁻¹ (Reads _) (runs (netOf net) (movementsOf movements) marking .refused (rw same at l)) (mode-reads Movements (netOf net) _ _));
+      }
+
+-- complementing
+by-finite : (x : ℕ∞) → Decided (finite x) ((i : ℕ) × (x ≡ fin i))
+by-finite (fin i) = record { sound = λ _. (i, refl); complete = λ _. refl }
+by-finite ∞ = record { sound = λ e. absurd (false≢true e); complete = λ h. ap finite (h .1) }
+
+by-unbounded : (x : ℕ∞) → Decided (not (finite x)) (x ≡ ∞)
+by-unbounded (fin i) = record { sound = λ e. absurd (false≢true e); complete = λ h. ap (λ x. not (finite x)) h }
+by-unbounded ∞ = record { sound = λ _. refl; complete = λ _. refl }
+
+-- one of three limits is passed
+past-limits : (places pairs arcs : ℕ)
+    → Decided (not (leb places 64 && leb pairs 256 && leb arcs 2048)) ((64 < places) ⊎ (256 < pairs) ⊎ (2048 < arcs))
+past-limits places pairs arcs =
+    by-other (by-not (by-and (by-and (by-at-most places 64) (by-at-most pairs 256)) (by-at-most arcs 2048)))
+    (λ no.
+    ⊎-elim inl
+    (λ a. inr (⊎-elim inl (λ b. inr (⊎-elim (λ c. c) (λ c. absurd (no ((a, b), c))) (below-or 2048 arcs))) (below-or 256 pairs)))
+    (below-or 64 places))
+    (⊎-elim (λ p h. omega (arith, h)) (⊎-elim (λ p h. omega (arith, h)) (λ p h. omega (arith, h))))
+
+room-reads : (s : List ℕ) (room : ℕ) → Reads (roomTable s room) (roomRefusal s room)
+unfolding roomRefusal complementRefusal refusal15 refusal16 sheetLimits
+room-reads s room =
+    let net = netOf s in
+    subst (Reads _) (four _ _ _ _)
+    (reads-then (reads-each (length (net .arcs)) (λ k l. plain _ (by-and (by-finite _) (by-unbounded _))))
+    (reads-then (reads-each (length (net .arcs)) (λ k l. plain _ (by-or (by-less limit _) (by-less limit _))))
+    (reads-either _ (past-limits (length (complement net .colours)) (pairs (complement net)) (length (complement net .arcs)))
+    (by-less room (length (sheetOf (complement net)))))))
+
+pub call-tables : CallTables
+unfolding beginRefusal testRefusal certifyRefusal figureRefusal changeRefusal deadRefusal complementingRefusal
+call-tables =
+    record {
+      readNet = sheet-tables .nets;
+      readWeights = sheet-tables .weights;
+      readMovements = sheet-tables .movements;
+      wholeNet = net-reads;
+      wholeWeights = weights-reads;
+      wholeMovements = movements-reads;
+      begin = λ net marking. reads-then (net-reads net) (one-each-reads (netOf net) marking);
+      test = λ net marking t.
+          reads-then (net-reads net) (reads-then (marking-reads (netOf net) marking) (mode-reads Argument (netOf net) t marking));
+      run = run-reads;
+      certify = λ net movements claim.
+          reads-then (net-reads net) (reads-then (movements-reads movements) (certificate-reads (netOf net) (movementsOf movements) claim));
+      figure = λ net weights marking.
+          reads-then (net-reads net) (reads-then (weights-reads (pairs (netOf net)) weights) (marking-reads (netOf net) marking));
+      change = λ net weights t.
+          reads-then (net-reads net) (reads-then (weights-reads (pairs (netOf net)) weights) (missing-reads Argument (netOf net) t));
+      isDead = λ net t. reads-then (net-reads net) (missing-reads Argument (netOf net) t);
+      complement = λ net room. reads-then (net-reads net) (room-reads net room);
+    }

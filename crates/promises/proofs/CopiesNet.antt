@@ -1,0 +1,88 @@
+-- A net with a bounded pair has fewer places than its complement, so that its own sheet is not the complement's.
+use Prim.Native.Nat.{ℕ, _≤_, _<_}
+use mathlib.Core.Path.{_≡_, refl, sym, _∙_, ap}
+use mathlib.Core.List.{List, [], _∷_, _++_, append-nil}
+use mathlib.Core.Logic.{_≢_}
+use mathlib.Core.Option.{Option, none, some}
+use lib.ListN.{length, take, length-append, List·getD-eq-default}
+use lib.Seq.{getD-take}
+use native.Mathlib.Omega.{arith}
+use Rattle.model.specs.declared.Refusal.{Refusal}
+use Rattle.model.specs.Numbers.{fin}
+use Rattle.model.specs.Nets.{PNet, pairs, K, count}
+use Rattle.model.specs.Complement.{complementPair, newPlaces, complement}
+use Rattle.model.proofs.First.{left-none}
+use Rattle.model.proofs.Bounded.{bounded-number}
+use Rattle.model.proofs.ComplementNet.{pairs-complement}
+use Rattle.model.proofs.Demand3.{demand3}
+use Rattle.sheets.specs.Bytes.{byteAt, u16At}
+use Rattle.sheets.specs.Layout.{placeCount}
+use Rattle.sheets.specs.Nets.{netRefusal}
+use Rattle.sheets.specs.Whole.{wholeNet}
+use Rattle.sheets.specs.Decoded.{netOf}
+use Rattle.sheets.proofs.Meaning.{counts-length, colours-are}
+use Rattle.sheets.proofs.Valid.{counts-hold}
+use Rattle.written.proofs.RoundTrip.{written-then-read}
+use Rattle.complement.specs.Complemented.{told, complementSheet, complemented, complementingRefusal, outputOf}
+use Rattle.promises.specs.Frauds.{AddUp, CopiesNet}
+use Rattle.promises.specs.OwnExample as own
+use Rattle.promises.proofs.Accepting.{number-none}
+use Rattle.promises.proofs.DemandThree.{complementable}
+
+length-refused : (o : Option Refusal) (l : ℕ) → told (complemented o l) .number ≡ 0 → o ≡ none
+length-refused none l e = refl
+length-refused (some r) l e = number-none (some r) e
+
+more-places : (net : PNet) (p k : ℕ) → p < pairs net → K net p ≡ fin k → length (net .colours) < length (complement net .colours)
+unfolding complement
+more-places net p k h e = go (newPlaces (K net) (net .colours)) refl
+  where
+    go : (new : List ℕ) → newPlaces (K net) (net .colours) ≡ new → length (net .colours) < length (net .colours ++ newPlaces (K net) (net .colours))
+    go [] q =
+        let same : pairs (complement net) ≡ pairs net = rw (q, append-nil (net .colours)) in
+        absurd (omega (arith, same, pairs-complement net, bounded-number (K net) (pairs net) p k h e))
+    go (c ∷ new) q = rw (q, length-append) (omega arith)
+
+-- the place count stands in the first nine bytes, which an accepted sheet has
+places-are : (s : List ℕ) → placeCount s ≡ length (netOf s .colours)
+places-are s = sym (ap length (colours-are s) ∙ counts-length s _ _)
+
+same-places : (net s : List ℕ) → netRefusal net ≡ none → take (length net) s ≡ net → placeCount s ≡ placeCount net
+unfolding u16At
+same-places net s e same = rw (byte 5 (omega (arith, sized)), byte 6 (omega (arith, sized)))
+  where
+    sized : 9 ≤ length net
+    sized = let c = counts-hold net e in omega (arith, c .sized .there, c .sized .head .there)
+
+    byte : (i : ℕ) → i < length net → byteAt s i ≡ byteAt net i
+    byte i h = sym (getD-take (length net) s i 0 h) ∙ ap (λ l. byteAt l i) same
+
+net-accepted : (net : List ℕ) (room : ℕ) → complementingRefusal net room ≡ none → netRefusal net ≡ none
+unfolding complementingRefusal wholeNet
+net-accepted net room e = left-none (netRefusal net) _ (left-none _ _ e)
+
+written-places : (net out : List ℕ) → complementingRefusal net (length out) ≡ none → placeCount (outputOf net out) ≡ length (complement (netOf net) .colours)
+written-places net out e =
+    let back = written-then-read (complement (netOf net)) (demand3 (netOf net) (complementable net (length out) e) .readsBack) in
+    rw e (places-are _ ∙ ap (λ n. length (n .colours)) (back .sameFirst _))
+
+no-sum : (net : PNet) (m : List ℕ) → length m ≡ pairs net → (p k : ℕ) → p < pairs net → K net p ≡ fin k → count m p ≢ k → ¬ AddUp net m m
+no-sum net m each p k h e apart sums =
+    let beyond : count m (complementPair (pairs net) (K net) p) ≡ 0 = List·getD-eq-default m 0 (omega arith) in
+    apart (omega (arith, sums p k h e))
+
+pub copies-net : CopiesNet
+copies-net =
+    record {
+      excluded = λ net out p k h e o a n same.
+          let q = length-refused (complementingRefusal net (length out)) (length (complementSheet net)) (sym (ap (λ c. told c .number) (a .0)) ∙ n) in
+          omega (
+            arith,
+            written-places net out q,
+            same-places net (outputOf net out) (net-accepted net (length out) q) (ap (take (length net)) (sym (a .1)) ∙ same),
+            places-are net,
+            more-places (netOf net) p k h e,
+          );
+      noSum = no-sum;
+      onExample = no-sum own.example (3 ∷ 0 ∷ []) refl 0 5 (omega arith) refl (λ e. omega arith);
+    }

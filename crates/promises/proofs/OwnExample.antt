@@ -1,0 +1,196 @@
+-- Document 01's own example: its sheet is read back, and the rest is computed from the net.
+use Prim.Native.Nat.{ℕ, _≤_}
+use mathlib.Core.Path.{_≡_, refl, _∙_, ap}
+use mathlib.Core.Bool.{false}
+use mathlib.Core.List.{List, [], _∷_}
+use mathlib.Core.Logic.{inr}
+use mathlib.Core.Option.{none, some}
+use lib.IntN.{pos, negsuc}
+use lib.ListN.{length}
+use native.Mathlib.Omega.{arith}
+use Rattle.model.specs.declared.Thing.the-variants.{Argument, Movements}
+use Rattle.model.specs.declared.Why.the-variants.{Lacking}
+use Rattle.model.specs.Numbers.{∞}
+use Rattle.model.specs.First.{_▸_, first}
+use Rattle.model.specs.Nets.{modeNo, entryAt}
+use Rattle.model.specs.Refusals.{number, thing, position}
+use Rattle.model.specs.Runs.{Outcome, runFrom, run, certificateRefusal}
+use Rattle.model.specs.Figures.{sum, figure, change}
+use Rattle.model.specs.Dead.{deadPair, isDead, firstDead}
+use Rattle.model.specs.Complement.{joined, bounded, complementRow, newPlaces, arcsOf, complement, refusal15, refusal16, sheetLimits, complementRefusal}
+use Rattle.model.specs.Firing.{stopped, ruleRefusal, rowRefusal, modeRefusal, table, fired}
+use Rattle.model.specs.WellFormed.{InRange, ArcOf, WellFormed}
+use Rattle.model.specs.Markings.{markingRefusal}
+use Rattle.model.proofs.First.{left-none, right-none, none-then}
+use Rattle.model.proofs.Markings.{marking-test}
+use Rattle.model.proofs.Each.{each-at, sorted-rising}
+use Rattle.sheets.specs.Bytes.{u16At, u32At}
+use Rattle.sheets.specs.Checks.{headRefusal}
+use Rattle.sheets.specs.Weights.{signed, weightRefusal, weightFields, weightsRefusal}
+use Rattle.sheets.specs.Movements.{movementFields, movementsRefusal}
+use Rattle.sheets.specs.Whole.{bytesAfter, wholeWeights, wholeMovements}
+use Rattle.sheets.specs.Decoded.{weightsOf, movementsOf}
+use Rattle.opened.specs.Shape.{arcOffset}
+use Rattle.written.specs.Promises.{ReadBack}
+use Rattle.written.specs.Written.{sheetOf}
+use Rattle.written.proofs.RoundTrip.{written-then-read}
+use Rattle.written.proofs.SheetLength.{sheet-size}
+use Rattle.fire.specs.Calls.{beginRefusal, testRefusal}
+use Rattle.run.specs.declared.Ran.{Ran}
+use Rattle.run.specs.Contracts.{RunAllows}
+use Rattle.run.specs.Calls.{ranOf, beforeRun, runOf, certifyRefusal}
+use Rattle.weigh.specs.Calls as weigh
+use Rattle.weigh.specs.Calls.{figured, figureRefusal, changeRefusal}
+use Rattle.dead.specs.IsDead as one
+use Rattle.dead.specs.IsDead.{deadRefusal}
+use Rattle.dead.specs.FirstDead as first
+use Rattle.complement.specs.Complemented as complementing
+use Rattle.complement.specs.Complemented.{roomRefusal, complementingRefusal}
+use Rattle.promises.specs.OwnExample.{example, RunsTo, OwnExample}
+use Rattle.promises.specs.OwnExample as own
+
+start-accepted : markingRefusal example (3 ∷ 0 ∷ []) ≡ none
+unfolding markingRefusal first _▸_
+start-accepted = refl
+
+well-formed : WellFormed example
+well-formed =
+    record {
+      somePlace = omega arith;
+      places = record { many = omega arith; each = each-at (λ c. (1 ≤ c) × (c ≤ 64)) 0 (1 ∷ 1 ∷ []) (omega arith); inTotal = omega arith };
+      transitions = record { many = omega arith; each = each-at (λ c. (1 ≤ c) × (c ≤ 64)) 0 (1 ∷ []) (omega arith); inTotal = omega arith };
+      capacities = refl;
+      capacityInRange = each-at InRange ∞ (example .capacity) (omega arith);
+      start = marking-test example (3 ∷ 0 ∷ []) .0 start-accepted;
+      arcCount = omega arith;
+      eachArc =
+          each-at (ArcOf example) _ (example .arcs) (
+            record { mode = omega arith; pair = omega arith; pre = omega arith; post = omega arith; inhibitor = omega arith; notBlank = λ b. omega (arith, b .pre) },
+            (record { mode = omega arith; pair = omega arith; pre = omega arith; post = omega arith; inhibitor = tt; notBlank = λ b. omega (arith, b .post) }, tt),
+          );
+      rising = sorted-rising (example .arcs) ((inr (refl, omega arith), tt), (tt, tt));
+    }
+
+pub read-back : ReadBack example
+read-back = written-then-read example well-formed
+
+pub weights-read : wholeWeights 2 own.weights ≡ none
+unfolding wholeWeights weightsRefusal weightFields weightRefusal headRefusal bytesAfter first _▸_ signed u16At u32At
+weights-read = refl
+
+pub movements-read : wholeMovements own.movements ≡ none
+unfolding wholeMovements movementsRefusal movementFields headRefusal bytesAfter _▸_ u16At u32At
+movements-read = refl
+
+three-read : wholeMovements own.three ≡ none
+unfolding wholeMovements movementsRefusal movementFields headRefusal bytesAfter _▸_ u16At u32At
+three-read = refl
+
+begins : beginRefusal own.net (0 ∷ 0 ∷ []) ≡ none
+unfolding beginRefusal
+begins = none-then (read-back .accepted) (rw (read-back .same))
+
+moves-first : modeRefusal Argument example (modeNo 0) (3 ∷ 0 ∷ []) ≡ none
+unfolding modeRefusal rowRefusal ruleRefusal first _▸_ entryAt
+moves-first = refl
+
+pub tests : testRefusal own.net (3 ∷ 0 ∷ []) (modeNo 0) ≡ none
+unfolding testRefusal
+tests = none-then (read-back .accepted) (rw (read-back .same) (none-then start-accepted moves-first))
+
+fires : fired example (modeNo 0) (3 ∷ 0 ∷ []) ≡ 2 ∷ 1 ∷ []
+unfolding fired table entryAt
+fires = refl
+
+abbrev stops : Outcome
+stops = record { accepted = 3; refusal = some (stopped Movements Lacking 0); marking = 0 ∷ 3 ∷ [] }
+
+before-run : (sheet : List ℕ) → wholeMovements sheet ≡ none → beforeRun own.net sheet (3 ∷ 0 ∷ []) ≡ none
+unfolding beforeRun
+before-run sheet e = none-then (read-back .accepted) (none-then e (rw (read-back .same) start-accepted))
+
+runs : run example (movementsOf own.movements) (3 ∷ 0 ∷ []) ≡ stops
+unfolding runFrom movementsOf table u16At u32At modeRefusal rowRefusal ruleRefusal first _▸_ entryAt fired
+runs = refl
+
+run-is : runOf own.net own.movements (3 ∷ 0 ∷ []) ≡ stops
+unfolding runOf
+run-is = rw (before-run own.movements movements-read, read-back .same) runs
+
+certificate : certificateRefusal example (movementsOf own.three) (0 ∷ 3 ∷ []) ≡ none
+unfolding certificateRefusal runFrom movementsOf table u16At u32At modeRefusal rowRefusal ruleRefusal first _▸_ entryAt fired
+certificate = refl
+
+certifies : certifyRefusal own.net own.three (0 ∷ 3 ∷ []) ≡ none
+unfolding certifyRefusal
+certifies = none-then (read-back .accepted) (none-then three-read (rw (read-back .same) certificate))
+
+pub runs-whole : runOf own.net own.three (3 ∷ 0 ∷ []) .refusal ≡ none
+unfolding runOf certificateRefusal
+runs-whole = rw (before-run own.three three-read, read-back .same) (left-none _ _ (right-none _ _ certificate))
+
+figure-accepted : figureRefusal own.net own.weights (3 ∷ 0 ∷ []) ≡ none
+unfolding figureRefusal
+figure-accepted = none-then (read-back .accepted) (rw (read-back .same) (none-then weights-read start-accepted))
+
+figure-is : figure example (weightsOf own.weights) (3 ∷ 0 ∷ []) ≡ pos 750
+unfolding figure sum weightsOf table signed u16At u32At
+figure-is = refl
+
+change-accepted : changeRefusal own.net own.weights (modeNo 0) ≡ none
+unfolding changeRefusal
+change-accepted = none-then (read-back .accepted) (rw (read-back .same) (none-then weights-read refl))
+
+change-is : change example (weightsOf own.weights) (modeNo 0) ≡ negsuc 249
+unfolding change sum weightsOf table signed u16At u32At entryAt
+change-is = refl
+
+dead-accepted : deadRefusal own.net (modeNo 0) ≡ none
+unfolding deadRefusal
+dead-accepted = none-then (read-back .accepted) (rw (read-back .same))
+
+alive : isDead example (modeNo 0) ≡ false
+unfolding isDead deadPair first _▸_ entryAt
+alive = refl
+
+none-dead : firstDead example ≡ none
+unfolding firstDead deadPair first _▸_ entryAt
+none-dead = refl
+
+complement-passes : (offset : ℕ → ℕ) → complementRefusal offset example ≡ none
+unfolding complementRefusal refusal15 refusal16 sheetLimits complement arcsOf newPlaces complementRow bounded joined entryAt first _▸_
+complement-passes offset = refl
+
+complement-length : length (sheetOf (complement example)) ≡ 91
+unfolding complement arcsOf newPlaces complementRow bounded joined entryAt
+complement-length = sheet-size (complement example)
+
+complement-accepted : complementingRefusal own.net (length own.room) ≡ none
+unfolding complementingRefusal roomRefusal
+complement-accepted = none-then (read-back .accepted) (rw (read-back .same) (none-then (complement-passes (arcOffset own.net)) (rw complement-length)))
+
+run-allows : (o : Ran × List ℕ) → RunAllows own.net own.movements (3 ∷ 0 ∷ []) o → RunsTo o
+run-allows o a =
+    let told : o .0 ≡ ranOf stops = a .0 ∙ ap ranOf run-is in
+    record {
+      accepted = ap (λ r. r .accepted) told;
+      refusedBy = ap (λ r. number (r .answer)) told;
+      itsThing = ap (λ r. thing (r .answer)) told;
+      pair = ap (λ r. position (r .answer)) told;
+      marking = a .1 ∙ ap (λ r. r .marking) run-is;
+    }
+
+pub own-example : OwnExample
+unfolding figured
+own-example =
+    record {
+      begin = λ o a. (ap number (a .0) ∙ rw begins, a .1 ∙ rw (begins, read-back .same));
+      fire = λ o a. (ap number (a .0) ∙ rw tests, a .1 ∙ rw (tests, read-back .same) fires);
+      run = run-allows;
+      certify = λ told a. ap number a ∙ rw certifies;
+      figure = λ o a. ap weigh.told a ∙ rw (figure-accepted, read-back .same, figure-is);
+      change = λ o a. ap weigh.told a ∙ rw (change-accepted, read-back .same, change-is);
+      isDead = λ o a. ap one.told a ∙ rw (dead-accepted, read-back .same, alive);
+      firstDead = λ o a. ap first.told a ∙ rw (read-back .accepted, read-back .same, none-dead);
+      complement = λ o a. ap complementing.told (a .0) ∙ rw (complement-accepted, read-back .same, complement-length);
+    }

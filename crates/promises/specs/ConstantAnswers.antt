@@ -1,0 +1,62 @@
+-- "Refusing all, or one constant answer, breaks the exact refusal table": each contract accepts something, refuses something, and excludes every answer somewhere.
+use Prim.Native.Nat.{ℕ}
+use mathlib.Core.Path.{_≡_}
+use mathlib.Core.List.{List}
+use mathlib.Core.Logic.{_≢_}
+use lib.ListN.{length}
+use Rattle.model.specs.declared.Mode.{Mode}
+use Rattle.model.specs.Refusals.{number}
+use Rattle.sheets.specs.Contracts.{ReadNetAllows, ReadWeightsAllows, ReadMovementsAllows, AfterNetAllows, AfterWeightsAllows, AfterMovementsAllows, WholeNetAllows, WholeWeightsAllows, WholeMovementsAllows}
+use Rattle.fire.specs.Contracts.{BeginAllows, TestAllows, FireAllows}
+use Rattle.run.specs.Contracts.{RunAllows, CertifyAllows}
+use Rattle.weigh.specs.Calls as weigh
+use Rattle.weigh.specs.Contracts.{FigureAllows, ChangeAllows}
+use Rattle.dead.specs.IsDead as one
+use Rattle.dead.specs.FirstDead as first
+use Rattle.dead.specs.Contracts.{IsDeadAllows, FirstDeadAllows}
+use Rattle.complement.specs.Complemented as complementing
+use Rattle.complement.specs.Contracts.{ComplementAllows}
+
+-- what a call is given, the outcomes that its contract then allows, and the number of an outcome's answer
+module _ {I O : Type 0} (Allows : I → O → Type 0) (number : O → ℕ) where
+  abbrev pub Only : ℕ → I → Type 0
+  Only n given = (o : O) → Allows given o → number o ≡ n
+
+  abbrev pub Never : ℕ → I → Type 0
+  Never n given = (o : O) → Allows given o → number o ≢ n
+
+  -- for every answer there is something given for which it is excluded, whatever is left in a lent slice
+  abbrev pub NotConstant : Type 0
+  NotConstant = (o : O) → (given : I) × Never (number o) given
+
+  pub record Varies : Type 0 where
+    pub notAllRefused : (given : I) × Only 0 given
+    pub notAllAccepted : (given : I) × Never 0 given
+    pub notConstant : NotConstant
+
+-- a reader's part has no number: handing back the whole run always, as on a refusal, is excluded, and so is every constant part, by its length
+pub record PartVaries {I : Type 0} (Allows : I → List ℕ → Type 0) (run : I → List ℕ) : Type 0 where
+  pub notWholeRun : (given : I) × (¬ Allows given (run given))
+  pub notConstant : NotConstant Allows length
+
+-- a field for each public call
+pub record ConstantAnswers : Type 0 where
+  pub readNet : Varies ReadNetAllows number
+  pub readWeights : Varies (λ (i : List ℕ × ℕ). ReadWeightsAllows (i .0) (i .1)) number
+  pub readMovements : Varies ReadMovementsAllows number
+  pub afterNet : PartVaries AfterNetAllows (λ s. s)
+  pub afterWeights : PartVaries (λ (i : List ℕ × ℕ). AfterWeightsAllows (i .0) (i .1)) (λ i. i .0)
+  pub afterMovements : PartVaries AfterMovementsAllows (λ s. s)
+  pub wholeNet : Varies WholeNetAllows number
+  pub wholeWeights : Varies (λ (i : List ℕ × ℕ). WholeWeightsAllows (i .0) (i .1)) number
+  pub wholeMovements : Varies WholeMovementsAllows number
+  pub begin : Varies (λ (i : List ℕ × List ℕ). BeginAllows (i .0) (i .1)) (λ o. number (o .0))
+  pub test : Varies (λ (i : List ℕ × List ℕ × Mode). TestAllows (i .0) (i .1) (i .2)) number
+  pub fire : Varies (λ (i : List ℕ × List ℕ × Mode). FireAllows (i .0) (i .1) (i .2)) (λ o. number (o .0))
+  pub run : Varies (λ (i : List ℕ × List ℕ × List ℕ). RunAllows (i .0) (i .1) (i .2)) (λ o. number (o .0 .answer))
+  pub certify : Varies (λ (i : List ℕ × List ℕ × List ℕ). CertifyAllows (i .0) (i .1) (i .2)) number
+  pub figure : Varies (λ (i : List ℕ × List ℕ × List ℕ). FigureAllows (i .0) (i .1) (i .2)) (λ o. weigh.told o .number)
+  pub change : Varies (λ (i : List ℕ × List ℕ × Mode). ChangeAllows (i .0) (i .1) (i .2)) (λ o. weigh.told o .number)
+  pub isDead : Varies (λ (i : List ℕ × Mode). IsDeadAllows (i .0) (i .1)) (λ o. one.told o .number)
+  pub firstDead : Varies FirstDeadAllows (λ o. first.told o .number)
+  pub complement : Varies (λ (i : List ℕ × List ℕ). ComplementAllows (i .0) (i .1)) (λ o. complementing.told (o .0) .number)

@@ -1,0 +1,82 @@
+-- Document 01's own example, as the calls are given it, and what their contracts allow on it.
+use Prim.Native.Nat.{ℕ}
+use mathlib.Core.Path.{_≡_}
+use mathlib.Core.Bool.{false}
+use mathlib.Core.List.{List, [], _∷_}
+use mathlib.Core.Option.{none}
+use lib.IntN.{pos, negsuc}
+use lib.ListN.{replicate}
+use Rattle.model.specs.declared.Answer.{Answer}
+use Rattle.model.specs.Refusals.{number, thing, position}
+use Rattle.model.specs.Replies.{yields}
+use Rattle.model.specs.Numbers.{fin, ∞}
+use Rattle.model.specs.Nets.{PNet, pairNo, modeNo}
+use Rattle.written.specs.Written.{sheetOf}
+use Rattle.fire.specs.Contracts.{BeginAllows, FireAllows}
+use Rattle.run.specs.declared.Ran.{Ran}
+use Rattle.run.specs.Contracts.{RunAllows, CertifyAllows}
+use Rattle.weigh.specs.declared.Figured.{Figured}
+use Rattle.weigh.specs.Calls as weigh
+use Rattle.weigh.specs.Contracts.{FigureAllows, ChangeAllows}
+use Rattle.dead.specs.declared.Deadness.{Deadness}
+use Rattle.dead.specs.declared.FirstDead.{FirstDead}
+use Rattle.dead.specs.IsDead as one
+use Rattle.dead.specs.FirstDead as first
+use Rattle.dead.specs.Contracts.{IsDeadAllows, FirstDeadAllows}
+use Rattle.complement.specs.declared.Complemented.{Complemented}
+use Rattle.complement.specs.Complemented as complementing
+use Rattle.complement.specs.Contracts.{ComplementAllows}
+
+-- "two places, aboard (one colour, K 5, first 3) and ashore (one colour, unbounded, first 0); one transition of one mode; arcs 0,0 with Pre 1, Post 0, I 4
+-- and 0,1 with Pre 0, Post 1, I unbounded"
+abbrev pub example : PNet
+example =
+    record {
+      colours = 1 ∷ 1 ∷ [];
+      modesOf = 1 ∷ [];
+      capacity = fin 5 ∷ ∞ ∷ [];
+      start = 3 ∷ 0 ∷ [];
+      arcs =
+          record { mode = modeNo 0; pair = pairNo 0; entry = record { pre = 1; post = 0; inhibitor = fin 4 } }
+          ∷ record { mode = modeNo 0; pair = pairNo 1; entry = record { pre = 0; post = 1; inhibitor = ∞ } }
+          ∷ [];
+    }
+
+abbrev pub net : List ℕ
+net = sheetOf example
+
+-- "Weights 250 and 0 (L = 11). Movements 0, 0, 0, 0 (L = 9)."
+abbrev pub weights : List ℕ
+weights = 0 ∷ 0 ∷ 0 ∷ 11 ∷ 1 ∷ 0 ∷ 2 ∷ 0 ∷ 0 ∷ 0 ∷ 250 ∷ 0 ∷ 0 ∷ 0 ∷ 0 ∷ []
+
+abbrev pub movements : List ℕ
+movements = 0 ∷ 0 ∷ 0 ∷ 9 ∷ 1 ∷ replicate 8 0
+
+-- the three of them that are accepted
+abbrev pub three : List ℕ
+three = 0 ∷ 0 ∷ 0 ∷ 7 ∷ 1 ∷ replicate 6 0
+
+-- a slice with room for the complement, which "has L = 87"
+abbrev pub room : List ℕ
+room = replicate 91 0
+
+pub record RunsTo (o : Ran × List ℕ) : Type 0 where
+  pub accepted : o .0 .accepted ≡ 3
+  pub refusedBy : number (o .0 .answer) ≡ 11
+  pub itsThing : thing (o .0 .answer) ≡ 2
+  pub pair : position (o .0 .answer) ≡ 0
+  pub marking : o .1 ≡ 0 ∷ 3 ∷ []
+
+pub record OwnExample : Type 0 where
+  pub begin : (o : Answer × List ℕ) → BeginAllows net (0 ∷ 0 ∷ []) o → (number (o .0) ≡ 0) × (o .1 ≡ 3 ∷ 0 ∷ [])
+  pub fire : (o : Answer × List ℕ) → FireAllows net (3 ∷ 0 ∷ []) (modeNo 0) o → (number (o .0) ≡ 0) × (o .1 ≡ 2 ∷ 1 ∷ [])
+  -- "refused 4 0 11 0", "end 3 0"
+  pub run : (o : Ran × List ℕ) → RunAllows net movements (3 ∷ 0 ∷ []) o → RunsTo o
+  pub certify : (told : Answer) → CertifyAllows net three (0 ∷ 3 ∷ []) told → number told ≡ 0
+  -- "start 750"
+  pub figure : (o : Figured) → FigureAllows net weights (3 ∷ 0 ∷ []) o → weigh.told o ≡ yields (pos 750)
+  -- -250
+  pub change : (o : Figured) → ChangeAllows net weights (modeNo 0) o → weigh.told o ≡ yields (negsuc 249)
+  pub isDead : (o : Deadness) → IsDeadAllows net (modeNo 0) o → one.told o ≡ yields false
+  pub firstDead : (o : FirstDead) → FirstDeadAllows net o → first.told o ≡ yields none
+  pub complement : (o : Complemented × List ℕ) → ComplementAllows net room o → complementing.told (o .0) ≡ yields 91
