@@ -2,9 +2,11 @@
 // Document 01's numbers for them are in specs/Refusals.antt.
 
 // A pair's number: a place with one of its colours, from PLACE (document 01, "Pairs, modes and the firing rule").
+#[repr(C)]
 pub struct Pair(pub u16);
 
 // A mode's number: a transition with one of its colours, from TRANS.
+#[repr(C)]
 pub struct Mode(pub u16);
 
 // An arc as a net sheet writes it: an inhibitor of 4,294,967,295 is unbounded.

@@ -1,5 +1,5 @@
 // A certificate once both sheets are accepted: 17 for the claim, the run from the first marking, 18.
-use crate::movements::run_sheet;
+use crate::walk::walk_sheet;
 use fire::start::write_start;
 use model::Answer;
 use model::Fault;
@@ -59,7 +59,7 @@ fn end_answer(
     ensures { λ r. ⌜ r ≡ answer (endsAt (netOf (now (s .entry))) (movementsOf (now (movements .entry))) (now (claim .entry))) ⌝ }
 {
     write_start(s, net, counts);
-    let ran = run_sheet(s, net, movements, counts);
+    let ran = walk_sheet(s, net, movements, counts);
     let answer = ran.answer;
     if let Answer::Refused(_) = answer {
         return answer;

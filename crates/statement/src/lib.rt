@@ -2,7 +2,6 @@
 mod input;
 mod lines;
 mod movements;
-mod refusals;
 mod words;
 
 use crate::input::put_sheets;

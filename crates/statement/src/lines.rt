@@ -1,6 +1,4 @@
 // The lines of the output, each put after what has been put so far.
-use crate::refusals::line_of;
-use crate::refusals::thing_of;
 use crate::words::last_figure;
 use crate::words::next_decimal;
 use crate::words::then_bytes;
@@ -8,6 +6,8 @@ use crate::words::then_decimal;
 use model::Mode;
 use model::Refusal;
 use text::Put;
+use told::line_of;
+use told::thing_of;
 ghost use mathlib.Core.List.{[], _∷_, _++_};
 ghost use Rattle.model.specs.declared.Answer.the-variants.{Refused};
 ghost use Rattle.model.specs.Refusals.{number, position};

@@ -6,8 +6,8 @@ use Rattle.run.proofs.Certifying.{ends-stopped, ends-compared}
 use Rattle.run.proofs.certificate.end_answer.Statement.{statement}
 use Rattle.run.proofs.certificate.end_answer.Tie as tie
 
-run-sheet-requires : tie.Need-run-sheet-requires
-run-sheet-requires c κs =
+walk-sheet-requires : tie.Need-walk-sheet-requires
+walk-sheet-requires c κs =
     let wrote = c .before .before .before in
     let start = wrote .before .before .before .before .before .before in
     (start .pre .0, (start .pre .1 .0, rw (wrote .write-start .ensures) (sizes (start .pre .0) .wellFormed .start)))
@@ -16,14 +16,14 @@ returns : tie.Need-returns
 returns c =
     let ran = c .before .before .before .before in
     let wrote = ran .before .before .before .before in
-    ends-stopped _ _ _ (wrote .write-start .ensures) (ran .run-sheet .ensures) (c .enum-told .given .1)
+    ends-stopped _ _ _ (wrote .write-start .ensures) (ran .walk-sheet .ensures) (c .enum-told .given .1)
 
 compare-requires : tie.Need-compare-requires
 compare-requires c κs =
     let ran = c .before .before .before .before .before in
     let wrote = ran .before .before .before .before in
     let start = wrote .before .before .before .before .before .before in (
-      ran .run-sheet .kept .1 .1 .1 .0 ∙ wrote .write-start .kept .1 .1 .0 ∙ start .pre .1 .1 .1,
+      ran .walk-sheet .kept .1 .1 .1 .0 ∙ wrote .write-start .kept .1 .1 .0 ∙ start .pre .1 .1 .1,
       start .pre .1 .1 .0,
       sizes (start .pre .0) .pairsWithin,
     )
@@ -34,7 +34,7 @@ returns-2 c =
     let ran = told .before .before .before .before in
     let wrote = ran .before .before .before .before in
     let start = wrote .before .before .before .before .before .before in
-    ends-compared _ _ _ (wrote .write-start .ensures) (ran .run-sheet .ensures) (told .enum-told2 .given .1)
+    ends-compared _ _ _ (wrote .write-start .ensures) (ran .walk-sheet .ensures) (told .enum-told2 .given .1)
     (rw (sizes (start .pre .0) .pairs) at (c .compare .ensures))
 
 pub end-answer-spec : {M : Type 1} → statement M
@@ -42,7 +42,7 @@ end-answer-spec =
     tie.close
     (tie.spec
     (λ c κs. search needs)
-    run-sheet-requires
+    walk-sheet-requires
     (λ c. search needs)
     (λ c. search needs)
     returns

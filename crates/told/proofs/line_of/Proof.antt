@@ -1,7 +1,7 @@
 -- The table of refusal numbers, row by row.
 use borrow.Author.Needs.{needs}
-use Rattle.statement.proofs.refusals.line_of.Statement.{statement}
-use Rattle.statement.proofs.refusals.line_of.Tie as tie
+use Rattle.told.proofs.line_of.Statement.{statement}
+use Rattle.told.proofs.line_of.Tie as tie
 
 returns-14 : tie.Need-returns-14
 returns-14 c = rw (c .before .before .fault11 .given .1) (c .stop-line .ensures)

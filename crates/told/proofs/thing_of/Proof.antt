@@ -1,7 +1,7 @@
 -- The thing of a refusal, 0 for some numbers.
 use borrow.Author.Needs.{needs}
-use Rattle.statement.proofs.refusals.thing_of.Statement.{statement}
-use Rattle.statement.proofs.refusals.thing_of.Tie as tie
+use Rattle.told.proofs.thing_of.Statement.{statement}
+use Rattle.told.proofs.thing_of.Tie as tie
 
 returns : tie.Need-returns
 returns c = rw (← c .before .before .line-of .ensures .0, ← c .before .is-always-net .ensures, c .if1 .taken)

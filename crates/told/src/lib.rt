@@ -36,7 +36,7 @@ fn stop_line(why: Why, pair: Pair) -> Line
     }
 }
 
-pub(crate) fn line_of(fault: Fault) -> Line
+pub fn line_of(fault: Fault) -> Line
     ensures { λ r. ⌜ (r .number ≡ line fault .number) × (r .position ≡ line fault .position) ⌝ }
 {
     match fault {
@@ -79,7 +79,7 @@ fn is_always_net(number: u64) -> bool
     (number == 0) | (number == 10) | (number == 15) | (number == 16) | (18 < number)
 }
 
-pub(crate) fn thing_of(refusal: Refusal) -> u64
+pub fn thing_of(refusal: Refusal) -> u64
     ensures { λ r. ⌜ r ≡ thing (Refused refusal) ⌝ }
 {
     let fault = refusal.fault;

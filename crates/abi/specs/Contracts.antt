@@ -1,0 +1,67 @@
+-- The contracts of the calls for C, which the source states by these names: what each allows of what it tells and of the slice that it leaves.
+use Prim.Native.Nat.{ℕ}
+use mathlib.Core.Path.{_≡_}
+use mathlib.Core.List.{List}
+use Rattle.model.specs.declared.Mode.{Mode}
+use Rattle.model.specs.Refusals.{answer}
+use Rattle.nets.specs.Nets.{netRefusal}
+use Rattle.sheets.specs.Weights.{weightsRefusal}
+use Rattle.sheets.specs.Movements.{movementsRefusal}
+use Rattle.fire.specs.Calls.{beginRefusal, begun, testRefusal, firedBy}
+use Rattle.run.specs.Calls.{ranOf, runOf, certifyRefusal}
+use Rattle.weigh.specs.Calls as weigh
+use Rattle.dead.specs.IsDead as one
+use Rattle.dead.specs.FirstDead as first
+use Rattle.complement.specs.Complemented as complement
+use Rattle.statement.specs.Replay.{stated, statedIn}
+use Rattle.abi.specs.declared.answers.Answered.{Answered}
+use Rattle.abi.specs.declared.answers.Counted.{Counted}
+use Rattle.abi.specs.declared.answers.Weighed.{Weighed}
+use Rattle.abi.specs.declared.answers.Decided.{Decided}
+use Rattle.abi.specs.declared.answers.Named.{Named}
+use Rattle.abi.specs.Told.{answered, counted, weighed, decided, named, textTold, ran, taken}
+
+-- the readers, on a run of bytes
+module _ (s : List ℕ) where
+  abbrev pub ReadNetAllows : Counted → Type 0
+  ReadNetAllows told = told ≡ taken s (answer (netRefusal s))
+
+  abbrev pub ReadWeightsAllows : ℕ → Counted → Type 0
+  ReadWeightsAllows pairs told = told ≡ taken s (answer (weightsRefusal pairs s))
+
+  abbrev pub ReadMovementsAllows : Counted → Type 0
+  ReadMovementsAllows told = told ≡ taken s (answer (movementsRefusal s))
+
+module _ (net : List ℕ) where
+  abbrev pub BeginAllows : List ℕ → Answered × List ℕ → Type 0
+  BeginAllows marking o = (o .0 ≡ answered (answer (beginRefusal net marking))) × (o .1 ≡ begun net marking)
+
+  abbrev pub TestAllows : List ℕ → Mode → Answered → Type 0
+  TestAllows marking t told = told ≡ answered (answer (testRefusal net marking t))
+
+  abbrev pub FireAllows : List ℕ → Mode → Answered × List ℕ → Type 0
+  FireAllows marking t o = (o .0 ≡ answered (answer (testRefusal net marking t))) × (o .1 ≡ firedBy net marking t)
+
+  abbrev pub RunAllows : List ℕ → List ℕ → Counted × List ℕ → Type 0
+  RunAllows movements marking o = (o .0 ≡ ran (ranOf (runOf net movements marking))) × (o .1 ≡ runOf net movements marking .marking)
+
+  abbrev pub CertifyAllows : List ℕ → List ℕ → Answered → Type 0
+  CertifyAllows movements claim told = told ≡ answered (answer (certifyRefusal net movements claim))
+
+  abbrev pub FigureAllows : List ℕ → List ℕ → Weighed → Type 0
+  FigureAllows weights marking told = told ≡ weighed (weigh.told (weigh.figureOf net weights marking))
+
+  abbrev pub ChangeAllows : List ℕ → Mode → Weighed → Type 0
+  ChangeAllows weights t told = told ≡ weighed (weigh.told (weigh.changeOf net weights t))
+
+  abbrev pub IsDeadAllows : Mode → Decided → Type 0
+  IsDeadAllows t told = told ≡ decided (one.told (one.deadnessOf net t))
+
+  abbrev pub FirstDeadAllows : Named → Type 0
+  FirstDeadAllows told = told ≡ named (first.told (first.firstDeadOf net))
+
+  abbrev pub ComplementAllows : List ℕ → Counted × List ℕ → Type 0
+  ComplementAllows out o = (o .0 ≡ counted (complement.told (complement.complementOf net out))) × (o .1 ≡ complement.outputOf net out)
+
+abbrev pub StatementAllows : List ℕ → List ℕ → Counted × List ℕ → Type 0
+StatementAllows input out o = (o .0 ≡ counted (textTold (stated input out))) × (o .1 ≡ statedIn input out)

@@ -1,0 +1,23 @@
+// Locally dead modes.
+use crate::answers::Decided;
+use crate::answers::Named;
+use crate::answers::tell_deadness;
+use crate::answers::tell_first_dead;
+use dead::first_dead;
+use dead::is_dead;
+use model::Mode;
+ghost use Rattle.abi.specs.Contracts.{IsDeadAllows, FirstDeadAllows};
+
+#[no_mangle]
+pub extern "C" fn pnet_is_dead(net: &[u8], mode: Mode) -> Decided
+    ensures { λ r. ⌜ IsDeadAllows (now (net .entry)) mode r ⌝ }
+{
+    tell_deadness(is_dead(net, mode))
+}
+
+#[no_mangle]
+pub extern "C" fn pnet_first_dead(net: &[u8]) -> Named
+    ensures { λ r. ⌜ FirstDeadAllows (now (net .entry)) r ⌝ }
+{
+    tell_first_dead(first_dead(net))
+}

@@ -1,0 +1,8 @@
+// The public calls for C (include/pnet.h). Each hands its arguments to its library's call, and its answer back as a struct by value.
+mod answers;
+pub mod complementing;
+pub mod dying;
+pub mod moving;
+pub mod reading;
+pub mod stating;
+pub mod weighing;

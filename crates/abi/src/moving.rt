@@ -1,0 +1,51 @@
+// Movements over a lent marking.
+use crate::answers::Answered;
+use crate::answers::Counted;
+use crate::answers::tell;
+use fire::begin;
+use fire::fire;
+use fire::test;
+use model::Mode;
+use run::certify;
+use run::run;
+ghost use Rattle.abi.specs.Contracts.{BeginAllows, TestAllows, FireAllows, RunAllows, CertifyAllows};
+
+#[no_mangle]
+pub extern "C" fn pnet_begin(net: &[u8], marking: &mut [u32]) -> Answered
+    ensures { λ r. ⌜ BeginAllows (now (net .entry)) (now (marking .entry)) (r, now (marking .exit)) ⌝ }
+{
+    tell(begin(net, marking))
+}
+
+#[no_mangle]
+pub extern "C" fn pnet_test(net: &[u8], marking: &[u32], mode: Mode) -> Answered
+    ensures { λ r. ⌜ TestAllows (now (net .entry)) (now (marking .entry)) mode r ⌝ }
+{
+    tell(test(net, marking, mode))
+}
+
+#[no_mangle]
+pub extern "C" fn pnet_fire(net: &[u8], marking: &mut [u32], mode: Mode) -> Answered
+    ensures { λ r. ⌜ FireAllows (now (net .entry)) (now (marking .entry)) mode (r, now (marking .exit)) ⌝ }
+{
+    tell(fire(net, marking, mode))
+}
+
+#[no_mangle]
+pub extern "C" fn pnet_run(net: &[u8], movements: &[u8], marking: &mut [u32]) -> Counted
+    ensures { λ r. ⌜ RunAllows (now (net .entry)) (now (movements .entry)) (now (marking .entry)) (r, now (marking .exit)) ⌝ }
+{
+    let outcome = run(net, movements, marking);
+    let answer = outcome.answer;
+    Counted {
+        answer: tell(answer),
+        value: outcome.accepted as u64,
+    }
+}
+
+#[no_mangle]
+pub extern "C" fn pnet_certify(net: &[u8], movements: &[u8], claim: &[u32]) -> Answered
+    ensures { λ r. ⌜ CertifyAllows (now (net .entry)) (now (movements .entry)) (now (claim .entry)) r ⌝ }
+{
+    tell(certify(net, movements, claim))
+}

@@ -1,0 +1,12 @@
+// The text of `replay`.
+use crate::answers::Counted;
+use crate::answers::tell_text;
+use statement::statement;
+ghost use Rattle.abi.specs.Contracts.{StatementAllows};
+
+#[no_mangle]
+pub extern "C" fn pnet_statement(input: &[u8], out: &mut [u8]) -> Counted
+    ensures { λ r. ⌜ StatementAllows (now (input .entry)) (now (out .entry)) (r, now (out .exit)) ⌝ }
+{
+    tell_text(statement(input, out))
+}

@@ -1,0 +1,104 @@
+/* Runs the movements of three sheet files over a net, first one by one with the figure, then as one run, and certifies the end.
+ *
+ *   cc -I include examples/c/movements.c target/staticlib/libabi.a -o movements
+ *   ./movements examples/refit/net.sheet examples/refit/weights.sheet examples/refit/movements.sheet
+ */
+#include <inttypes.h>
+#include <stdio.h>
+#include <stdlib.h>
+#include <string.h>
+
+#include "pnet.h"
+
+struct sheet {
+    uint8_t bytes[65536];
+    size_t length;
+};
+
+static void load(const char *path, struct sheet *sheet)
+{
+    FILE *file = fopen(path, "rb");
+    if (!file) {
+        perror(path);
+        exit(1);
+    }
+    sheet->length = fread(sheet->bytes, 1, sizeof sheet->bytes, file);
+    fclose(file);
+}
+
+static void must(const char *call, struct pnet_answer answer)
+{
+    if (answer.number != 0) {
+        printf("%s refused: number %" PRIu64 ", thing %" PRIu64 ", position %" PRIu64 "\n", call, answer.number,
+               answer.thing, answer.position);
+        exit(1);
+    }
+}
+
+/* How many pairs an accepted net has: the place count stands at byte 5, the colours of each place from byte 9 on. */
+static size_t pair_count(const struct sheet *net)
+{
+    size_t places = net->bytes[5] << 8 | net->bytes[6], pairs = 0;
+    for (size_t place = 0; place < places; place++)
+        pairs += net->bytes[9 + 2 * place] << 8 | net->bytes[10 + 2 * place];
+    return pairs;
+}
+
+int main(int argc, char **argv)
+{
+    static struct sheet net, weights, movements;
+    static uint8_t complement[PNET_LARGEST_NET];
+    uint32_t marking[PNET_PAIRS], start[PNET_PAIRS];
+    if (argc != 4) {
+        fprintf(stderr, "%s NET WEIGHTS MOVEMENTS\n", argv[0]);
+        return 1;
+    }
+    load(argv[1], &net);
+    load(argv[2], &weights);
+    load(argv[3], &movements);
+
+    must("read_net", pnet_read_net(net.bytes, net.length).answer);
+    size_t pairs = pair_count(&net);
+    must("begin", pnet_begin(net.bytes, net.length, marking, pairs));
+    memcpy(start, marking, sizeof start);
+    must("read_weights", pnet_read_weights(weights.bytes, weights.length, pairs).answer);
+    must("read_movements", pnet_read_movements(movements.bytes, movements.length).answer);
+
+    /* A movement sheet is 5 bytes, then 2 bytes for each mode. */
+    for (size_t at = 5; at < movements.length; at += 2) {
+        struct pnet_mode mode = {(uint16_t)(movements.bytes[at] << 8 | movements.bytes[at + 1])};
+        struct pnet_answer fired = pnet_fire(net.bytes, net.length, marking, pairs, mode);
+        if (fired.number != 0) {
+            printf("mode %u: refused by %" PRIu64 " at pair %" PRIu64 "\n", mode.number, fired.number, fired.position);
+            break;
+        }
+        struct pnet_weighed change = pnet_change(net.bytes, net.length, weights.bytes, weights.length, mode);
+        struct pnet_weighed figure = pnet_figure(net.bytes, net.length, weights.bytes, weights.length, marking, pairs);
+        must("change", change.answer);
+        must("figure", figure.answer);
+        printf("mode %u: %+" PRId64 " kg, figure %" PRId64 " kg\n", mode.number, change.value, figure.value);
+    }
+
+    struct pnet_counted run = pnet_run(net.bytes, net.length, movements.bytes, movements.length, start, pairs);
+    printf("run: %" PRIu64 " accepted, answer %" PRIu64 "; the marking is %s\n", run.value, run.answer.number,
+           memcmp(start, marking, pairs * sizeof *marking) ? "another" : "the same");
+    struct pnet_answer certified =
+        pnet_certify(net.bytes, net.length, movements.bytes, movements.length, marking, pairs);
+    printf("certificate: answer %" PRIu64 "\n", certified.number);
+
+    struct pnet_named dead = pnet_first_dead(net.bytes, net.length);
+    must("first_dead", dead.answer);
+    if (dead.found)
+        printf("mode %u is locally dead at pair %u\n", dead.mode.number, dead.pair.number);
+    else
+        printf("no mode is locally dead\n");
+
+    struct pnet_counted written = pnet_complement(net.bytes, net.length, complement, sizeof complement);
+    must("complement", written.answer);
+    printf("complement: %" PRIu64 " bytes, answer %" PRIu64 "\n", written.value,
+           pnet_read_net(complement, written.value).answer.number);
+
+    /* Where the length is 0, the pointer may be NULL. */
+    printf("no bytes: answer %" PRIu64 "\n", pnet_read_net(NULL, 0).answer.number);
+    return 0;
+}

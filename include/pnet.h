@@ -1,0 +1,152 @@
+/* Bezgintay, an engine for P-nets: its calls for C. Link target/staticlib/libabi.a (`rt staticlib abi`).
+ *
+ * Each call answers for any bytes, counts and numbers, and always returns. The engine holds nothing between calls, and
+ * allocates nothing. Number, thing and position of an answer are those of document 01, "Refusal numbers".
+ *
+ * Slices. A pointer is followed by its length in elements. Bytes and counts that are only read may overlap one another;
+ * a slice that is written (no const) overlaps no other. Counts (uint32_t) are aligned. Where the length is 0, the pointer
+ * may be NULL.
+ *
+ * Sheets. A call that takes a net, weights or movements takes one whole sheet: its refusals are those of the sheet's reader,
+ * and 3 for bytes after the sheet. What is refused first is said at each call, in the order in which it is looked for.
+ */
+#ifndef PNET_H
+#define PNET_H
+
+#include <stdbool.h>
+#include <stddef.h>
+#include <stdint.h>
+
+#ifdef __cplusplus
+extern "C" {
+#endif
+
+/* A pair is a place with one of its colours, a mode a transition with one of its colours. Both are numbered from 0 across the
+ * whole net, and the two are distinct types, so that one is never handed over for the other. */
+struct pnet_pair {
+    uint16_t number;
+};
+struct pnet_mode {
+    uint16_t number;
+};
+
+/* What pnet_answer's thing says was at fault. */
+enum {
+    PNET_NET = 0, /* also where a call is accepted, and for 10, 15 and 16 */
+    PNET_WEIGHTS = 1,
+    PNET_MOVEMENTS = 2, /* also a movement that a run or a certificate refuses */
+    PNET_ARGUMENT = 3   /* a marking, a claim or a mode */
+};
+
+/* The limits of sheets. */
+enum {
+    PNET_PAIRS = 256,             /* at most, and so many counts in a marking */
+    PNET_LARGEST_NET = 35083,     /* bytes, of a complement too */
+    PNET_LARGEST_COUNT = 1000000, /* in a sheet or a marking */
+    PNET_TEXT_ROOM = 262144       /* bytes, for any text of replay */
+};
+
+/* An answer. Number 0 is accepted; thing and position are then 0. The position of a byte, a field or an arc is its offset in its
+ * sheet, that of a pair is the pair's number; it is 0 where none is named. */
+struct pnet_answer {
+    uint64_t number;
+    uint64_t thing;
+    uint64_t position;
+};
+
+/* Bytes or movements. Where the call is refused the value is 0, but in pnet_run. */
+struct pnet_counted {
+    struct pnet_answer answer;
+    uint64_t value;
+};
+
+/* Kilograms, 0 where the call is refused. */
+struct pnet_weighed {
+    struct pnet_answer answer;
+    int64_t value;
+};
+
+/* Yes or no; no where the call is refused. */
+struct pnet_decided {
+    struct pnet_answer answer;
+    bool value;
+};
+
+/* A mode and a pair where found is true; otherwise, and where the call is refused, both are 0 and say nothing. */
+struct pnet_named {
+    struct pnet_answer answer;
+    bool found;
+    struct pnet_mode mode;
+    struct pnet_pair pair;
+};
+
+/* Readers. Each reads the sheet at the start of a run of bytes, which may go on after it, and writes nothing. The value is how
+ * many bytes the sheet takes: what follows begins there.
+ *
+ * pnet_read_net        refuses by 1 to 9, thing PNET_NET
+ * pnet_read_weights    refuses by 1, 2, 3, 17 where the sheet's pair count is not `pairs`, 5; thing PNET_WEIGHTS
+ * pnet_read_movements  refuses by 1, 2, 3, 4; thing PNET_MOVEMENTS
+ */
+struct pnet_counted pnet_read_net(const uint8_t *bytes, size_t length);
+struct pnet_counted pnet_read_weights(const uint8_t *bytes, size_t length, size_t pairs);
+struct pnet_counted pnet_read_movements(const uint8_t *bytes, size_t length);
+
+/* Writes the net's first marking. Reads the net; of the marking only the length matters.
+ * Refuses: the net; 17 (PNET_ARGUMENT) where the marking is not one count for each pair. A refused call writes nothing. */
+struct pnet_answer pnet_begin(const uint8_t *net, size_t net_length, uint32_t *marking, size_t counts);
+
+/* Whether the mode is enabled at the marking. Writes nothing.
+ * Refuses: the net; the marking: 17, then pair by pair 5 and 9; the mode: 6, 11, 12, 13, 14 (all PNET_ARGUMENT). */
+struct pnet_answer pnet_test(const uint8_t *net, size_t net_length, const uint32_t *marking, size_t counts,
+                             struct pnet_mode mode);
+
+/* Fires the mode: writes the marking after it. Refuses what pnet_test refuses; a refused call writes nothing. */
+struct pnet_answer pnet_fire(const uint8_t *net, size_t net_length, uint32_t *marking, size_t counts,
+                             struct pnet_mode mode);
+
+/* Runs the movements from the counts found in the marking, up to the first that is refused. The value is how many were accepted,
+ * also where the answer is a refusal, and the marking is what those gave.
+ * Refuses: the net; the movements; the marking: 17, then pair by pair 5 and 9 (PNET_ARGUMENT); a movement: 6, 11, 12, 13, 14
+ * (PNET_MOVEMENTS). */
+struct pnet_counted pnet_run(const uint8_t *net, size_t net_length, const uint8_t *movements, size_t movements_length,
+                             uint32_t *marking, size_t counts);
+
+/* Whether the movements run whole from the net's first marking and end at the claim. Writes nothing.
+ * Refuses: the net; the movements; 17 for the claim (PNET_ARGUMENT); a movement: 6, 11, 12, 13, 14 (PNET_MOVEMENTS); 18 at the
+ * lowest pair that ends elsewhere (PNET_ARGUMENT). The claim's counts are compared, and may be any. */
+struct pnet_answer pnet_certify(const uint8_t *net, size_t net_length, const uint8_t *movements, size_t movements_length,
+                                const uint32_t *claim, size_t counts);
+
+/* The lightship figure of the marking: the sum of weight times count. Writes nothing.
+ * Refuses: the net; the weights; the marking: 17, then pair by pair 5 and 9 (PNET_ARGUMENT). */
+struct pnet_weighed pnet_figure(const uint8_t *net, size_t net_length, const uint8_t *weights, size_t weights_length,
+                                const uint32_t *marking, size_t counts);
+
+/* The mode's weight change: the sum of weight times (Post less Pre). Writes nothing.
+ * Refuses: the net; the weights; 6 for the mode (PNET_ARGUMENT). */
+struct pnet_weighed pnet_change(const uint8_t *net, size_t net_length, const uint8_t *weights, size_t weights_length,
+                                struct pnet_mode mode);
+
+/* Whether the mode is locally dead: at some pair Pre or Post is above K. Writes nothing.
+ * Refuses: the net; 6 for the mode (PNET_ARGUMENT). */
+struct pnet_decided pnet_is_dead(const uint8_t *net, size_t net_length, struct pnet_mode mode);
+
+/* The lowest locally dead mode, with the lowest pair that makes it so, if there is one. Writes nothing. Refuses: the net. */
+struct pnet_named pnet_first_dead(const uint8_t *net, size_t net_length);
+
+/* Writes the sheet of the net's complement from the first byte of `out` on; the value is its length. No byte after it is touched,
+ * and PNET_LARGEST_NET bytes are always room enough.
+ * Refuses: the net; 15, then 16, each at its first arc; 10 where the complement exceeds a sheet's limits or `room`. A refused call
+ * writes nothing. */
+struct pnet_counted pnet_complement(const uint8_t *net, size_t net_length, uint8_t *out, size_t room);
+
+/* Writes the text that `replay` prints for an input (a net sheet, a weight sheet, a movement sheet, then nothing) from the first byte of
+ * `out` on; the value is its length. No byte after it is touched. A bad or a long input has a text too: the call
+ * refuses only a room below PNET_TEXT_ROOM, by 10, and then writes nothing. */
+struct pnet_counted pnet_statement(const uint8_t *input, size_t input_length, uint8_t *out, size_t room);
+
+#ifdef __cplusplus
+}
+#endif
+
+#endif

@@ -1,0 +1,23 @@
+//! Instructions, counted by callgrind: those of eleven times a work less those of one time, divided by ten.
+
+use std::env;
+use std::process::Command;
+
+use crate::works::Work;
+
+/// The instructions of each engine, in thousands.
+pub fn instructions(work: Work, part: usize) -> [f64; 2] {
+    ["engine", "swift"].map(|engine| (counted(work, engine, part, 11) - counted(work, engine, part, 1)) / 10_000.0)
+}
+
+fn counted(work: Work, engine: &str, part: usize, times: usize) -> f64 {
+    let output = Command::new("valgrind")
+        .args(["--tool=callgrind", "--callgrind-out-file=/dev/null"])
+        .arg(env::current_exe().expect("this program has a path"))
+        .args(["once", work.name(), engine, &part.to_string(), &times.to_string()])
+        .output()
+        .expect("valgrind is on this machine");
+    let said = String::from_utf8_lossy(&output.stderr);
+    let collected = said.lines().find_map(|line| line.split_once("Collected : "));
+    collected.and_then(|(_, count)| count.trim().parse().ok()).unwrap_or_else(|| panic!("callgrind said: {said}"))
+}

@@ -1,0 +1,57 @@
+//! The inputs at full size, and at a part of it.
+
+use reference::build::{OPEN, PlainArc, PlainNet, movements, weights};
+
+/// What the works read.
+pub struct Inputs {
+    /// The largest net: 256 pairs, 256 modes of 8 arcs each; 35,083 bytes.
+    pub net: Vec<u8>,
+    /// 8,192 movements, all of them accepted.
+    pub movements: Vec<u8>,
+    /// Where they start.
+    pub marking: Vec<u32>,
+    /// A net of 128 bounded pairs and 256 modes of 4 arcs each, whose complement is a largest net.
+    pub bounded: Vec<u8>,
+    /// `replay`'s input: the net, its weights, the movements.
+    pub input: Vec<u8>,
+}
+
+impl Inputs {
+    /// A full-size input, or one with so many times fewer pairs, modes and movements.
+    pub fn of(part: usize) -> Inputs {
+        let (places, transitions) = (64 / part, 64 / part);
+        let net = plain(places, transitions, 8, |pair| [OPEN, 1_000_000][pair % 2]);
+        let bounded = plain(places / 2, transitions, 4, |_| 1_000_000);
+        let (pairs, modes) = (net.pairs.len(), 4 * transitions);
+        // A walk over all modes in no simple order.
+        let list: Vec<u16> = (0..8_192 / part).map(|k| (k * 167 % 251 % modes) as u16).collect();
+        let kilograms: Vec<i32> = (0..pairs as i32).map(|pair| 250 * (pair % 9) - 500).collect();
+        let (sheet, list) = (net.sheet(), movements(&list));
+        Inputs {
+            marking: net.pairs.iter().map(|pair| pair.1).collect(),
+            bounded: bounded.sheet(),
+            input: [&sheet[..], &weights(&kilograms), &list].concat(),
+            net: sheet,
+            movements: list,
+        }
+    }
+}
+
+/// Places and transitions of four each. A mode has its arcs at pairs all over the net, takes one to three and gives as many back on the
+/// whole, so that it stays enabled for a long time.
+fn plain(places: usize, transitions: usize, arcs: usize, capacity: impl Fn(usize) -> u32) -> PlainNet {
+    let (pairs, modes) = (4 * places, 4 * transitions);
+    let arc = |mode: usize, arc: usize| {
+        // Each in its own stretch of the pairs, and so rising.
+        let stretch = pairs / arcs;
+        let pair = arc * stretch + (7 * mode + 3 * arc) % stretch;
+        let (pre, post) = (1 + (mode + arc) % 3, 1 + (mode + arc + 1) % 3);
+        PlainArc { mode: mode as u16, pair: pair as u16, pre: pre as u32, post: post as u32, inhibitor: OPEN }
+    };
+    PlainNet {
+        colours: vec![4; places],
+        modes: vec![4; transitions],
+        pairs: (0..pairs).map(|pair| (capacity(pair), 500_000)).collect(),
+        arcs: (0..modes).flat_map(|mode| (0..arcs).map(move |k| (mode, k))).map(|(mode, k)| arc(mode, k)).collect(),
+    }
+}

@@ -1,0 +1,97 @@
+//! One input for every call: sheets, a marking, a claim, a mode.
+
+use pnet::Mode;
+use reference::build::{PlainNet, movements, weights};
+
+use crate::generator::{self, Random, Style, total};
+use crate::same::Same;
+
+/// What every call is tried on.
+#[derive(Clone)]
+pub struct Case {
+    pub net: Vec<u8>,
+    pub weights: Vec<u8>,
+    pub movements: Vec<u8>,
+    pub marking: Vec<u32>,
+    pub claim: Vec<u32>,
+    pub mode: u16,
+    /// What the weights' reader is given for the net's pair count.
+    pub pairs: usize,
+    /// The length of the complement's output slice.
+    pub room: usize,
+}
+
+impl Case {
+    /// A case without a fault around a net: its list is at most so long.
+    pub fn of(random: &mut Random, style: Style, plain: &PlainNet, most: usize) -> Case {
+        let net = plain.sheet();
+        let first: Vec<u32> = plain.pairs.iter().map(|&(_, count)| count).collect();
+        let marking = if random.once_in(2) {
+            first.clone()
+        } else {
+            plain.pairs.iter().map(|&(capacity, _)| generator::count(random, style, capacity)).collect()
+        };
+        let list = walk(random, &net, &marking, total(&plain.modes), most);
+        let sheet = movements(&list);
+        let mut claim = first;
+        pnet::run(&net, &sheet, &mut claim);
+        if random.once_in(3) {
+            let pair = random.below(claim.len());
+            claim[pair] = random.pick(&[0, 1, claim[pair] ^ 1, u32::MAX]);
+        }
+        Case {
+            weights: weights(&generator::weights(random, plain.pairs.len())),
+            movements: sheet,
+            marking,
+            claim,
+            mode: random.below(total(&plain.modes).max(1)) as u16,
+            pairs: plain.pairs.len(),
+            room: pnet::LARGEST_NET,
+            net,
+        }
+    }
+
+    /// Every call on this input; and on its complement, where it has one, every call of a net.
+    pub fn compare(&self, same: &mut Same) {
+        same.read_net(&self.net);
+        same.read_weights(&self.weights, self.pairs);
+        same.read_movements(&self.movements);
+        same.begin(&self.net, &self.marking);
+        same.test(&self.net, &self.marking, self.mode);
+        same.fire(&self.net, &self.marking, self.mode);
+        same.run(&self.net, &self.movements, &self.marking);
+        same.certify(&self.net, &self.movements, &self.claim);
+        same.figure(&self.net, &self.weights, &self.marking);
+        same.change(&self.net, &self.weights, self.mode);
+        same.is_dead(&self.net, self.mode);
+        same.first_dead(&self.net);
+        same.complement(&self.net, self.room);
+        let input = [&self.net[..], &self.weights, &self.movements].concat();
+        same.statement(&input, if self.room < pnet::LARGEST_NET { self.room } else { pnet::TEXT_ROOM });
+    }
+}
+
+/// A list of movements from a marking, such as are enabled when they come. One list in four goes on with any modes, and so mostly to
+/// one that is refused; one in eight has a mode somewhere that is refused or is not there.
+pub fn walk(random: &mut Random, net: &[u8], marking: &[u32], modes: usize, most: usize) -> Vec<u16> {
+    let (mut marking, mut list) = (marking.to_vec(), Vec::new());
+    if modes > 0 {
+        let any = |random: &mut Random| random.below(modes) as u16;
+        for _ in 0..random.below(most + 1) {
+            let tries: Vec<u16> = (0..6).map(|_| any(random)).collect();
+            let enabled = tries.into_iter().find(|&mode| pnet::fire(net, &mut marking, Mode(mode)).is_ok());
+            let Some(mode) = enabled else { break };
+            list.push(mode);
+        }
+        if random.once_in(4) {
+            list.extend((0..8).map(|_| any(random)));
+        }
+    }
+    if random.once_in(8) {
+        let at = random.below(list.len() + 1);
+        let odd = [random.below(modes.max(1)), modes, 256, 65_535];
+        list.insert(at, random.pick(&odd) as u16);
+    }
+    list.truncate(8_192);
+    list
+}

@@ -1,0 +1,79 @@
+//! A net and its complement: what document 01 says of the two, for any list of movements.
+
+use reference::build::{OPEN, PlainNet, movements};
+
+use crate::case::walk;
+use crate::generator::{self, Random, Style, total};
+use crate::same::{Plain, Same};
+
+/// The net and its complement accept the same movements, stop at the same one, and stay in step, from the first marking and from others.
+pub fn in_step(same: &mut Same, random: &mut Random, style: Style, net: &PlainNet, most: usize) -> bool {
+    let sheet = net.sheet();
+    let Some(complement) = same.complement(&sheet, pnet::LARGEST_NET) else { return false };
+    assert_eq!(pnet::read_net(&complement), Ok(&[][..]), "{}: the complement of {net:?}", same.part);
+    let first: Vec<u32> = net.pairs.iter().map(|&(_, count)| count).collect();
+    assert_eq!(pnet::first_marking(&complement), Ok(completed(net, &first)), "{}: {net:?}", same.part);
+    let other: Vec<u32> =
+        net.pairs.iter().map(|&(capacity, _)| generator::count(random, style, capacity)).collect();
+    for start in [first, other] {
+        let list = walk(random, &sheet, &start, total(&net.modes), most);
+        one_by_one(same, net, (&sheet, &complement), &start, &list);
+    }
+    true
+}
+
+/// Movement by movement: refusals correspond, and so do the markings after each. Then both lists as one run.
+fn one_by_one(
+    same: &mut Same,
+    net: &PlainNet,
+    (sheet, complement): (&[u8], &[u8]),
+    start: &[u32],
+    list: &[u16],
+) {
+    let mut counts = start.to_vec();
+    for &mode in list {
+        let both = completed(net, &counts);
+        let (answer, after) = same.fire(sheet, &counts, mode);
+        let (other, both_after) = same.fire(complement, &both, mode);
+        assert_eq!(
+            other,
+            corresponding(net, &counts, mode, answer),
+            "{}: mode {mode} at {counts:?} of {net:?}",
+            same.part
+        );
+        assert_eq!(both_after, completed(net, &after), "{}: mode {mode} at {counts:?} of {net:?}", same.part);
+        counts = after;
+    }
+    let list = movements(list);
+    let (accepted, answer, after) = same.run(sheet, &list, start);
+    let (both_accepted, other, both_after) = same.run(complement, &list, &completed(net, start));
+    assert_eq!(accepted, both_accepted, "{}: {net:?}", same.part);
+    assert_eq!(both_after, completed(net, &after), "{}: {net:?}", same.part);
+    assert_eq!(become_11(answer.0), other.0, "{}: {net:?}", same.part);
+}
+
+/// "11, 12 and 13 in the net become 11 in its complement; 6 and 14 stay."
+fn become_11(number: u64) -> u64 {
+    if matches!(number, 12 | 13) { 11 } else { number }
+}
+
+/// The marking of the complement: on each complement pair "K less the original's".
+fn completed(net: &PlainNet, counts: &[u32]) -> Vec<u32> {
+    let bounded = net.pairs.iter().zip(counts).filter(|((capacity, _), _)| *capacity != OPEN);
+    counts.iter().copied().chain(bounded.map(|((capacity, _), count)| capacity - count)).collect()
+}
+
+/// The complement's answer: 12 and 13 become 11 at the complement of the lowest pair that breaks either.
+fn corresponding(net: &PlainNet, counts: &[u32], mode: u16, answer: Plain) -> Plain {
+    if !matches!(answer.0, 12 | 13) {
+        return answer;
+    }
+    let breaks = |pair: usize| {
+        let (capacity, count) = (net.pairs[pair].0, counts[pair]);
+        let own = net.arcs.iter().find(|arc| (arc.mode, usize::from(arc.pair)) == (mode, pair));
+        own.is_some_and(|arc| count > arc.inhibitor || (capacity != OPEN && count + arc.post > capacity))
+    };
+    let lowest = (0..counts.len()).find(|&pair| breaks(pair)).expect("12 or 13 is broken at some pair");
+    let before = net.pairs[..lowest].iter().filter(|(capacity, _)| *capacity != OPEN).count();
+    (11, answer.1, (counts.len() + before) as u64)
+}

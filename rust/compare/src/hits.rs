@@ -1,0 +1,159 @@
+//! How often each call gave each number and thing.
+
+use std::collections::BTreeMap;
+use std::fmt;
+
+/// The calls that are compared.
+#[derive(Clone, Copy, Debug, PartialEq, Eq, PartialOrd, Ord)]
+pub enum Call {
+    ReadNet,
+    ReadWeights,
+    ReadMovements,
+    Begin,
+    Test,
+    Fire,
+    Run,
+    Certify,
+    Figure,
+    Change,
+    IsDead,
+    FirstDead,
+    Complement,
+    Statement,
+}
+
+use Call::*;
+
+const CALLS: [Call; 14] = [
+    ReadNet,
+    ReadWeights,
+    ReadMovements,
+    Begin,
+    Test,
+    Fire,
+    Run,
+    Certify,
+    Figure,
+    Change,
+    IsDead,
+    FirstDead,
+    Complement, Statement,
+];
+
+/// An answer as number and thing.
+type Told = (u64, u64);
+
+/// A call must give each answer that it can give at least so often.
+pub const ENOUGH: usize = 100;
+
+const NET: &[Told] = &[(1, 0), (2, 0), (3, 0), (4, 0), (5, 0), (6, 0), (7, 0), (8, 0), (9, 0)];
+const WEIGHTS: &[Told] = &[(1, 1), (2, 1), (3, 1), (5, 1), (17, 1)];
+const MOVEMENTS: &[Told] = &[(1, 2), (2, 2), (3, 2), (4, 2)];
+const MARKING: &[Told] = &[(17, 3), (5, 3), (9, 3)];
+const ONE_EACH: &[Told] = &[(17, 3)];
+const MODE: &[Told] = &[(6, 3)];
+const STOPPED: &[Told] = &[(11, 3), (12, 3), (13, 3), (14, 3)];
+const MOVEMENT: &[Told] = &[(6, 2), (11, 2), (12, 2), (13, 2), (14, 2)];
+const ELSEWHERE: &[Told] = &[(18, 3)];
+const NO_ROOM: &[Told] = &[(10, 0)];
+const COMPLEMENT: &[Told] = &[(15, 0), (16, 0), (10, 0)];
+
+/// Every refusal that document 01 lets a call give.
+fn refusals(call: Call) -> Vec<Told> {
+    match call {
+        ReadNet | FirstDead => NET.to_vec(),
+        ReadWeights => WEIGHTS.to_vec(),
+        ReadMovements => MOVEMENTS.to_vec(),
+        Begin => [NET, ONE_EACH].concat(),
+        Test | Fire => [NET, MARKING, MODE, STOPPED].concat(),
+        Run => [NET, MOVEMENTS, MARKING, MOVEMENT].concat(),
+        Certify => [NET, MOVEMENTS, ONE_EACH, MOVEMENT, ELSEWHERE].concat(),
+        Figure => [NET, WEIGHTS, MARKING].concat(),
+        Change => [NET, WEIGHTS, MODE].concat(),
+        IsDead => [NET, MODE].concat(),
+        Complement => [NET, COMPLEMENT].concat(),
+        Statement => NO_ROOM.to_vec(),
+    }
+}
+
+/// The counts of a comparison.
+#[derive(Default)]
+pub struct Hits {
+    told: BTreeMap<(Call, Told), usize>,
+    /// Runs of a list that is not empty, and those that were accepted whole.
+    runs: usize,
+    whole: usize,
+    longest: usize,
+    /// Values that are no numbers: yes, no, a mode named, none named; and what a text is of.
+    values: BTreeMap<&'static str, usize>,
+}
+
+impl Hits {
+    pub fn told(&mut self, call: Call, number: u64, thing: u64) {
+        *self.told.entry((call, (number, thing))).or_default() += 1;
+    }
+
+    pub fn ran(&mut self, accepted: usize, whole: bool) {
+        self.runs += 1;
+        self.whole += usize::from(whole);
+        self.longest = self.longest.max(accepted);
+    }
+
+    pub fn value(&mut self, value: &'static str) {
+        *self.values.entry(value).or_default() += 1;
+    }
+
+    fn of(&self, call: Call, told: Told) -> usize {
+        self.told.get(&(call, told)).copied().unwrap_or(0)
+    }
+
+    pub fn total(&self) -> usize {
+        self.told.values().sum()
+    }
+
+    /// What the comparison left too thin.
+    pub fn wants(&self) -> Vec<String> {
+        let mut wants = Vec::new();
+        for call in CALLS {
+            for told in [vec![(0, 0)], refusals(call)].concat() {
+                let hits = self.of(call, told);
+                if hits < ENOUGH {
+                    wants.push(format!(
+                        "{call:?} gave number {} of thing {} only {hits} times",
+                        told.0, told.1
+                    ));
+                }
+            }
+        }
+        for value in ["yes", "no", "named", "none named", "text of a whole run", "text of a stopped run", "text of a bad sheet", "long"] {
+            if self.values.get(value).copied().unwrap_or(0) < ENOUGH {
+                wants.push(format!("the value '{value}' came up too rarely"));
+            }
+        }
+        if 3 * self.whole < self.runs {
+            wants.push(format!("only {} of {} runs were accepted whole", self.whole, self.runs));
+        }
+        wants
+    }
+}
+
+/// A row for each call, a column for each number; where a number has several things, one for each.
+impl fmt::Display for Hits {
+    fn fmt(&self, f: &mut fmt::Formatter) -> fmt::Result {
+        for call in CALLS {
+            write!(f, "{:<14}", format!("{call:?}"))?;
+            for ((_, (number, thing)), hits) in self.told.range((call, (0, 0))..=(call, (u64::MAX, u64::MAX)))
+            {
+                write!(f, " {number}/{thing}:{hits}")?;
+            }
+            writeln!(f)?;
+        }
+        let values: Vec<String> = self.values.iter().map(|(value, hits)| format!("{value} {hits}")).collect();
+        writeln!(f, "values: {}", values.join(", "))?;
+        writeln!(
+            f,
+            "runs: {}, {} of them accepted whole, the longest of {} movements",
+            self.runs, self.whole, self.longest
+        )
+    }
+}

@@ -1,0 +1,118 @@
+//! Compares every call of the proved engine, through its Rust wrapper, with `reference`.
+//!
+//!     compare [SEED [ROUNDS]]
+//!
+//! A difference ends it, and so does a call, number and thing that came up too rarely to count as compared.
+
+mod case;
+mod damage;
+mod demand3;
+#[path = "../../reference/tests/support/generator.rs"]
+mod generator;
+mod hits;
+mod limits;
+mod same;
+mod truncation;
+
+use std::process::ExitCode;
+use std::time::Instant;
+
+use case::Case;
+use generator::{Random, Style};
+use reference::build::{OPEN, PlainNet, arc};
+use same::Same;
+
+const STYLES: [Style; 3] = [Style::Small, Style::Edges, Style::Lively];
+
+/// At most so many places, transitions and arcs.
+const SIZES: [(usize, usize, usize); 7] =
+    [(1, 1, 2), (3, 2, 6), (5, 4, 24), (5, 4, 24), (10, 2, 80), (20, 20, 200), (64, 64, 2_048)];
+
+fn main() -> ExitCode {
+    let mut numbers = std::env::args().skip(1).map(|word| word.parse().expect("SEED and ROUNDS are numbers"));
+    let (seed, rounds) = (numbers.next().unwrap_or(1), numbers.next().unwrap_or(40_000));
+    let (mut random, mut same, start) = (Random::new(seed), Same::default(), Instant::now());
+    for round in 0..rounds {
+        same.part = format!("seed {seed}, round {round}");
+        any(&mut same, &mut random);
+        if round % 16 == 0 {
+            complements(&mut same, &mut random);
+        }
+        if round % 400 == 0 {
+            at_limits(&mut same, &mut random, round as usize / 400);
+        }
+        if round % 1_600 == 0 {
+            cut_everywhere(&mut same, &mut random);
+        }
+    }
+    same.part = format!("seed {seed}, long inputs");
+    (0..hits::ENOUGH).for_each(|more| same.statement(&vec![random.next() as u8; 65_537 + more * more], pnet::TEXT_ROOM));
+    same.part = format!("seed {seed}, the largest net cut");
+    largest_cut(&mut same, &mut random);
+    println!(
+        "seed {seed}, {rounds} rounds, {} calls compared in {:.1} s",
+        same.hits.total(),
+        start.elapsed().as_secs_f64()
+    );
+    print!("{}", same.hits);
+    let wants = same.hits.wants();
+    wants.iter().for_each(|want| println!("TOO FEW: {want}"));
+    if wants.is_empty() { ExitCode::SUCCESS } else { ExitCode::FAILURE }
+}
+
+fn any_net(random: &mut Random) -> (PlainNet, Style) {
+    if random.once_in(8) {
+        return (limits::brim(random), Style::Edges);
+    }
+    let (style, (places, transitions, arcs)) = (random.pick(&STYLES), random.pick(&SIZES));
+    (generator::net(random, style, places, transitions, arcs), style)
+}
+
+/// A net of any size, in half of the rounds with one to three faults.
+fn any(same: &mut Same, random: &mut Random) {
+    let (mut net, style) = any_net(random);
+    let mut case = Case::of(random, style, &net, 24);
+    for _ in 0..random.pick(&[0, 0, 0, 0, 1, 1, 2, 3]) {
+        damage::damage(random, &mut case, &mut net);
+    }
+    case.compare(same);
+}
+
+/// Nets in step with their complements.
+fn complements(same: &mut Same, random: &mut Random) {
+    for most in [4, 16, 64] {
+        let (net, style) = any_net(random);
+        demand3::in_step(same, random, style, &net, most);
+    }
+}
+
+/// A net at the limits of a sheet, without a fault and with one, and with the longest list.
+fn at_limits(same: &mut Same, random: &mut Random, at: usize) {
+    let shape = limits::SHAPES[at % limits::SHAPES.len()];
+    for style in [Style::Edges, Style::Lively] {
+        let mut net = limits::net(random, style, shape);
+        let mut case = Case::of(random, style, &net, 8_192);
+        case.compare(same);
+        demand3::in_step(same, random, style, &net, 16);
+        damage::damage(random, &mut case, &mut net);
+        case.compare(same);
+    }
+}
+
+/// Small sheets cut at every offset, for every call.
+fn cut_everywhere(same: &mut Same, random: &mut Random) {
+    let style = random.pick(&STYLES);
+    let net = generator::net(random, style, 3, 2, 4);
+    let case = Case::of(random, style, &net, 6);
+    truncation::every_call(same, &case);
+    let example = PlainNet::plain(1, &[(5, 3), (OPEN, 0)], &[arc(0, 0, 1, 0, 4), arc(0, 1, 0, 1, OPEN)]);
+    truncation::every_call(same, &Case::of(random, Style::Small, &example, 4));
+}
+
+/// The largest net sheet, its weights and the longest list, cut at every offset, for the readers.
+fn largest_cut(same: &mut Same, random: &mut Random) {
+    let net = limits::net(random, Style::Lively, (64, 4, 64, 4, 2_048));
+    let case = Case::of(random, Style::Lively, &net, 8_192);
+    assert_eq!(case.net.len(), pnet::LARGEST_NET);
+    truncation::every_reader(same, &case);
+}

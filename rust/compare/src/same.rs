@@ -1,0 +1,202 @@
+//! Each call of both engines on the same input: the same answer, value and content of every lent slice.
+
+use std::fmt::Debug;
+
+use pnet::{Mode, Refusal};
+
+use crate::hits::{Call, Hits};
+
+/// Number, thing and position.
+pub type Plain = (u64, u64, u64);
+
+fn told<V>(result: &Result<V, Refusal>) -> Plain {
+    match result {
+        Ok(_) => (0, 0, 0),
+        Err(refusal) => (refusal.number().into(), refusal.thing() as u64, refusal.position()),
+    }
+}
+
+fn plain(answer: reference::Answer) -> Plain {
+    (answer.number.into(), answer.thing.into(), answer.position)
+}
+
+fn plain_of<V>(result: &Result<V, reference::Answer>) -> Plain {
+    plain(reference::Answer::of(result))
+}
+
+/// The comparison so far.
+#[derive(Default)]
+pub struct Same {
+    pub hits: Hits,
+    /// What is being compared, for a difference that is found.
+    pub part: String,
+}
+
+impl Same {
+    /// Both outcomes are the same, or the comparison ends here.
+    fn hold<O: PartialEq + Debug>(
+        &mut self,
+        call: Call,
+        answer: Plain,
+        engine: O,
+        reference: O,
+        input: &[&dyn Debug],
+    ) {
+        if engine != reference {
+            panic!(
+                "{}: {call:?}: the engine {engine:?}, the reference {reference:?}, on {input:?}",
+                self.part
+            );
+        }
+        self.hits.told(call, answer.0, answer.1);
+    }
+
+    /// A reader: the bytes after the sheet are those that the reference's count leaves.
+    fn read(
+        &mut self,
+        call: Call,
+        bytes: &[u8],
+        engine: Result<&[u8], Refusal>,
+        reference: (reference::Answer, usize),
+    ) {
+        let answer = told(&engine);
+        let rest = &bytes[reference.1..];
+        let handed = engine.unwrap_or(bytes);
+        assert!(std::ptr::eq(handed, rest), "{}: {call:?} hands back another part of {bytes:?}", self.part);
+        self.hold(call, answer, answer, plain(reference.0), &[&bytes]);
+    }
+
+    pub fn read_net(&mut self, bytes: &[u8]) {
+        self.read(Call::ReadNet, bytes, pnet::read_net(bytes), reference::read_net(bytes));
+    }
+
+    pub fn read_weights(&mut self, bytes: &[u8], pairs: usize) {
+        self.read(
+            Call::ReadWeights,
+            bytes,
+            pnet::read_weights(bytes, pairs),
+            reference::read_weights(bytes, pairs),
+        );
+    }
+
+    pub fn read_movements(&mut self, bytes: &[u8]) {
+        self.read(Call::ReadMovements, bytes, pnet::read_movements(bytes), reference::read_movements(bytes));
+    }
+
+    pub fn begin(&mut self, net: &[u8], marking: &[u32]) {
+        let (mut ours, mut theirs) = (marking.to_vec(), marking.to_vec());
+        let answer = told(&pnet::begin(net, &mut ours));
+        let reference = plain(reference::begin(net, &mut theirs));
+        self.hold(Call::Begin, answer, (answer, ours), (reference, theirs), &[&net, &marking]);
+    }
+
+    pub fn test(&mut self, net: &[u8], marking: &[u32], mode: u16) {
+        let answer = told(&pnet::test(net, marking, Mode(mode)));
+        let reference = plain(reference::test(net, marking, mode));
+        self.hold(Call::Test, answer, answer, reference, &[&net, &marking, &mode]);
+    }
+
+    /// The answer, and the marking after it.
+    pub fn fire(&mut self, net: &[u8], marking: &[u32], mode: u16) -> (Plain, Vec<u32>) {
+        let (mut ours, mut theirs) = (marking.to_vec(), marking.to_vec());
+        let answer = told(&pnet::fire(net, &mut ours, Mode(mode)));
+        let reference = plain(reference::fire(net, &mut theirs, mode));
+        self.hold(Call::Fire, answer, (answer, &ours), (reference, &theirs), &[&net, &marking, &mode]);
+        (answer, ours)
+    }
+
+    /// How many movements were accepted, the answer, and the marking after them.
+    pub fn run(&mut self, net: &[u8], movements: &[u8], marking: &[u32]) -> (usize, Plain, Vec<u32>) {
+        let (mut ours, mut theirs) = (marking.to_vec(), marking.to_vec());
+        let ran = pnet::run(net, movements, &mut ours);
+        let answer = told(&ran.result);
+        let (accepted, reference) = reference::run(net, movements, &mut theirs);
+        let engine = (ran.accepted as u64, answer, &ours);
+        self.hold(
+            Call::Run,
+            answer,
+            engine,
+            (accepted, plain(reference), &theirs),
+            &[&net, &movements, &marking],
+        );
+        if movements.len() > 5 {
+            self.hits.ran(ran.accepted, ran.result.is_ok());
+        }
+        (ran.accepted, answer, ours)
+    }
+
+    pub fn certify(&mut self, net: &[u8], movements: &[u8], claim: &[u32]) {
+        let answer = told(&pnet::certify(net, movements, claim));
+        let reference = plain(reference::certify(net, movements, claim));
+        self.hold(Call::Certify, answer, answer, reference, &[&net, &movements, &claim]);
+    }
+
+    pub fn figure(&mut self, net: &[u8], weights: &[u8], marking: &[u32]) {
+        let engine = pnet::figure(net, weights, marking);
+        let reference = reference::figure(net, weights, marking);
+        let (answer, value) = (told(&engine), engine.ok());
+        let reference = (plain_of(&reference), reference.ok());
+        self.hold(Call::Figure, answer, (answer, value), reference, &[&net, &weights, &marking]);
+    }
+
+    pub fn change(&mut self, net: &[u8], weights: &[u8], mode: u16) {
+        let engine = pnet::change(net, weights, Mode(mode));
+        let reference = reference::change(net, weights, mode);
+        let (answer, value) = (told(&engine), engine.ok());
+        let reference = (plain_of(&reference), reference.ok());
+        self.hold(Call::Change, answer, (answer, value), reference, &[&net, &weights, &mode]);
+    }
+
+    pub fn is_dead(&mut self, net: &[u8], mode: u16) {
+        let engine = pnet::is_dead(net, Mode(mode));
+        let reference = reference::is_dead(net, mode);
+        let (answer, value) = (told(&engine), engine.ok());
+        let reference = (plain_of(&reference), reference.ok());
+        self.hold(Call::IsDead, answer, (answer, value), reference, &[&net, &mode]);
+        if let Some(dead) = value {
+            self.hits.value(if dead { "yes" } else { "no" });
+        }
+    }
+
+    pub fn first_dead(&mut self, net: &[u8]) {
+        let engine = pnet::first_dead(net);
+        let reference = reference::first_dead(net);
+        let (answer, value) =
+            (told(&engine), engine.ok().map(|named| named.map(|(mode, pair)| (mode.0, pair.0))));
+        let theirs = plain_of(&reference);
+        let reference = (theirs, reference.ok().map(|named| named.map(|(mode, pair)| (mode.0, pair.0))));
+        self.hold(Call::FirstDead, answer, (answer, value), reference, &[&net]);
+        if let Some(named) = value {
+            self.hits.value(if named.is_some() { "named" } else { "none named" });
+        }
+    }
+
+    /// The complement, where there is one.
+    pub fn complement(&mut self, net: &[u8], room: usize) -> Option<Vec<u8>> {
+        let (mut ours, mut theirs) = (vec![170; room], vec![170; room]);
+        let engine = pnet::complement(net, &mut ours);
+        let reference = reference::complement(net, &mut theirs);
+        let (answer, value) = (told(&engine), engine.ok());
+        let reference = (plain_of(&reference), reference.ok(), &theirs);
+        self.hold(Call::Complement, answer, (answer, value, &ours), reference, &[&net, &room]);
+        value.map(|length| ours[..length].to_vec())
+    }
+
+    /// The text of `replay`, into a slice of this length.
+    pub fn statement(&mut self, input: &[u8], room: usize) {
+        let mut text = vec![170; room];
+        let engine = pnet::statement(input, &mut text);
+        let answer = told(&engine);
+        let mut expected = reference::replay(input);
+        self.hits.value(match &expected {
+            text if text == b"long\n" => "long",
+            text if text.starts_with(b"bad") => "text of a bad sheet",
+            text if text.windows(7).any(|word| word == b"refused") => "text of a stopped run",
+            _ => "text of a whole run",
+        });
+        let (reference, length) = if room < pnet::TEXT_ROOM { ((10, 0, 0), None) } else { ((0, 0, 0), Some(expected.len())) };
+        expected.truncate(length.unwrap_or(0));
+        expected.resize(room, 170);
+        self.hold(Call::Statement, answer, (answer, engine.ok(), &text), (reference, length, &expected), &[&input, &room]);
+    }
+}

@@ -1,0 +1,53 @@
+//! The calls of a P-net engine (Billington, TR 222) whose every function is proved to do what the published definition says.
+//!
+//! Nets, weights and movements are lent as the bytes of their sheets, a marking as a slice of counts, one for each pair.
+//! Every call answers for any bytes and any counts: what it gives, or the first [`Refusal`] in the order of document 01.
+//! A refused call writes nothing; a run that stops leaves the marking that its accepted movements gave.
+//!
+//! # Example
+//!
+//! Document 01's own: aboard (one colour, K 5, first 3) and ashore (unbounded, first 0), and one mode that lands an item.
+//!
+//! ```
+//! use pnet::{Fault, Mode, Pair};
+//!
+//! let net = [
+//!     0, 0, 0, 61, 1, 0, 2, 0, 1, 0, 1, 0, 1, 0, 1, // L, version, places, transitions, colours, modes
+//!     0, 0, 0, 5, 0, 0, 0, 3, 255, 255, 255, 255, 0, 0, 0, 0, // K and first marking of both pairs
+//!     0, 2, // arcs
+//!     0, 0, 0, 0, 0, 0, 0, 1, 0, 0, 0, 0, 0, 0, 0, 4, // mode 0, pair 0: Pre 1, Post 0, I 4
+//!     0, 0, 0, 1, 0, 0, 0, 0, 0, 0, 0, 1, 255, 255, 255, 255, // mode 0, pair 1: Pre 0, Post 1
+//! ];
+//! let weights = [0, 0, 0, 11, 1, 0, 2, 0, 0, 0, 250, 0, 0, 0, 0];
+//!
+//! let mut marking = pnet::first_marking(&net)?;
+//! assert_eq!(marking, [3, 0]);
+//! assert_eq!(pnet::figure(&net, &weights, &marking)?, 750);
+//! assert_eq!(pnet::change(&net, &weights, Mode(0))?, -250);
+//!
+//! let movements = [0, 0, 0, 9, 1, 0, 0, 0, 0, 0, 0, 0, 0];
+//! let ran = pnet::run(&net, &movements, &mut marking);
+//! assert_eq!(ran.accepted, 3);
+//! assert_eq!(marking, [0, 3]);
+//! let refusal = ran.result.unwrap_err();
+//! assert_eq!((refusal.fault(), refusal.pair()), (Fault::Lacking, Some(Pair(0))));
+//! assert_eq!(refusal.to_string(), "11: pair 0 holds too few");
+//!
+//! let (input, mut text) = ([&net[..], &weights, &movements].concat(), vec![0; pnet::TEXT_ROOM]);
+//! let length = pnet::statement(&input, &mut text)?;
+//! assert_eq!(&text[..length], b"start 750\n1 0 0 500\n2 0 0 250\n3 0 0 0\nrefused 4 0 11 0\nend 3 0\n");
+//! # Ok::<(), pnet::Refusal>(())
+//! ```
+
+mod calls;
+mod fault;
+mod kinds;
+mod refusal;
+
+pub use calls::{
+    Ran, begin, certify, change, complement, figure, fire, first_dead, first_marking, is_dead,
+    read_movements, read_net, read_weights, run, statement, test,
+};
+pub use fault::Fault;
+pub use kinds::{LARGEST_NET, Mode, Pair, TEXT_ROOM, Thing};
+pub use refusal::Refusal;

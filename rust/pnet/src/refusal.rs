@@ -1,0 +1,128 @@
+//! Why a call was refused.
+
+use std::fmt;
+
+use crate::fault::Fault;
+use crate::kinds::{Pair, Thing};
+
+/// Why a call was refused: what is wrong, in which thing and where. It prints in words.
+#[derive(Clone, Copy, Debug, PartialEq, Eq, Hash)]
+pub struct Refusal {
+    fault: Fault,
+    thing: Thing,
+    position: u64,
+}
+
+impl Refusal {
+    pub(crate) fn new(fault: Fault, thing: Thing, position: u64) -> Refusal {
+        Refusal { fault, thing, position }
+    }
+
+    /// What is wrong.
+    pub fn fault(&self) -> Fault {
+        self.fault
+    }
+
+    /// Document 01's number, 1 to 18.
+    pub fn number(&self) -> u8 {
+        self.fault.number()
+    }
+
+    /// What was at fault.
+    pub fn thing(&self) -> Thing {
+        self.thing
+    }
+
+    /// Document 01's position: a pair's number, the offset of a byte in its sheet, or 0.
+    pub fn position(&self) -> u64 {
+        self.position
+    }
+
+    /// The pair at fault, where the position is one.
+    pub fn pair(&self) -> Option<Pair> {
+        use Fault::*;
+        let of_pair = match self.fault {
+            Lacking | OverCapacity | Inhibited | OverLimit | EndsElsewhere => true,
+            NumberOutside | AboveCapacity => self.thing == Thing::Argument,
+            _ => false,
+        };
+        of_pair.then_some(Pair(self.position as u16))
+    }
+
+    /// The offset in its sheet of the byte, field or arc at fault, where the position is one.
+    pub fn offset(&self) -> Option<u64> {
+        use Fault::*;
+        let of_byte = match self.fault {
+            WrongVersion | WrongLength | CountOutside | NotRising | Blank | InhibitedUnbounded
+            | ComplementAbove => true,
+            NumberOutside | AboveCapacity | NotOneEach => self.thing != Thing::Argument,
+            NotThere => self.thing == Thing::Net,
+            _ => false,
+        };
+        of_byte.then_some(self.position)
+    }
+}
+
+impl std::error::Error for Refusal {}
+
+impl fmt::Display for Refusal {
+    fn fmt(&self, f: &mut fmt::Formatter) -> fmt::Result {
+        let at = self.position;
+        write!(f, "{}: ", self.number())?;
+        match (self.fault, self.thing) {
+            (Fault::CutShort, thing) => write!(f, "the {thing} sheet is cut short"),
+            (Fault::WrongVersion, thing) => write!(f, "the {thing} sheet is not of version 1"),
+            (Fault::WrongLength, thing) if at == 0 => write!(f, "the {thing} sheet has length 0"),
+            (Fault::WrongLength, thing) => {
+                write!(
+                    f,
+                    "the {thing} sheet ends within the field at byte {at}, or goes on there after its end"
+                )
+            }
+            (Fault::CountOutside, thing) => {
+                write!(f, "the count at byte {at} of the {thing} sheet is outside its limits")
+            }
+            (Fault::NumberOutside, Thing::Argument) => write!(f, "pair {at} holds more than 1,000,000"),
+            (Fault::NumberOutside, thing) => {
+                write!(f, "the number at byte {at} of the {thing} sheet is outside its range")
+            }
+            (Fault::NotThere, Thing::Net) => {
+                write!(f, "the mode or pair at byte {at} of the net sheet is not there")
+            }
+            (Fault::NotThere, _) => write!(f, "the mode is not there"),
+            (Fault::NotRising, _) => write!(f, "the arc at byte {at} is not above the one before"),
+            (Fault::Blank, _) => write!(f, "the arc at byte {at} is blank"),
+            (Fault::AboveCapacity, Thing::Argument) => write!(f, "pair {at} holds more than its capacity"),
+            (Fault::AboveCapacity, _) => {
+                write!(f, "the first marking at byte {at} is above the pair's capacity")
+            }
+            (Fault::NoRoom, _) => {
+                write!(f, "what is to be written exceeds the room for it, or a complement the limits of a sheet")
+            }
+            (Fault::Lacking, _) => write!(f, "pair {at} holds too few"),
+            (Fault::OverCapacity, _) => write!(f, "pair {at} has no capacity for what is added"),
+            (Fault::Inhibited, _) => write!(f, "pair {at} holds more than the inhibitor allows"),
+            (Fault::OverLimit, _) => write!(f, "pair {at} would hold more than 1,000,000"),
+            (Fault::InhibitedUnbounded, _) => {
+                write!(f, "the arc at byte {at} inhibits a pair of unbounded capacity")
+            }
+            (Fault::ComplementAbove, _) => {
+                write!(f, "the arc at byte {at} has a complement number above 1,000,000")
+            }
+            (Fault::NotOneEach, Thing::Weights) => write!(f, "the weights are not one for each pair"),
+            (Fault::NotOneEach, _) => write!(f, "the counts are not one for each pair"),
+            (Fault::EndsElsewhere, _) => write!(f, "pair {at} ends at another count than is claimed"),
+        }
+    }
+}
+
+impl fmt::Display for Thing {
+    fn fmt(&self, f: &mut fmt::Formatter) -> fmt::Result {
+        f.write_str(match self {
+            Thing::Net => "net",
+            Thing::Weights => "weight",
+            Thing::Movements => "movement",
+            Thing::Argument => "argument",
+        })
+    }
+}

@@ -1,0 +1,102 @@
+//! Every refusal in words, from the call that gives it.
+
+use pnet::*;
+use reference::build::{OPEN, PlainNet, arc, movements, sheet, weights};
+
+/// Document 01's own example, with other arcs and pairs.
+fn net(pairs: &[(u32, u32)], arcs: &[reference::build::PlainArc]) -> Vec<u8> {
+    PlainNet::plain(1, pairs, arcs).sheet()
+}
+
+fn example() -> Vec<u8> {
+    net(&[(5, 3), (OPEN, 0)], &[arc(0, 0, 1, 0, 4), arc(0, 1, 0, 1, OPEN)])
+}
+
+fn says<V: std::fmt::Debug>(result: Result<V, Refusal>, words: &str) {
+    assert_eq!(result.unwrap_err().to_string(), words);
+}
+
+#[test]
+fn of_a_sheet() {
+    says(read_net(&[0, 0]), "1: the net sheet is cut short");
+    says(read_weights(&[0, 0, 0, 1, 7], 2), "2: the weight sheet is not of version 1");
+    says(read_movements(&[0; 4]), "3: the movement sheet has length 0");
+    says(
+        read_movements(&sheet(&[0])),
+        "3: the movement sheet ends within the field at byte 5, or goes on there after its end",
+    );
+    says(begin(&example(), &mut [0]), "17: the counts are not one for each pair");
+    says(read_net(&sheet(&[0, 0])), "4: the count at byte 5 of the net sheet is outside its limits");
+    says(
+        read_weights(&weights(&[1_000_001]), 1),
+        "5: the number at byte 7 of the weight sheet is outside its range",
+    );
+    says(read_weights(&weights(&[1]), 2), "17: the weights are not one for each pair");
+}
+
+#[test]
+fn of_a_net() {
+    let pairs = [(5, 3), (OPEN, 0)];
+    says(
+        read_net(&net(&pairs, &[arc(1, 0, 1, 1, 1)])),
+        "6: the mode or pair at byte 33 of the net sheet is not there",
+    );
+    says(
+        read_net(&net(&pairs, &[arc(0, 1, 1, 1, 1), arc(0, 0, 1, 1, 1)])),
+        "7: the arc at byte 49 is not above the one before",
+    );
+    says(read_net(&net(&pairs, &[arc(0, 0, 0, 0, OPEN)])), "8: the arc at byte 33 is blank");
+    says(read_net(&net(&[(5, 6)], &[])), "9: the first marking at byte 17 is above the pair's capacity");
+}
+
+#[test]
+fn of_a_marking_and_a_mode() {
+    let plain = example();
+    says(test(&plain, &[1_000_001, 0], Mode(0)), "5: pair 0 holds more than 1,000,000");
+    says(test(&plain, &[6, 0], Mode(0)), "9: pair 0 holds more than its capacity");
+    says(test(&plain, &[0, 0], Mode(1)), "6: the mode is not there");
+    says(test(&plain, &[0, 0], Mode(0)), "11: pair 0 holds too few");
+    says(test(&plain, &[5, 0], Mode(0)), "13: pair 0 holds more than the inhibitor allows");
+    says(test(&plain, &[1, 1_000_000], Mode(0)), "14: pair 1 would hold more than 1,000,000");
+    let full = net(&[(5, 5)], &[arc(0, 0, 1, 1, OPEN)]);
+    says(test(&full, &[5], Mode(0)), "12: pair 0 has no capacity for what is added");
+    says(certify(&plain, &movements(&[0]), &[3, 1]), "18: pair 0 ends at another count than is claimed");
+}
+
+#[test]
+fn of_a_complement() {
+    let room = &mut [0; LARGEST_NET];
+    says(
+        complement(&example(), &mut room[..90]),
+        "10: what is to be written exceeds the room for it, or a complement the limits of a sheet",
+    );
+    says(
+        complement(&net(&[(OPEN, 0)], &[arc(0, 0, 1, 0, 4)]), room),
+        "15: the arc at byte 23 inhibits a pair of unbounded capacity",
+    );
+    says(
+        complement(&net(&[(1_000_000, 0)], &[arc(0, 0, 1, 0, 0)]), room),
+        "16: the arc at byte 23 has a complement number above 1,000,000",
+    );
+}
+
+#[test]
+fn positions_are_pairs_or_offsets_or_nothing() {
+    let refusal = test(&example(), &[0, 0], Mode(0)).unwrap_err();
+    assert_eq!((refusal.pair(), refusal.offset(), refusal.thing()), (Some(Pair(0)), None, Thing::Argument));
+    let refusal = read_net(&sheet(&[0, 0])).unwrap_err();
+    assert_eq!((refusal.pair(), refusal.offset(), refusal.number()), (None, Some(5), 4));
+    let refusal = test(&example(), &[0, 0], Mode(1)).unwrap_err();
+    assert_eq!((refusal.pair(), refusal.offset(), refusal.position()), (None, None, 0));
+}
+
+#[test]
+fn a_reader_hands_back_what_follows() {
+    let both = [example(), movements(&[0])].concat();
+    let rest = read_net(&both).unwrap();
+    assert_eq!(read_movements(rest), Ok(&[][..]));
+    says(
+        first_marking(&both),
+        "3: the net sheet ends within the field at byte 65, or goes on there after its end",
+    );
+}
