@@ -5,7 +5,7 @@ use nets::numbers::above_bound;
 ghost use mathlib.Core.Path.{_≡_};
 ghost use mathlib.Core.Bool.{true};
 ghost use mathlib.Core.Logic.{_↔_};
-ghost use Prim.Native.Nat.{_≤_};
+ghost use Prim.Native.Nat.{_+_, _≤_};
 ghost use Rattle.model.specs.Numbers.{limit};
 ghost use Rattle.model.specs.Firing.{after, stops};
 ghost use Rattle.nets.specs.Nets.{bound};
@@ -31,6 +31,15 @@ pub(crate) fn moved(arc: Arc, count: u32) -> u32
     count - arc.pre + arc.post
 }
 
+// "Pre is not taken off before the capacity test."
+fn with_post(arc: Arc, count: u32) -> u32
+    requires { ⌜ InRange arc ⌝ }
+    requires { ⌜ count ≤ limit ⌝ }
+    ensures { λ r. ⌜ r ≡ count + arc .post ⌝ }
+{
+    count + arc.post
+}
+
 pub(crate) fn is_stopped(why: Why, at: AtPair) -> bool
     requires { ⌜ Counted at ⌝ }
     ensures { λ r. ⌜ r ≡ stops why (netArc (at .arc) .entry) (bound (at .capacity)) (at .count) ⌝ }
@@ -38,7 +47,7 @@ pub(crate) fn is_stopped(why: Why, at: AtPair) -> bool
     let arc = at.arc;
     match why {
         Why::Lacking => at.count < arc.pre,
-        Why::OverCapacity => above_bound(at.count + arc.post, at.capacity),
+        Why::OverCapacity => above_bound(with_post(arc, at.count), at.capacity),
         Why::Inhibited => above_bound(at.count, arc.inhibitor),
         Why::OverLimit => 1_000_000 < moved(arc, at.count),
     }

@@ -18,12 +18,12 @@ use Rattle.model.specs.First.{_▸_}
 use Rattle.model.specs.Refusals.{answer, number}
 use Rattle.model.specs.Nets.{modeNo}
 use Rattle.model.proofs.First.{left-none, some-then}
-use Rattle.sheets.specs.Checks.{wrong, headRefusal}
-use Rattle.sheets.specs.Nets.{netRefusal}
+use Rattle.nets.specs.Checks.{wrong, headRefusal}
+use Rattle.nets.specs.Nets.{netRefusal}
 use Rattle.sheets.specs.Weights.{weightsRefusal}
 use Rattle.sheets.specs.Movements.{movementsRefusal}
 use Rattle.sheets.specs.Whole.{wholeNet, wholeWeights, wholeMovements, rest}
-use Rattle.sheets.specs.Bytes.{u16At, u32At}
+use Rattle.nets.specs.Bytes.{u16At, u32At}
 use Rattle.written.proofs.SheetLength.{sheet-size}
 use Rattle.fire.specs.Calls.{beginRefusal, testRefusal}
 use Rattle.run.specs.Calls.{beforeRun, runOf, certifyRefusal}

@@ -15,13 +15,13 @@ use Rattle.model.proofs.First.{left-none}
 use Rattle.model.proofs.Bounded.{bounded-number}
 use Rattle.model.proofs.ComplementNet.{pairs-complement}
 use Rattle.model.proofs.Demand3.{demand3}
-use Rattle.sheets.specs.Bytes.{byteAt, u16At}
-use Rattle.sheets.specs.Layout.{placeCount}
-use Rattle.sheets.specs.Nets.{netRefusal}
+use Rattle.nets.specs.Bytes.{byteAt, u16At}
+use Rattle.nets.specs.Layout.{placeCount}
+use Rattle.nets.specs.Nets.{netRefusal}
 use Rattle.sheets.specs.Whole.{wholeNet}
 use Rattle.sheets.specs.Decoded.{netOf}
 use Rattle.sheets.proofs.Meaning.{counts-length, colours-are}
-use Rattle.sheets.proofs.Valid.{counts-hold}
+use Rattle.nets.proofs.Valid.{counts-hold}
 use Rattle.written.proofs.RoundTrip.{written-then-read}
 use Rattle.complement.specs.Complemented.{told, complementSheet, complemented, complementingRefusal, outputOf}
 use Rattle.promises.specs.Frauds.{AddUp, CopiesNet}

@@ -17,9 +17,9 @@ use Rattle.model.specs.Rows.{Entry}
 use Rattle.model.specs.Nets.{NetArc, PNet, pairs, modes, pairNo, modeNo, K, count, arcNo, row as modeRow}
 use Rattle.model.specs.Firing.{stopped, fired}
 use Rattle.model.specs.Complement.{complementEntry, complement}
-use Rattle.sheets.specs.Layout.{sheetEnd}
-use Rattle.sheets.specs.Checks.{wrong}
-use Rattle.sheets.specs.Nets.{netRefusal}
+use Rattle.nets.specs.Layout.{sheetEnd}
+use Rattle.nets.specs.Checks.{wrong}
+use Rattle.nets.specs.Nets.{netRefusal}
 use Rattle.sheets.specs.Weights.{weightsRefusal}
 use Rattle.sheets.specs.Movements.{movementsRefusal}
 use Rattle.sheets.specs.Whole.{wholeNet, wholeWeights, wholeMovements}

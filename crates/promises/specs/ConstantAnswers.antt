@@ -6,7 +6,8 @@ use mathlib.Core.Logic.{_≢_}
 use lib.ListN.{length}
 use Rattle.model.specs.declared.Mode.{Mode}
 use Rattle.model.specs.Refusals.{number}
-use Rattle.sheets.specs.Contracts.{ReadNetAllows, ReadWeightsAllows, ReadMovementsAllows, AfterNetAllows, AfterWeightsAllows, AfterMovementsAllows, WholeNetAllows, WholeWeightsAllows, WholeMovementsAllows}
+use Rattle.sheets.specs.Contracts.{ReadWeightsAllows, ReadMovementsAllows, AfterNetAllows, AfterWeightsAllows, AfterMovementsAllows, WholeNetAllows, WholeWeightsAllows, WholeMovementsAllows}
+use Rattle.nets.specs.Contracts.{ReadNetAllows}
 use Rattle.fire.specs.Contracts.{BeginAllows, TestAllows, FireAllows}
 use Rattle.run.specs.Contracts.{RunAllows, CertifyAllows}
 use Rattle.weigh.specs.Calls as weigh
