@@ -7,15 +7,29 @@ use Rattle.model.specs.declared.Mode.{Mode}
 use Rattle.model.specs.declared.Thing.the-variants.{Argument}
 use Rattle.model.specs.declared.Refusal.{Refusal}
 use Rattle.model.specs.Markings.{Marking, markingRefusal}
-use Rattle.model.specs.Firing.{fired}
+use Rattle.model.specs.Firing.{modeRefusal, fired}
 use Rattle.model.proofs.First.{left-none, right-none}
-use Rattle.model.proofs.Markings.{marking-test, marking-kept}
+use Rattle.model.proofs.Firing.{accepted-allows}
+use Rattle.model.proofs.Markings.{marking-after, marking-test, marking-kept}
 use Rattle.nets.specs.Nets.{netRefusal}
 use Rattle.sheets.specs.Whole.{wholeNet}
 use Rattle.sheets.specs.Decoded.{netOf}
 use Rattle.sheets.proofs.Accepted.{well-formed}
 use Rattle.fire.specs.Calls.{beginRefusal, begun, testRefusal, firedBy}
-use Rattle.fire.specs.Promises.{RefusedFire, MarkingStays}
+use Rattle.fire.specs.Promises.{AcceptedBegin, AcceptedFire, RefusedFire, MarkingStays}
+
+pub accepted-begin : AcceptedBegin
+accepted-begin net marking e = rw e
+
+mode-accepted : (net marking : List ℕ) (t : Mode) → testRefusal net marking t ≡ none → modeRefusal Argument (netOf net) t marking ≡ none
+unfolding testRefusal
+mode-accepted net marking t e = right-none _ _ (right-none (wholeNet net) _ e)
+
+pub accepted-fire : AcceptedFire
+accepted-fire net marking t e =
+    let fires = mode-accepted net marking t e in
+    let after = marking-after Argument (netOf net) t marking fires in
+    record { enabled = accepted-allows Argument (netOf net) t marking fires; follows = rw e (after .0); oneEach = rw e (after .1) }
 
 pub refused-fire : RefusedFire
 refused-fire net marking t r e = rw e
@@ -30,14 +44,13 @@ unfolding beginRefusal
 begins net marking e = rw e (marking-test (netOf net) (netOf net .start) .1 (start-marks net (left-none _ _ e)))
 
 fires : (net marking : List ℕ) (t : Mode) → markingRefusal (netOf net) marking ≡ none → markingRefusal (netOf net) (firedBy net marking t) ≡ none
-unfolding testRefusal
 fires net marking t h = go (testRefusal net marking t) refl
   where
     go : (o : Option Refusal) → testRefusal net marking t ≡ o → markingRefusal (netOf net) (firedBy net marking t) ≡ none
     go none e =
         rw e
         (marking-test (netOf net) (fired (netOf net) t marking) .1
-        (marking-kept Argument (netOf net) t marking (marking-test (netOf net) marking .0 h) (right-none _ _ (right-none (wholeNet net) _ e))))
+        (marking-kept Argument (netOf net) t marking (marking-test (netOf net) marking .0 h) (mode-accepted net marking t e)))
     go (some r) e = rw e h
 
 pub marking-stays : MarkingStays

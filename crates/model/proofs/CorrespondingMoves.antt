@@ -18,7 +18,7 @@ use Rattle.model.specs.Complement.{complementPair, complementRow, allPai
 use Rattle.model.specs.DemandThree.{becomes}
 use Rattle.model.proofs.First.{below-or, first-ext}
 use Rattle.model.proofs.Firing.{there, missing, accepted-there, accepted-enough}
-use Rattle.model.proofs.Markings.{marking-after}
+use Rattle.model.proofs.Markings.{fired-at, fired-length}
 use Rattle.model.proofs.Bounded.{bounded-number}
 use Rattle.model.proofs.ComplementRow.{sum-kept, row-original, row-complement}
 use Rattle.model.proofs.ComplementStep.{answerInComplement, row-step}
@@ -79,12 +79,12 @@ module _ (net : PNet) (wf : WellFormed net) (offset : ℕ → ℕ) (no15 : refus
 
       count-after : (p : ℕ) {x : Entry} → p < allPairs net → complementRow (pairs net) (K net) (row net t) p ≡ x
           → count (fired (complement net) t m′) p ≡ after x (count m′ p)
-      count-after p h f = rw (reads h f) at (marking-after (complement net) t m′ .0 p (inside h))
+      count-after p h f = rw (reads h f) at (fired-at (complement net) t m′ p (inside h))
 
       moves-equal : (p : ℕ) → p < pairs net → count (fired (complement net) t m′) p ≡ count (fired net t m) p
       moves-equal p h =
           count-after p (omega arith) (row-original (pairs net) (K net) (row net t) p h)
-          ∙ rw (c .equal p h) (sym (marking-after net t m .0 p h))
+          ∙ rw (c .equal p h) (sym (fired-at net t m p h))
 
       moves-addUp : (p k : ℕ) → p < pairs net → K net p ≡ fin k
           → count (fired net t m) p + count (fired (complement net) t m′) (complementPair (pairs net) (K net) p) ≡ k
@@ -92,15 +92,15 @@ module _ (net : PNet) (wf : WellFormed net) (offset : ℕ → ℕ) (no15 : refus
           let q = complementPair (pairs net) (K net) p in
           let l : q < allPairs net = omega (arith, bounded-number (K net) (pairs net) p k h f) in
           let g = row-complement (pairs net) (K net) (row net t) p k h f in
-          rw (marking-after net t m .0 p h, count-after q l g)
+          rw (fired-at net t m p h, count-after q l g)
           (sum-kept k (count m p) (count m′ q) (row net t p) (c .addUp p k h f) (accepted-enough thing net t m e p h)
           (rw (reads l g) at (accepted-enough thing (complement net) t m′ accepts q (inside l))))
 
       pub move-corresponds : Corresponds net (fired net t m) (fired (complement net) t m′)
       move-corresponds =
           record {
-            oneEach = marking-after net t m .1;
-            oneEach′ = marking-after (complement net) t m′ .1;
+            oneEach = fired-length net t m;
+            oneEach′ = fired-length (complement net) t m′;
             equal = moves-equal;
             addUp = λ p k h. moves-addUp p k (omega arith);
           }

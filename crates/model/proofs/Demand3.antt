@@ -93,7 +93,7 @@ unfolding complementRefusal
 demand3 net c =
     let later = right-none (refusal15 (c .offset) net) _ (c .accepted) in
     record {
-      readsBack =
+      isNet =
           complement-well-formed net (c .wellFormed) (c .offset) (left-none (refusal16 (c .offset) net) _ later)
           (not-false (sheetLimits net) (only-if-none _ _ (right-none (refusal16 (c .offset) net) _ later)));
       runs = agreement net (c .wellFormed) (c .offset) (left-none (refusal15 (c .offset) net) _ (c .accepted));

@@ -1,5 +1,5 @@
 -- The starred cases of document 01: one table, one theorem.
-use Prim.Native.Nat.{ℕ, _<_}
+use Prim.Native.Nat.{ℕ, _<_, max}
 use mathlib.Core.Path.{_≡_, refl, sym, _∙_, ap}
 use mathlib.Core.List.{[]}
 use mathlib.Core.Logic.{⊎-elim}
@@ -10,19 +10,21 @@ use Rattle.model.specs.declared.Why.the-variants.{Lacking}
 use Rattle.model.specs.declared.Refusal.{Refusal}
 use Rattle.model.specs.First.{_▸_, first}
 use Rattle.model.specs.Refusals.{answer, number}
-use Rattle.model.specs.Numbers.{ℕ∞, fin}
+use Rattle.model.specs.Numbers.{ℕ∞, fin, ∞}
 use Rattle.model.specs.Rows.{Row, Capacities, Counts}
 use Rattle.model.specs.Firing.{ruleRefusal, rowRefusal}
-use Rattle.model.specs.Nets.{entryAt}
-use Rattle.model.specs.Complement.{joined, bounded, complementRow, newPlaces, arcsOf, complement, refusal15, refusal16, sheetLimits, complementRefusal}
+use Rattle.model.specs.Nets.{modeNo, K, entryAt, row}
+use Rattle.model.specs.Complement.{joined, bounded, reserve, complementRow, newPlaces, arcsOf, complement, refusal15, refusal16, sheetLimits, complementRefusal}
 use Rattle.model.specs.Promises.{stays}
-use Rattle.model.specs.Edges.{edge, found, edges, complementFound, Edges}
+use Rattle.model.specs.Edges.{numberAt, edges, complementGives, edgeNet, Edges}
 use Rattle.model.proofs.Firing.{Low, No, row11, row12, find-stop}
+use Rattle.model.proofs.ComplementRow.{reserve-is, row-complement}
+use Rattle.model.proofs.ComplementNet.{rows-complement}
 use Rattle.model.proofs.Runs.{certificates}
 
 -- Post above K is found at pair 0, unless the count is lacking there
-never : (i : ℕ∞) (pre m : ℕ) → ¬ (found (edge (fin 5) i pre 6 m 0) ≡ 0)
-unfolding found
+never : (i : ℕ∞) (pre m : ℕ) → ¬ (numberAt (fin 5) i pre 6 m ≡ 0)
+unfolding numberAt
 never i pre m e =
     ⊎-elim (λ (r : (p : ℕ) × Low Argument 1 k six M Lacking p). clash 11 (row11 Argument 1 k six M (r .0) (r .1)) refl (omega arith))
     (λ (a : No Argument 1 k six M Lacking).
@@ -42,13 +44,28 @@ never i pre m e =
     clash : (n : ℕ) {r : Refusal} → rowRefusal Argument 1 k six M ≡ some r → number (answer (some r)) ≡ n → 0 < n → ⊥
     clash n f g h = let z : n ≡ 0 = sym g ∙ sym (ap (λ (o : Option Refusal). number (answer o)) f) ∙ e in omega arith
 
+-- K less I is at most 5
+pre-six : (i : ℕ∞) (pre : ℕ) → row (complement (edgeNet 5 i pre 6)) (modeNo 0) 1 .pre ≡ 6
+unfolding bounded joined entryAt
+pre-six i pre =
+    let net = edgeNet 5 i pre 6 in
+    ap (λ e. e .pre)
+    (rows-complement net (modeNo 0) 1 (omega arith) (omega arith)
+    ∙ row-complement 1 (K net) (row net (modeNo 0)) 0 5 (omega arith) refl)
+    ∙ larger i
+  where
+    larger : (i : ℕ∞) → max 6 (reserve 5 i) ≡ 6
+    larger (fin i) = rw reserve-is (omega arith)
+    larger ∞ = refl
+
 pub starred : Edges
-unfolding found edges rowRefusal ruleRefusal _▸_ first complementFound complementRefusal refusal15 refusal16 sheetLimits complement arcsOf newPlaces complementRow bounded joined entryAt
+unfolding numberAt edges rowRefusal ruleRefusal _▸_ first complementGives complementRefusal refusal15 refusal16 sheetLimits complement arcsOf newPlaces complementRow bounded joined entryAt
 starred =
     record {
       answers = refl;
       never = never;
-      preSix = refl;
+      preSix = pre-six;
+      preSixAccepted = refl;
       postMost = refl;
       postAbove = refl;
       empty = λ net each. certificates net [] (net .start) each .1 stays;

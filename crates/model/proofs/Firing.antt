@@ -232,3 +232,13 @@ module _ (about : Thing) (net : PNet) (t : Mode) (m : List ℕ) (e : modeRefusal
   accepted-limit p h =
       le-not-above (after (row net t p) (count m p)) (fin limit)
       (stop-none about (pairs net) (K net) (row net t) (count m) OverLimit (right-none _ _ accepted-row) p h)
+
+-- and what shows it accepted
+pub enabled-accepted : (about : Thing) (net : PNet) (t : Mode) (m : List ℕ) → t .0 < modes net → Enables (pairs net) (K net) (row net t) (count m)
+    → ((p : ℕ) → p < pairs net → after (row net t p) (count m p) ≤ limit) → modeRefusal about net t m ≡ none
+unfolding rowRefusal
+enabled-accepted about net t m h enabled small =
+    there about net t m h
+    ∙ none-then (rule about (pairs net) (K net) (row net t) (count m) .1 enabled)
+    (none-stop about (pairs net) (K net) (row net t) (count m) OverLimit
+    (λ p l. not-above (after (row net t p) (count m p)) (fin limit) (small p l)))

@@ -3,6 +3,7 @@ pub mod Both
 pub mod Joined
 pub mod Bounded
 pub mod ComplementRow
+pub mod Figure64
 pub mod ComplementStep
 pub mod RefusalsCorrespond
 pub mod Each

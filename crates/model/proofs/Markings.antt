@@ -1,20 +1,24 @@
 -- What the test of a marking accepts, and that a movement keeps it.
-use Prim.Native.Nat.{ℕ, _+_}
-use mathlib.Core.Path.{_≡_}
+use Prim.Native.Nat.{ℕ, _+_, _<_}
+use mathlib.Core.Path.{_≡_, sym, _∙_}
 use mathlib.Core.List.{List}
 use mathlib.Core.Option.{none}
 use lib.ListN.{length}
+use lib.Seq.{ext-getD}
 use native.Mathlib.Omega.{arith}
 use borrow.Author.Tests.{eqb-true, eq-eqb, not-false}
+use Rattle.model.specs.declared.Mode.{Mode}
 use Rattle.model.specs.Numbers.{fin, limit}
+use Rattle.model.specs.Rows.{noArc}
 use Rattle.model.specs.Nets.{PNet, pairs, K, count, row}
 use Rattle.model.specs.Markings.{markingRefusal, Marking}
 use Rattle.model.specs.Firing.{after, fired}
-use Rattle.model.specs.Promises.{MarkingAfter, MarkingTest, MarkingKept}
+use Rattle.model.specs.Promises.{ModeRule, MarkingAfter, WithoutArcs, MarkingTest, MarkingKept}
 use Rattle.model.proofs.First.{left-none, right-none, none-then, first-each, first-all, only-if-none}
-use Rattle.model.proofs.Numbers.{above-false, false-above, le-le∞, room-le}
+use Rattle.model.proofs.Numbers.{above-false, false-above, le-le∞, le-room, room-le}
+use Rattle.model.proofs.Nets.{entry-unwritten}
 use Rattle.model.proofs.Tables.{table-length, table-at}
-use Rattle.model.proofs.Firing.{accepted-allows, accepted-limit}
+use Rattle.model.proofs.Firing.{accepted-there, accepted-allows, accepted-enough, accepted-limit, enabled-accepted}
 
 accepted-marking : (net : PNet) (m : List ℕ) → markingRefusal net m ≡ none → Marking net m
 unfolding markingRefusal
@@ -36,17 +40,49 @@ marking-accepted net m h =
 pub marking-test : MarkingTest
 marking-test net m = (accepted-marking net m, marking-accepted net m)
 
+-- what firing writes, accepted or not
+module _ (net : PNet) (t : Mode) (m : List ℕ) where
+  pub fired-at : (p : ℕ) → p < pairs net → count (fired net t m) p ≡ after (row net t p) (count m p)
+  unfolding fired
+  fired-at p h = table-at (pairs net) _ 0 p h
+
+  pub fired-length : length (fired net t m) ≡ pairs net
+  unfolding fired
+  fired-length = table-length (pairs net) _
+
 pub marking-after : MarkingAfter
-unfolding fired
-marking-after net t m = (λ p h. table-at (pairs net) _ 0 p h, table-length (pairs net) _)
+marking-after about net t m e = (λ p h. rw (fired-at net t m p h) (omega (arith, accepted-enough about net t m e p h)), fired-length net t m)
+
+pub mode-rule : ModeRule
+mode-rule about net t m = (
+  λ e. (accepted-there about net t m e, accepted-allows about net t m e, λ p h. rw (fired-at net t m p h) (accepted-limit about net t m e p h)),
+  λ r. enabled-accepted about net t m (r .0) (r .1) (λ p h. rw (fired-at net t m p h) at (r .2 p h)),
+)
 
 pub marking-kept : MarkingKept
 marking-kept about net t m h e =
     record {
-      oneEach = marking-after net t m .1;
-      inRange = λ p l. rw (marking-after net t m .0 p l) (accepted-limit about net t m e p l);
+      oneEach = fired-length net t m;
+      inRange = λ p l. rw (fired-at net t m p l) (accepted-limit about net t m e p l);
       within = λ p l.
-          rw (marking-after net t m .0 p l)
+          rw (fired-at net t m p l)
           (le-le∞ (after (row net t p) (count m p)) (count m p + row net t p .post) (K net p) (omega arith)
           (room-le (count m p) (row net t p .post) (K net p) (accepted-allows about net t m e .room p l)));
     }
+
+-- nothing stands anywhere in the row of a mode without arcs
+pub without-arcs : WithoutArcs
+without-arcs about net t m there none-own h = (
+  enabled-accepted about net t m there
+      (record {
+        enough = λ p l. rw (bare p) (omega arith);
+        room = λ p l. rw (bare p) (le-room (count m p) 0 (K net p) (le-le∞ (count m p + 0) (count m p) (K net p) (omega arith) (h .within p l)));
+        uninhibited = λ p l. rw (bare p) tt;
+      })
+      (λ p l. rw (bare p) (omega (arith, h .inRange p l))),
+  ext-getD 0 (fired net t m) m (fired-length net t m ∙ sym (h .oneEach))
+      (λ p l. fired-at net t m p (rw (fired-length net t m) at l) ∙ rw (bare p) (omega arith)),
+)
+  where
+    bare : (p : ℕ) → row net t p ≡ noArc
+    bare p = entry-unwritten t p (net .arcs) (λ k l s. none-own k l (s .0))

@@ -16,7 +16,7 @@ use Rattle.model.specs.Firing.{modeRefusal, fired}
 use Rattle.model.specs.Runs.{Outcome, goOn, runFrom, run, certificateRefusal}
 use Rattle.model.specs.Promises.{Leads, stays, moves, RunIs, Runs, Certificates}
 use Rattle.model.proofs.First.{left-none, right-none, none-then, first-each, first-all, only-if-none}
-use Rattle.model.proofs.Markings.{marking-after}
+use Rattle.model.proofs.Markings.{fired-length}
 
 -- an outcome that k accepted movements and then `steps` more give
 record From (net : PNet) (k : ℕ) (ts : List Mode) (m : List ℕ) (o : Outcome) : Type 0 where
@@ -64,7 +64,7 @@ runs net ts m = runs-as net ts m (from-run net 0 ts m)
 
 leads-length : {net : PNet} {ts : List Mode} {m m′ : List ℕ} → Leads net ts m m′ → length m ≡ pairs net → length m′ ≡ pairs net
 leads-length stays e = e
-leads-length {net} (moves {t = t} {m = m} a l) e = leads-length l (marking-after net t m .1)
+leads-length {net} (moves {t = t} {m = m} a l) e = leads-length l (fired-length net t m)
 
 outcome : ℕ → List ℕ → Outcome
 outcome k m = record { accepted = k; refusal = none; marking = m }

@@ -1,9 +1,10 @@
--- The complement of each worked example is the printed one.
+-- Complementing accepts each worked example, and its complement is the printed one.
 use mathlib.Core.Path.{refl}
+use Rattle.model.specs.First.{_▸_, first}
 use Rattle.model.specs.Nets.{entryAt}
-use Rattle.model.specs.Complement.{joined, bounded, complementRow, newPlaces, arcsOf, complement}
+use Rattle.model.specs.Complement.{joined, bounded, complementRow, newPlaces, arcsOf, complement, refusal15, refusal16, sheetLimits, complementRefusal}
 use Rattle.model.specs.WorkedExamples.{WorkedExamples}
 
 pub worked-examples : WorkedExamples
-unfolding complement arcsOf newPlaces complementRow bounded joined entryAt
-worked-examples = refl
+unfolding complementRefusal refusal15 refusal16 sheetLimits _▸_ first complement arcsOf newPlaces complementRow bounded joined entryAt
+worked-examples = record { accepted = refl; complemented = refl }

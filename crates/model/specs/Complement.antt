@@ -41,7 +41,7 @@ boundedBelow K p = length (bounded K p)
 abbrev pub complementPair : ℕ → Capacities → ℕ → ℕ
 complementPair n K p = n + boundedBelow K p
 
--- the pair that the complement pair p complements
+-- the pair that the complement pair p complements; asked only of complement pairs, and an unbounded pair has none
 abbrev pub complemented : ℕ → Capacities → ℕ → ℕ
 complemented n K p = getD (bounded K n) (p - n) 0
 

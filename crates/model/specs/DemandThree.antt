@@ -53,20 +53,21 @@ module _ (net : PNet) (ts : List Mode) where
   abbrev inComplement : List Mode → Outcome
   inComplement us = run (complement net) us (complement net .start)
 
-  abbrev stopsAt : Mode
-  stopsAt = getD ts (inNet ts .accepted) (modeNo 0)
+  abbrev nextMode : Mode
+  nextMode = getD ts (inNet ts .accepted) (modeNo 0)
 
   pub record Agreement : Type 0 where
     -- "both accept the same movements and stop at the same one"
     pub accepted : inComplement ts .accepted ≡ inNet ts .accepted
+    -- (follows from `refusal`)
     pub whole : (inComplement ts .refusal ≡ none) ↔ (inNet ts .refusal ≡ none)
-    pub refusal : inComplement ts .refusal ≡ becomes Movements net stopsAt (inNet ts .marking) (inNet ts .refusal)
+    pub refusal : inComplement ts .refusal ≡ becomes Movements net nextMode (inNet ts .marking) (inNet ts .refusal)
     -- "at the start and after each accepted movement": after the first j of them, and j may be 0
     pub agree : (j : ℕ) → j ≤ inNet ts .accepted → Corresponds net (inNet (take j ts) .marking) (inComplement (take j ts) .marking)
 
 pub record DemandThree (net : PNet) : Type 0 where
-  -- "the complement as written reads back as a net"
-  pub readsBack : WellFormed (complement net)
+  -- a net that a sheet can hold; that "the complement as written reads back as a net" is a promise over bytes
+  pub isNet : WellFormed (complement net)
   pub runs : (ts : List Mode) → Agreement net ts
 
 abbrev pub Demand3 : Type 0

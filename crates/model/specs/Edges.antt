@@ -15,23 +15,16 @@ use Rattle.model.specs.Firing.{rowRefusal}
 use Rattle.model.specs.Complement.{complementRefusal, complement}
 use Rattle.model.specs.Runs.{certificateRefusal}
 
--- one mode at one pair, and the number of its answer
+-- the number of the answer to one mode at one pair, for K, I, Pre, Post and the count there
+unfoldable pub numberAt : ℕ∞ → ℕ∞ → ℕ → ℕ → ℕ → ℕ
+numberAt k i pre post m = number (answer (rowRefusal Argument 1 (λ p. k) (λ p. record { pre = pre; post = post; inhibitor = i }) (λ p. m)))
+
 pub record Edge : Type 0 where
-  pub capacity : ℕ∞
-  pub inhibitor : ℕ∞
-  pub pre : ℕ
-  pub post : ℕ
-  pub count : ℕ
+  pub answered : ℕ
   pub expected : ℕ
 
 abbrev pub edge : ℕ∞ → ℕ∞ → ℕ → ℕ → ℕ → ℕ → Edge
-edge k i pre post m n = record { capacity = k; inhibitor = i; pre = pre; post = post; count = m; expected = n }
-
-unfoldable pub found : Edge → ℕ
-found e =
-    number
-    (answer
-    (rowRefusal Argument 1 (λ p. e .capacity) (λ p. record { pre = e .pre; post = e .post; inhibitor = e .inhibitor }) (λ p. e .count)))
+edge k i pre post m n = record { answered = numberAt k i pre post m; expected = n }
 
 --   K, I, Pre, Post, count, answer
 unfoldable pub edges : List Edge
@@ -50,14 +43,14 @@ edges =
 
 -- The complement of a net of one mode at one pair: the number of complementing's answer, and what the mode has at the complement pair where it is 0.
 pub record ComplementEdge : Type 0 where
-  pub answer : ℕ
+  pub number : ℕ
   pub pre : ℕ
   pub post : ℕ
 
 abbrev pub gives : ℕ → ℕ → ℕ → ComplementEdge
-gives n pre post = record { answer = n; pre = pre; post = post }
+gives n pre post = record { number = n; pre = pre; post = post }
 
-abbrev edgeNet : ℕ → ℕ∞ → ℕ → ℕ → PNet
+abbrev pub edgeNet : ℕ → ℕ∞ → ℕ → ℕ → PNet
 edgeNet k i pre post =
     record {
       colours = 1 ∷ [];
@@ -67,20 +60,21 @@ edgeNet k i pre post =
       arcs = record { mode = modeNo 0; pair = pairNo 0; entry = record { pre = pre; post = post; inhibitor = i } } ∷ [];
     }
 
-unfoldable pub complementFound : ℕ → ℕ∞ → ℕ → ℕ → ComplementEdge
-complementFound k i pre post =
+unfoldable pub complementGives : ℕ → ℕ∞ → ℕ → ℕ → ComplementEdge
+complementGives k i pre post =
     let net = edgeNet k i pre post in
     let n = number (answer (complementRefusal (λ arc. 0) net)) in
     let e = row (complement net) (modeNo 0) 1 in
     cond (eqb n 0) (gives 0 (e .pre) (e .post)) (gives n 0 0)
 
 pub record Edges : Type 0 where
-  pub answers : map found edges ≡ map (λ e. e .expected) edges
-  -- Post 6, K 5: never enabled; complement Pre 6
-  pub never : (i : ℕ∞) (pre m : ℕ) → found (edge (fin 5) i pre 6 m 0) ≢ 0
-  pub preSix : complementFound 5 ∞ 0 6 ≡ gives 0 6 0
+  pub answers : map (λ e. e .answered) edges ≡ map (λ e. e .expected) edges
+  -- Post 6, K 5: never enabled; complement Pre 6, for any I and Pre
+  pub never : (i : ℕ∞) (pre m : ℕ) → numberAt (fin 5) i pre 6 m ≢ 0
+  pub preSix : (i : ℕ∞) (pre : ℕ) → row (complement (edgeNet 5 i pre 6)) (modeNo 0) 1 .pre ≡ 6
+  pub preSixAccepted : complementGives 5 ∞ 0 6 ≡ gives 0 6 0
   -- K 1,000,000, I 0, Post 0: Pre 0 gives complement Post 1,000,000; Pre 1 gives 16
-  pub postMost : complementFound 1000000 (fin 0) 0 0 ≡ gives 0 1000000 1000000
-  pub postAbove : complementFound 1000000 (fin 0) 1 0 ≡ gives 16 0 0
+  pub postMost : complementGives 1000000 (fin 0) 0 0 ≡ gives 0 1000000 1000000
+  pub postAbove : complementGives 1000000 (fin 0) 1 0 ≡ gives 16 0 0
   -- the empty list: the certificate is accepted for the first marking
   pub empty : (net : PNet) → length (net .start) ≡ pairs net → certificateRefusal net [] (net .start) ≡ none

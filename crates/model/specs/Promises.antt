@@ -7,7 +7,7 @@ use mathlib.Core.List.{List, [], _∷_}
 use mathlib.Core.Logic.{_↔_, _≢_}
 use mathlib.Core.Option.{none, some}
 use lib.ListN.{length, take, getD}
-use lib.IntN.{ℤ, _+ℤ_}
+use lib.IntN.{ℤ, pos, _+ℤ_, _-ℤ_}
 use Rattle.model.specs.declared.Mode.{Mode}
 use Rattle.model.specs.declared.Thing.{Thing}
 use Rattle.model.specs.declared.Thing.the-variants.{Movements}
@@ -16,14 +16,16 @@ use Rattle.model.specs.declared.Why.the-variants.{Lacking, OverCapacity,
 use Rattle.model.specs.declared.Answer.{Answer}
 use Rattle.model.specs.First.{Lowest, NoneBelow}
 use Rattle.model.specs.Refusals.{answer, number, thing, position, thingNumber}
-use Rattle.model.specs.Rows.{Row, Capacities, Counts}
-use Rattle.model.specs.Billington.{Enables, Follows}
-use Rattle.model.specs.Nets.{PNet, pairs, modes, pairNo, modeNo, K, count, row}
+use Rattle.model.specs.Numbers.{fin, limit}
+use Rattle.model.specs.Rows.{Entry, Row, Capacities, Counts}
+use Rattle.model.specs.Billington.{Enables, Follows, IK}
+use Rattle.model.specs.Nets.{PNet, pairs, modes, pairNo, modeNo, K, count, arcNo, row}
 use Rattle.model.specs.Markings.{Marking, markingRefusal}
 use Rattle.model.specs.Firing.{Stops, ruleRefusal, modeRefusal, fired}
 use Rattle.model.specs.Runs.{run, certificateRefusal}
 use Rattle.model.specs.Figures.{figure, changes}
 use Rattle.model.specs.Dead.{Kills, isDead, firstDead}
+use Rattle.model.specs.Complement.{complementPre, complementPost, less}
 
 -- 1. The refusal table of firing, row by row. `Says n p`: the answer has number n and position p.
 module _ (about : Thing) (net : PNet) (t : Mode) (m : List ℕ) where
@@ -57,12 +59,24 @@ module _ (about : Thing) (net : PNet) (t : Mode) (m : List ℕ) where
 abbrev pub RefusalTable : Type 0
 RefusalTable = (about : Thing) (net : PNet) (t : Mode) (m : List ℕ) → FiringTable about net t m
 
--- 2. The rule: 14 aside, a row is accepted exactly when source document 000 has it enabled, and a movement gives M - Pre + Post at every pair.
+-- 2. The rule: 14 aside, a row is accepted exactly when source document 000 has it enabled; so a net's mode, where it is there and no new count is above
+-- 1,000,000. An accepted movement gives M - Pre + Post at every pair.
 abbrev pub Rule : Type 0
 Rule = (about : Thing) (n : ℕ) (k : Capacities) (r : Row) (M : Counts) → (ruleRefusal about n k r M ≡ none) ↔ Enables n k r M
 
+abbrev pub ModeRule : Type 0
+ModeRule = (about : Thing) (net : PNet) (t : Mode) (m : List ℕ)
+    → (modeRefusal about net t m ≡ none)
+    ↔ ((t .0 < modes net) × Enables (pairs net) (K net) (row net t) (count m) × ((p : ℕ) → p < pairs net → count (fired net t m) p ≤ limit))
+
 abbrev pub MarkingAfter : Type 0
-MarkingAfter = (net : PNet) (t : Mode) (m : List ℕ) → Follows (pairs net) (row net t) (count m) (count (fired net t m)) × (length (fired net t m) ≡ pairs net)
+MarkingAfter = (about : Thing) (net : PNet) (t : Mode) (m : List ℕ) → modeRefusal about net t m ≡ none
+    → Follows (pairs net) (row net t) (count m) (count (fired net t m)) × (length (fired net t m) ≡ pairs net)
+
+-- "A mode without arcs is always enabled and changes nothing."
+abbrev pub WithoutArcs : Type 0
+WithoutArcs = (about : Thing) (net : PNet) (t : Mode) (m : List ℕ) → t .0 < modes net → NoneBelow (length (net .arcs)) (λ k. arcNo (net .arcs) k .mode .0 ≡ t .0)
+    → Marking net m → (modeRefusal about net t m ≡ none) × (fired net t m ≡ m)
 
 -- 3. A marking is accepted exactly when it has one count for each pair, each in range and within K; an accepted movement leaves such a marking.
 abbrev pub MarkingTest : Type 0
@@ -108,3 +122,10 @@ abbrev pub FirstDead : Type 0
 FirstDead = (net : PNet) (t p : ℕ)
     → (firstDead net ≡ some (record { mode = modeNo t; pair = pairNo p }))
     ↔ (Lowest (modes net) (λ u. isDead net (modeNo u) ≡ true) t × Lowest (pairs net) (KillsAt net (modeNo t)) p)
+
+-- 7. Complementing is figure 6.4: at the complement of a pair of finite K, Pre is K - IK, Post is Pre - Post + K - IK, and the first marking is K - M, all
+-- over the integers. It holds where Post is above K too, as document 01's lines have it.
+pub record Figure64 : Type 0 where
+  pub pre : (k : ℕ) (e : Entry) → pos (complementPre k e) ≡ pos k -ℤ IK k e
+  pub post : (k : ℕ) (e : Entry) → pos (complementPost k e) ≡ (pos (e .pre) -ℤ pos (e .post)) +ℤ (pos k -ℤ IK k e)
+  pub start : (k m : ℕ) → m ≤ k → pos (less (fin k) m) ≡ pos k -ℤ pos m

@@ -31,7 +31,7 @@ runFrom net k (t ∷ ts) m = goOn (modeRefusal Movements net t m) k m (runFrom n
 abbrev pub run : PNet → List Mode → List ℕ → Outcome
 run net ts m = runFrom net 0 ts m
 
--- "Certificate: net, movements, 17 for the claim, the run (6, 11 to 14), 18."
+-- "Certificate: .. 17 for the claim, the run (6, 11 to 14), 18."; net and movements are sheets, which a call reads before
 unfoldable pub certificateRefusal : PNet → List Mode → List ℕ → Option Refusal
 certificateRefusal net ts claim =
     onlyIf (not (eqb (length claim) (pairs net))) (record { thing = Argument; fault = NotOneEach 0 })

@@ -3,9 +3,10 @@
 use Prim.Native.Nat.{ℕ}
 use mathlib.Core.Path.{_≡_}
 use mathlib.Core.List.{List, [], _∷_, map}
+use mathlib.Core.Option.{none}
 use Rattle.model.specs.Numbers.{ℕ∞, fin, ∞}
 use Rattle.model.specs.Nets.{NetArc, PNet, pairNo, modeNo}
-use Rattle.model.specs.Complement.{complement}
+use Rattle.model.specs.Complement.{complement, complementRefusal}
 
 pub record Worked : Type 0 where
   pub net : PNet
@@ -24,7 +25,7 @@ inhibitorExample =
           record { colours = 1 ∷ 1 ∷ []; modesOf = 1 ∷ []; capacity = ∞ ∷ ∞ ∷ []; start = 3 ∷ 2 ∷ []; arcs = arc 0 0 1 0 ∞ ∷ arc 0 1 1 2 ∞ ∷ [] };
     }
 
--- Section 6.5, nets P1 to P5: s1 has capacity 5 and s2 none, t1 and t2 have one mode each. The first markings and the arcs differ.
+-- Section 6.5, nets P1 to P5: s1 has capacity 5 and s2 is unbounded, t1 and t2 have one mode each. The first markings and the arcs differ.
 abbrev billington : List ℕ → List NetArc → List ℕ → List NetArc → Worked
 billington start arcs start′ arcs′ =
     record {
@@ -88,5 +89,7 @@ ownExample =
 abbrev worked : List Worked
 worked = inhibitorExample ∷ P1 ∷ P2 ∷ P3 ∷ P4 ∷ P5 ∷ ownExample ∷ []
 
-abbrev pub WorkedExamples : Type 0
-WorkedExamples = map (λ w. complement (w .net)) worked ≡ map (λ w. w .printed) worked
+-- complementing accepts each, and its complement is the printed one
+pub record WorkedExamples : Type 0 where
+  pub accepted : map (λ w. complementRefusal (λ arc. 0) (w .net)) worked ≡ map (λ w. none) worked
+  pub complemented : map (λ w. complement (w .net)) worked ≡ map (λ w. w .printed) worked

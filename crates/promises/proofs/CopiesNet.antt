@@ -63,7 +63,7 @@ net-accepted net room e = left-none (netRefusal net) _ (left-none _ _ e)
 
 written-places : (net out : List ℕ) → complementingRefusal net (length out) ≡ none → placeCount (outputOf net out) ≡ length (complement (netOf net) .colours)
 written-places net out e =
-    let back = written-then-read (complement (netOf net)) (demand3 (netOf net) (complementable net (length out) e) .readsBack) in
+    let back = written-then-read (complement (netOf net)) (demand3 (netOf net) (complementable net (length out) e) .isNet) in
     rw e (places-are _ ∙ ap (λ n. length (n .colours)) (back .sameFirst _))
 
 no-sum : (net : PNet) (m : List ℕ) → length m ≡ pairs net → (p k : ℕ) → p < pairs net → K net p ≡ fin k → count m p ≢ k → ¬ AddUp net m m

@@ -30,7 +30,7 @@ complementable net room e =
 pub over-bytes : OverBytes
 over-bytes net out e =
     let three = demand3 (netOf net) (complementable net (length out) e) in
-    let back = written-then-read (complement (netOf net)) (three .readsBack) in
+    let back = written-then-read (complement (netOf net)) (three .isNet) in
     let sheet = complementSheet net in
     let taken : take (length sheet) (outputOf net out) ≡ sheet = rw e (take-append-seam sheet _) in (
       length sheet,

@@ -2,7 +2,7 @@
 use Prim.Native.Nat.{ℕ, zero, suc, _≤_, _<_}
 use mathlib.Core.Path.{_≡_, refl, sym, _∙_, ap}
 use mathlib.Core.List.{List, [], _∷_, _++_}
-use mathlib.Core.Option.{Option, none, some}
+use mathlib.Core.Option.{Option, none}
 use lib.IntN.{ℤ, _+ℤ_, +ℤ-assoc, +ℤ-idl, +ℤ-idr}
 use lib.ListN.{length, take, getD}
 use lib.Seq.{take-suc, getD-take, length-take-le}
@@ -18,9 +18,8 @@ use Rattle.model.specs.Promises.{Leads, stays, moves}
 use Rattle.model.proofs.First.{left-none, right-none, none-then}
 use Rattle.model.proofs.Firing.{accepted-there, mode-there}
 use Rattle.model.proofs.Figures.{figure-leads}
-use Rattle.model.proofs.Runs.{runs}
 use Rattle.sheets.specs.Decoded.{netOf, weightsOf, movementsOf}
-use Rattle.run.specs.Calls.{runOf, beforeRun}
+use Rattle.run.specs.Calls.{runOf}
 use Rattle.run.proofs.Promises.{runs-leave, runs-keep}
 use Rattle.weigh.specs.Calls.{told, figured, figureRefusal, changeRefusal}
 use Rattle.promises.specs.FigureOverRun.{FigureOverRun}
@@ -50,20 +49,12 @@ unfolding figured
 says e = rw e
 
 module _ (net movements marking : List ℕ) where
-  part : runOf net movements marking .accepted ≤ length (movementsOf movements)
-  unfolding runOf
-  part = go (beforeRun net movements marking) refl
-    where
-      go : (o : Option Refusal) → beforeRun net movements marking ≡ o → runOf net movements marking .accepted ≤ length (movementsOf movements)
-      go none e = rw e (runs (netOf net) (movementsOf movements) marking .part)
-      go (some r) e = rw e (omega arith)
-
   movement-there : (k : ℕ) → k < runOf net movements marking .accepted → getD (movementsOf movements) k (modeNo 0) .0 < modes (netOf net)
   movement-there k h =
       let n = runOf net movements marking .accepted in
       let ts = movementsOf movements in
       rw (← getD-take n ts k (modeNo 0) h)
-      (leads-there (runs-leave net movements marking .leads) k (rw (length-take-le n ts part) h))
+      (leads-there (runs-leave net movements marking .leads) k (rw (length-take-le n ts (runs-leave net movements marking .part)) h))
 
 -- the figure call after the run, and the change call for each accepted movement, accept what the figure call accepted before
 module _ (net weights marking : List ℕ) (e : figureRefusal net weights marking ≡ none) where
@@ -91,5 +82,5 @@ figure-over-run net weights movements marking e =
           says (after-accepted net weights marking e movements)
           ∙ ap yields
           (figure-leads of by (runs-leave net movements marking .leads)
-          ∙ ap (λ z. figure of by marking +ℤ z) (changes-are of by ts _ (part net movements marking)));
+          ∙ ap (λ z. figure of by marking +ℤ z) (changes-are of by ts _ (runs-leave net movements marking .part)));
     }

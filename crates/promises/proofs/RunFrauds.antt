@@ -10,7 +10,6 @@ use Rattle.model.specs.declared.Thing.the-variants.{Movements}
 use Rattle.model.specs.Nets.{PNet, pairs, modeNo, count}
 use Rattle.model.specs.Firing.{fired}
 use Rattle.model.specs.Promises.{Leads, stays, moves}
-use Rattle.model.proofs.Firing.{accepted-enough}
 use Rattle.model.proofs.Markings.{marking-after}
 use Rattle.sheets.specs.Decoded.{movementsOf}
 use Rattle.run.specs.Calls.{runOf}
@@ -24,7 +23,7 @@ leads-change : {net : PNet} {ts : List Mode} {m m′ : List ℕ} → Leads net t
 unfolding taken given
 leads-change stays p h = refl
 leads-change {net} (moves {t = t} {m = m} e l) p h =
-    omega (arith, leads-change l p h, marking-after net t m .0 p h, accepted-enough Movements net t m e p h)
+    omega (arith, leads-change l p h, marking-after Movements net t m e .0 p h)
 
 not-first : {net : PNet} {m m′ : List ℕ} (ts : List Mode) (n p : ℕ) → Leads net (take n ts) m m′ → p < pairs net
     → taken net (drop 1 (take n ts)) p ≢ given net (drop 1 (take n ts)) p → m′ ≢ fired net (getD ts 0 (modeNo 0)) m

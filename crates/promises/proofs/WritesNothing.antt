@@ -11,7 +11,6 @@ use Rattle.model.specs.Refusals.{number}
 use Rattle.model.specs.Nets.{PNet, pairs, count, row}
 use Rattle.model.specs.Firing.{modeRefusal, fired}
 use Rattle.model.proofs.First.{right-none}
-use Rattle.model.proofs.Firing.{accepted-enough}
 use Rattle.model.proofs.Markings.{marking-after}
 use Rattle.sheets.specs.Whole.{wholeNet}
 use Rattle.sheets.specs.Decoded.{netOf}
@@ -23,7 +22,7 @@ use Rattle.promises.proofs.OwnExample.{own-example}
 fired-moves : (net : PNet) (t : Mode) (m : List ℕ) (p : ℕ) → p < pairs net → modeRefusal Argument net t m ≡ none
     → row net t p .pre ≢ row net t p .post → fired net t m ≢ m
 fired-moves net t m p h e apart same =
-    apart (omega (arith, marking-after net t m .0 p h, accepted-enough Argument net t m e p h, ap (λ m. count m p) same))
+    apart (omega (arith, marking-after Argument net t m e .0 p h, ap (λ m. count m p) same))
 
 mode-accepted : (net marking : List ℕ) (t : Mode) → testRefusal net marking t ≡ none → modeRefusal Argument (netOf net) t marking ≡ none
 unfolding testRefusal

@@ -1,3 +1,4 @@
+pub mod DemandOne
 pub mod DemandThree
 pub mod TwoRuns
 pub mod FigureOverRun

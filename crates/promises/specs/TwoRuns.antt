@@ -28,8 +28,8 @@ module _ (net complement movements marking marking′ : List ℕ) where
   abbrev inComplement : Outcome
   inComplement = runOf complement movements (begun complement marking′)
 
-  abbrev stopsAt : Mode
-  stopsAt = getD (movementsOf movements) (inNet .accepted) (modeNo 0)
+  abbrev nextMode : Mode
+  nextMode = getD (movementsOf movements) (inNet .accepted) (modeNo 0)
 
   pub record RunsAgree : Type 0 where
     pub atStart : Corresponds (netOf net) (begun net marking) (begun complement marking′)
@@ -40,7 +40,7 @@ module _ (net complement movements marking marking′ : List ℕ) where
     pub sheetRefused : (r : Refusal) → wholeMovements movements ≡ some r
         → (inNet .refusal ≡ some r) × (inComplement .refusal ≡ some r) × (inNet .accepted ≡ 0)
     -- "11, 12 and 13 in the net become 11 in its complement; 6 and 14 stay"
-    pub refusal : wholeMovements movements ≡ none → inComplement .refusal ≡ becomes Movements (netOf net) stopsAt (inNet .marking) (inNet .refusal)
+    pub refusal : wholeMovements movements ≡ none → inComplement .refusal ≡ becomes Movements (netOf net) nextMode (inNet .marking) (inNet .refusal)
     pub atEnd : Corresponds (netOf net) (inNet .marking) (inComplement .marking)
 
 abbrev pub TwoRuns : Type 0

@@ -41,8 +41,21 @@ runs-leave net movements marking = go (beforeRun net movements marking) refl
     go : (o : Option Refusal) → beforeRun net movements marking ≡ o → RunLeaves net movements marking
     go none e =
         let is = runs (netOf net) (movementsOf movements) marking in
-        record { leads = rw e (is .leads); stops = rw e (λ r q. inr (stop-is (netOf net) (movementsOf movements) marking r q)) }
-    go (some x) e = record { leads = rw e stays; stops = rw e (λ r q. inl q) }
+        record {
+          part = rw e (is .part);
+          leads = rw e (is .leads);
+          whole = rw e (λ q. (refl, is .whole .0 q), λ h. is .whole .1 (h .1));
+          before = λ r q. absurd (some-not-none (sym q ∙ e));
+          stops = rw e (λ r q. inr (stop-is (netOf net) (movementsOf movements) marking r q));
+        }
+    go (some x) e =
+        record {
+          part = rw e (omega arith);
+          leads = rw e stays;
+          whole = rw e (λ q. absurd (some-not-none q), λ h. absurd (some-not-none (h .0)));
+          before = rw e (λ r q. (q, refl, refl));
+          stops = rw e (λ r q. inl q);
+        }
 
 leads-keep : {net : PNet} {ts : List Mode} {m m′ : List ℕ} → Leads net ts m m′ → Marking net m → Marking net m′
 leads-keep stays h = h

@@ -1,10 +1,10 @@
 -- What is promised of runs and certificates. Each statement is a type; docs/ARCHITECTURE.md names the one term of proofs/ that has it.
-use Prim.Native.Nat.{ℕ}
+use Prim.Native.Nat.{ℕ, _≤_}
 use mathlib.Core.Path.{_≡_}
 use mathlib.Core.List.{List}
 use mathlib.Core.Logic.{_↔_, _⊎_}
 use mathlib.Core.Option.{none, some}
-use lib.ListN.{take, getD}
+use lib.ListN.{length, take, getD}
 use Rattle.model.specs.declared.Thing.the-variants.{Movements}
 use Rattle.model.specs.declared.Refusal.{Refusal}
 use Rattle.model.specs.Nets.{modeNo}
@@ -16,8 +16,15 @@ use Rattle.sheets.specs.Decoded.{netOf, movementsOf}
 use Rattle.run.specs.Calls.{beforeRun, runOf, certifyRefusal}
 
 -- "Running stops at the first refused movement, returns how many were accepted, and leaves the marking that those gave."
+-- A first part of the list is accepted, which leads to the marking that is left; with no refusal it is the whole list, and otherwise the next movement is the
+-- one refused. A run refused before its first movement has accepted none and leaves the marking as it was.
 pub record RunLeaves (net movements marking : List ℕ) : Type 0 where
+  pub part : runOf net movements marking .accepted ≤ length (movementsOf movements)
   pub leads : Leads (netOf net) (take (runOf net movements marking .accepted) (movementsOf movements)) marking (runOf net movements marking .marking)
+  pub whole : (runOf net movements marking .refusal ≡ none)
+      ↔ ((beforeRun net movements marking ≡ none) × (runOf net movements marking .accepted ≡ length (movementsOf movements)))
+  pub before : (r : Refusal) → beforeRun net movements marking ≡ some r
+      → (runOf net movements marking .refusal ≡ some r) × (runOf net movements marking .accepted ≡ 0) × (runOf net movements marking .marking ≡ marking)
   pub stops : (r : Refusal) → runOf net movements marking .refusal ≡ some r
       → (beforeRun net movements marking ≡ some r)
       ⊎ (modeRefusal Movements (netOf net) (getD (movementsOf movements) (runOf net movements marking .accepted) (modeNo 0)) (runOf net movements marking .marking)

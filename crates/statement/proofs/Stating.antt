@@ -1,8 +1,10 @@
 -- The text at the front of a slice that has room for every text.
 use Prim.Native.Nat.{ℕ, _≤_, _<_}
 use mathlib.Core.Path.{_≡_, refl, sym, _∙_, ap}
+use mathlib.Core.Bool.{Bool, true, false}
 use mathlib.Core.List.{List, []}
-use lib.ListN.{length}
+use lib.Dec.{ltb}
+use lib.ListN.{length, length-append}
 use native.Mathlib.Nat.{zero-add}
 use native.Mathlib.Omega.{arith}
 use borrow.Author.Tests.{lt-ltb, le-ltb}
@@ -10,6 +12,7 @@ use Rattle.text.specs.declared.Put.{Put}
 use Rattle.text.specs.declared.Put.the-variants.{To, Full}
 use Rattle.text.specs.Puts.{Puts}
 use Rattle.text.proofs.Puts.{into-within, to-within, to-found, to-full}
+use Rattle.statement.specs.declared.Stated.{Stated}
 use Rattle.statement.specs.declared.Stated.the-variants.{Written, NoRoom}
 use Rattle.statement.specs.Contracts.{StatementAllows}
 use Rattle.statement.specs.Parts.{Continues}
@@ -35,3 +38,19 @@ module _ (input : List ℕ) {out now : List ℕ} {put : Put} (h : room ≤ lengt
   -- there is room
   pub never-full : put ≡ Full → ⊥
   never-full e = omega (arith, to-full out 0 (replayText input) (sym (whole .answers) ∙ e), p .within)
+
+-- what was written lies within the slice
+pub written-within : (input out : List ℕ) {now : List ℕ} {answer : Stated} {end : ℕ} → StatementAllows input out (answer, now) → answer ≡ Written end → end ≤ length now
+unfolding stated statedIn
+written-within input out {now} {answer} {end} allowed e = go (ltb (length out) room) refl
+  where
+    text : List ℕ
+    text = replayText input
+
+    go : (b : Bool) → ltb (length out) room ≡ b → end ≤ length now
+    go true short = let f = rw short at (allowed .0) in let z : _≡_ {A = ℕ} 0 1 = cc in absurd (omega arith)
+    go false enough =
+        let f = rw enough at (allowed .0) in
+        let g = rw enough at (allowed .1) in
+        let is : end ≡ length text = cc in
+        omega (arith, simp length-append at (ap length g))

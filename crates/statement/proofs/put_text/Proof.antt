@@ -1,6 +1,7 @@
 -- `long`, or what the sheets give.
 use borrow.Author.Needs.{needs}
 use borrow.Author.Tests.{lt-ltb, le-ltb}
+use lib.ListN.{length}
 use native.Mathlib.Omega.{arith}
 use Rattle.statement.specs.Replay.{replayText}
 use Rattle.statement.proofs.Continued.{within}
@@ -11,13 +12,16 @@ returns : tie.Need-returns
 unfolding replayText
 returns c =
     let told = c .before .before in
-    rw (lt-ltb _ _ (told .before .before .if1 .taken)) (within (told .put-long .ensures) (omega (arith, told .put-long .ensures .within)))
+    let test = told .before .before in
+    rw (lt-ltb 65536 (length (test .before .before .before .args .input .now)) (omega (arith, test .if1 .taken)))
+    (within (told .put-long .ensures) (omega (arith, told .put-long .ensures .within)))
 
 returns-2 : tie.Need-returns-2
 unfolding replayText
 returns-2 c =
     let told = c .before .before in
-    rw (le-ltb _ _ (told .before .before .if1 .left)) (told .put-sheets .ensures)
+    let test = told .before .before in
+    rw (le-ltb 65536 (length (test .before .before .before .args .input .now)) (omega (arith, test .if1 .left))) (told .put-sheets .ensures)
 
 pub put-text-spec : {M : Type 1} → statement M
 put-text-spec =

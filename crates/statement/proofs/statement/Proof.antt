@@ -1,21 +1,29 @@
 -- A slice that is too short is left as it was; any other has room for the text.
 use borrow.Author.Needs.{needs}
+use Prim.Native.Nat.{_≤_, _<_}
+use lib.ListN.{length}
+use native.Mathlib.Omega.{arith}
+use Rattle.statement.specs.Replay.{room}
 use Rattle.statement.proofs.Stating.{too-short, text-stated, never-full}
 use Rattle.statement.proofs.statement.Statement.{statement}
 use Rattle.statement.proofs.statement.Tie as tie
 
 returns : tie.Need-returns
-returns c = too-short _ _ (c .if1 .taken)
+returns c = let short : length (c .before .before .before .args .out .now) < room = omega (arith, c .if1 .taken) in too-short _ _ short
 
 returns-2 : tie.Need-returns-2
 returns-2 c =
     let told = c .before .before .before .before .before in
-    text-stated _ (told .before .before .if1 .left) (told .put-text .ensures) (c .before .put .given .1)
+    let test = told .before .before in
+    let enough : room ≤ length (test .before .before .before .args .out .now) = omega (arith, test .if1 .left) in
+    text-stated _ enough (told .put-text .ensures) (c .before .put .given .1)
 
 returns-3 : tie.Need-returns-3
 returns-3 c =
     let told = c .before .before .before .before in
-    absurd (never-full _ (told .before .before .if1 .left) (told .put-text .ensures) (c .enum-told .given .1))
+    let test = told .before .before in
+    let enough : room ≤ length (test .before .before .before .args .out .now) = omega (arith, test .if1 .left) in
+    absurd (never-full _ enough (told .put-text .ensures) (c .enum-told .given .1))
 
 pub statement-spec : {M : Type 1} → statement M
 statement-spec =

@@ -1,0 +1,55 @@
+-- Document 01's lines for the complement are figure 6.4 of source document 000, over the integers.
+use Prim.Native.Nat.{ℕ, _+_, _-_, _≤_, _<_, max}
+use mathlib.Core.Path.{_≡_, refl, sym, _∙_, ap}
+use mathlib.Core.Bool.{Bool, true, false, true≢false}
+use mathlib.Core.Logic.{⊎-elim}
+use lib.IntN.{ℤ, pos, negℤ, _+ℤ_, _-ℤ_, +ℤ-assoc, +ℤ-comm, +ℤ-idl, +ℤ-invr, negℤ-+ℤ, negℤ-negℤ}
+use lib.Signed.{ltZ}
+use native.Mathlib.Omega.{arith}
+use borrow.Author.Tests.{ltb-true, ltb-false}
+use Rattle.model.specs.Numbers.{ℕ∞, fin, ∞}
+use Rattle.model.specs.Rows.{Entry}
+use Rattle.model.specs.Billington.{_∩_, IK}
+use Rattle.model.specs.Complement.{reserve, complementPre, complementPost}
+use Rattle.model.specs.Promises.{Figure64}
+use Rattle.model.proofs.First.{below-or}
+use Rattle.model.proofs.Numbers.{minus-is, minus-below}
+use Rattle.model.proofs.Integers.{pos-after}
+use Rattle.model.proofs.ComplementRow.{reserve-is}
+
+-- a - (a - b) is b
+minus-back : (a b : ℤ) → a -ℤ (a -ℤ b) ≡ b
+minus-back a b =
+    ap (λ x. a +ℤ x) (negℤ-+ℤ a (negℤ b)) ∙ sym (+ℤ-assoc a (negℤ a) (negℤ (negℤ b))) ∙ ap (λ x. x +ℤ negℤ (negℤ b)) (+ℤ-invr a) ∙ +ℤ-idl (negℤ (negℤ b))
+    ∙ negℤ-negℤ b
+
+-- K - Post below I, and not below I
+room-below : (k post i : ℕ) → ltZ (pos k -ℤ pos post) (pos i) ≡ true → k - i ≤ post
+room-below k post i e =
+    ⊎-elim (λ (l : k < post). omega arith) (λ (l : post ≤ k). omega (arith, ltb-true (k - post) i (rw (minus-is k post l) at e))) (below-or k post)
+
+room-above : (k post i : ℕ) → ltZ (pos k -ℤ pos post) (pos i) ≡ false → i + post ≤ k
+room-above k post i e =
+    ⊎-elim (λ (l : k < post). absurd (true≢false (rw (minus-below k post l) at e)))
+    (λ (l : post ≤ k). omega (arith, ltb-false (k - post) i (rw (minus-is k post l) at e)))
+    (below-or k post)
+
+larger-is : (k post : ℕ) (i : ℕ∞) → pos (max post (reserve k i)) ≡ pos k -ℤ ((pos k -ℤ pos post) ∩ i)
+larger-is k post (fin i) = rw reserve-is (go (ltZ (pos k -ℤ pos post) (pos i)) refl)
+  where
+    go : (b : Bool) → ltZ (pos k -ℤ pos post) (pos i) ≡ b → pos (max post (k - i)) ≡ pos k -ℤ ((pos k -ℤ pos post) ∩ fin i)
+    go true e = rw e (ap pos (omega (arith, room-below k post i e)) ∙ sym (minus-back (pos k) (pos post)))
+    go false e = let h = room-above k post i e in rw e (ap pos (omega arith) ∙ sym (minus-is k i (omega arith)))
+larger-is k post ∞ = ap pos (omega arith) ∙ sym (minus-back (pos k) (pos post))
+
+pub figure-64 : Figure64
+figure-64 =
+    record {
+      pre = λ k e. larger-is k (e .post) (e .inhibitor);
+      post = λ k e.
+          let order : complementPost k e ≡ complementPre k e - e .post + e .pre = omega arith in
+          ap pos order ∙ pos-after (complementPre k e) (e .post) (e .pre) (omega arith)
+          ∙ ap (λ x. x +ℤ (pos (e .pre) -ℤ pos (e .post))) (larger-is k (e .post) (e .inhibitor))
+          ∙ +ℤ-comm (pos k -ℤ IK k e) (pos (e .pre) -ℤ pos (e .post));
+      start = λ k m h. sym (minus-is k m h);
+    }

@@ -1,0 +1,31 @@
+-- Demand 1: "A refused call changes no lent buffer, except that a refused list of movements leaves the marking after those accepted before it."
+-- A field for each call that is lent a slice to write, for every outcome that its contract allows: what it answers, and what it leaves in the slice.
+use Prim.Native.Nat.{ℕ}
+use mathlib.Core.Path.{_≡_}
+use mathlib.Core.List.{List}
+use mathlib.Core.Logic.{_≢_}
+use lib.ListN.{take}
+use Rattle.model.specs.declared.Mode.{Mode}
+use Rattle.model.specs.declared.Answer.{Answer}
+use Rattle.model.specs.Refusals.{number}
+use Rattle.model.specs.Promises.{Leads}
+use Rattle.sheets.specs.Decoded.{netOf, movementsOf}
+use Rattle.fire.specs.Contracts.{BeginAllows, FireAllows}
+use Rattle.run.specs.declared.Ran.{Ran}
+use Rattle.run.specs.Contracts.{RunAllows}
+use Rattle.complement.specs.declared.Complemented.{Complemented}
+use Rattle.complement.specs.Complemented.{told}
+use Rattle.complement.specs.Contracts.{ComplementAllows}
+
+-- refused: any number but 0
+abbrev pub Refused : Answer → Type 0
+Refused answer = number answer ≢ 0
+
+pub record DemandOne : Type 0 where
+  pub begin : (net marking : List ℕ) (o : Answer × List ℕ) → BeginAllows net marking o → Refused (o .0) → o .1 ≡ marking
+  pub fire : (net marking : List ℕ) (t : Mode) (o : Answer × List ℕ) → FireAllows net marking t o → Refused (o .0) → o .1 ≡ marking
+  pub complement : (net out : List ℕ) (o : Complemented × List ℕ) → ComplementAllows net out o → told (o .0) .number ≢ 0 → o .1 ≡ out
+  -- the exception; with none accepted the marking is as it was
+  pub run : (net movements marking : List ℕ) (o : Ran × List ℕ) → RunAllows net movements marking o → Refused (o .0 .answer)
+      → Leads (netOf net) (take (o .0 .accepted) (movementsOf movements)) marking (o .1)
+  pub runNone : (net movements marking : List ℕ) (o : Ran × List ℕ) → RunAllows net movements marking o → o .0 .accepted ≡ 0 → o .1 ≡ marking
