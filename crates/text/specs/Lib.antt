@@ -1,3 +1,4 @@
 pub mod Promises
 pub mod Decimals
 pub mod Puts
+pub mod Contracts

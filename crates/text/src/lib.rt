@@ -8,8 +8,9 @@ ghost use mathlib.Core.List.{_∷_};
 ghost use Prim.Native.Nat.{_+_, _≤_};
 ghost use lib.IntN.{natAbs};
 ghost use lib.ListN.{length};
-ghost use Rattle.text.specs.Decimals.{decimal, signedDecimal, minus};
+ghost use Rattle.text.specs.Decimals.{decimal, minus};
 ghost use Rattle.text.specs.Puts.{endWithin, putTo, putInto};
+ghost use Rattle.text.specs.Contracts.{PutBytesAllows, PutDecimalAllows, PutSignedAllows};
 
 // The position after what was put, or no room: then nothing is written.
 pub enum Put {
@@ -43,8 +44,7 @@ fn write_bytes(out: &mut [u8], at: usize, bytes: &[u8])
 
 // All of the bytes or none.
 pub fn put_bytes(out: &mut [u8], at: usize, bytes: &[u8]) -> Put
-    ensures { λ r. ⌜ r ≡ putTo (now (out .entry)) at (now (bytes .entry)) ⌝ }
-    ensures { λ _. ⌜ now (out .exit) ≡ putInto (now (out .entry)) at (now (bytes .entry)) ⌝ }
+    ensures { λ r. ⌜ PutBytesAllows (now (out .entry)) at (now (bytes .entry)) (r, now (out .exit)) ⌝ }
 {
     let answer = end_within(out.len(), at, bytes.len());
     if let Put::Full = answer {
@@ -56,8 +56,7 @@ pub fn put_bytes(out: &mut [u8], at: usize, bytes: &[u8]) -> Put
 
 // No leading zeros; zero is `0`.
 pub fn put_decimal(out: &mut [u8], at: usize, n: u64) -> Put
-    ensures { λ r. ⌜ r ≡ putTo (now (out .entry)) at (decimal n) ⌝ }
-    ensures { λ _. ⌜ now (out .exit) ≡ putInto (now (out .entry)) at (decimal n) ⌝ }
+    ensures { λ r. ⌜ PutDecimalAllows (now (out .entry)) at n (r, now (out .exit)) ⌝ }
 {
     let count = digit_count(n);
     let answer = end_within(out.len(), at, count);
@@ -92,8 +91,7 @@ fn size(z: i64) -> u64
 
 // A figure may be negative (document 01, "Sheets": "A weight may be negative"): then '-' and the digits of its size.
 pub fn put_signed(out: &mut [u8], at: usize, z: i64) -> Put
-    ensures { λ r. ⌜ r ≡ putTo (now (out .entry)) at (signedDecimal z) ⌝ }
-    ensures { λ _. ⌜ now (out .exit) ≡ putInto (now (out .entry)) at (signedDecimal z) ⌝ }
+    ensures { λ r. ⌜ PutSignedAllows (now (out .entry)) at z (r, now (out .exit)) ⌝ }
 {
     if z < 0 {
         put_negative(out, at, size(z))
