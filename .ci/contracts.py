@@ -57,7 +57,7 @@ def functions():
         if file.name == 'main.rt' or (file.parent / 'main.rt').exists():
             continue
         module = [] if file.stem == 'lib' else [file.stem]
-        for found in re.finditer(r'^pub (?:extern "C" )?fn (\w+)(.*?)^?\{$', file.read_text(), re.M | re.S):
+        for found in re.finditer(r'^pub (?:extern "C" )?fn (\w+)(.*?)\{$', file.read_text(), re.M | re.S):
             yield crate, '::'.join(module + [found.group(1)]), found.group(2)
 
 
