@@ -13,11 +13,10 @@ use Rattle.model.specs.declared.Fault.the-variants.{NoRoom}
 use Rattle.model.specs.declared.Refusal.{Refusal}
 use Rattle.model.specs.declared.Answer.{Answer}
 use Rattle.model.specs.First.{_▸_, onlyIf}
-use Rattle.model.specs.Refusals.{answer}
+use Rattle.model.specs.Refusals.{answer, wrong}
 use Rattle.model.specs.Complement.{refusal15, refusal16, sheetLimits, complementRefusal}
 use Rattle.model.proofs.First.{then-assoc, right-none, only-if-none}
 use Rattle.opened.specs.declared.shape.NetShape.{NetShape}
-use Rattle.nets.specs.Checks.{wrong}
 use Rattle.sheets.specs.Decoded.{netOf}
 use Rattle.opened.specs.Shape.{Open, arcOffset}
 use Rattle.written.proofs.Puts.{from-start}

@@ -5,7 +5,7 @@ use mathlib.Core.List.{List}
 use lib.ListN.{length, length-append}
 use native.Mathlib.Omega.{arith}
 use native.Mathlib.Numerals.{add-one}
-use Rattle.model.specs.Complement.{joined}
+use Rattle.model.specs.Lists.{joined}
 
 module _ {A : Type 0} (part : ℕ → List A) where
   pub count-none : 0 ≡ length (joined 0 part)

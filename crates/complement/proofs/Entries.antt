@@ -8,7 +8,8 @@ use native.Mathlib.Omega.{arith}
 use borrow.Author.Tests.{le-leb, lt-leb}
 use Rattle.model.specs.Numbers.{ℕ∞, fin, ∞}
 use Rattle.model.specs.Nets.{NetArc}
-use Rattle.model.specs.Complement.{listIf, reserve, blank}
+use Rattle.model.specs.Complement.{reserve, blank}
+use Rattle.model.specs.Lists.{listIf}
 use Rattle.nets.specs.Nets.{unbounded, bound}
 use Rattle.nets.proofs.Bounds.{bound-finite}
 use Rattle.written.specs.Written.{arcBytes}

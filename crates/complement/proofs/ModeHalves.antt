@@ -11,7 +11,8 @@ use borrow.Author.Tests.{leb-true, le-leb}
 use Rattle.model.specs.First.{Lowest, NoneBelow}
 use Rattle.model.specs.Nets.{NetArc, PNet, pairs, modes, modeNo, K, arcNo, row}
 use Rattle.model.specs.WellFormed.{WellFormed}
-use Rattle.model.specs.Complement.{joined, arcsOf, complement}
+use Rattle.model.specs.Complement.{arcsOf, complement}
+use Rattle.model.specs.Lists.{joined}
 use Rattle.model.proofs.First.{below-or, lowest-or-none}
 use Rattle.model.proofs.Joined.{joined-ext, joined-split}
 use Rattle.model.proofs.Nets.{Rising}

@@ -7,7 +7,8 @@ use native.Mathlib.Omega.{arith}
 use Rattle.model.specs.Numbers.{ℕ∞, fin}
 use Rattle.model.specs.Nets.{PNet, pairs, K, count}
 use Rattle.model.specs.WellFormed.{WellFormed}
-use Rattle.model.specs.Complement.{joined, bounded, boundedBelow, complementPair, complement}
+use Rattle.model.specs.Complement.{bounded, boundedBelow, complementPair, complement}
+use Rattle.model.specs.Lists.{joined}
 use Rattle.model.proofs.Joined.{joined-ext, joined-split, joined-sparse}
 use Rattle.model.proofs.Bounded.{bounded-pair, at-complements, bounded-rises, unbounded as not-bounded}
 use Rattle.model.proofs.ComplementNet.{pairs-complement, capacity-complement, start-corresponds}

@@ -7,9 +7,10 @@ use native.Mathlib.Omega.{arith}
 use native.Mathlib.Nat.{not-suc-le-zero}
 use borrow.Author.Tests.{lt-ltb}
 use Rattle.model.specs.Rows.{Capacities}
-use Rattle.model.specs.Nets.{PNet, total, pairs, K}
+use Rattle.model.specs.Nets.{PNet, total, pairs, K, firstPair}
 use Rattle.model.specs.WellFormed.{WellFormed}
-use Rattle.model.specs.Complement.{joined, boundedBelow, newPlaces, complement}
+use Rattle.model.specs.Complement.{boundedBelow, newPlaces, complement}
+use Rattle.model.specs.Lists.{joined}
 use Rattle.model.proofs.Joined.{joined-ext}
 use Rattle.model.proofs.Bounded.{below-none, below-split}
 use Rattle.opened.specs.declared.shape.NetShape.{NetShape}
@@ -20,7 +21,7 @@ use Rattle.opened.proofs.Shapes.{sizes}
 use Rattle.written.proofs.Sections.{section-append, section-one, section-joined, section-list}
 use Rattle.complement.specs.declared.half.Half.{Half}
 use Rattle.complement.specs.declared.half.Half.the-variants.{Original, Complement}
-use Rattle.complement.specs.Places.{firstPair, coloursIn, placeIf, halfPlace, placeBytes}
+use Rattle.complement.specs.Places.{coloursIn, placeIf, halfPlace, placeBytes}
 
 -- where the pairs of the next place start
 total-next : (cs : List ℕ) (i : ℕ) → i < length cs → total (take (suc i) cs) ≡ total (take i cs) + getD cs i 0

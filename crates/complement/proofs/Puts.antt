@@ -4,7 +4,7 @@ use mathlib.Core.Path.{_≡_}
 use mathlib.Core.List.{List, _++_}
 use lib.ListN.{length, length-append}
 use native.Mathlib.Omega.{arith}
-use Rattle.model.specs.Complement.{joined}
+use Rattle.model.specs.Lists.{joined}
 use Rattle.model.specs.Numbers.{ℕ∞}
 use Rattle.model.specs.Nets.{NetArc}
 use Rattle.written.specs.Written.{bytes16, headBytes, pairBytes, arcBytes}

@@ -1,4 +1,5 @@
 -- The arcs of a complement, arc by arc: what the private functions of this crate speak of.
+-- A reader of the promises may skip this file.
 use Prim.Native.Nat.{ℕ, _+_, _≤_}
 use mathlib.Core.List.{List, flatMap}
 use mathlib.Core.Option.{Option}
@@ -11,9 +12,10 @@ use Rattle.model.specs.First.{onlyIf}
 use Rattle.model.specs.Numbers.{ℕ∞, limit}
 use Rattle.model.specs.Nets.{NetArc, PNet, pairs, pairNo, modeNo, K, arcNo, row}
 use Rattle.model.specs.WellFormed.{InRange}
-use Rattle.model.specs.Complement.{joined, complementPair, original, complementEntry, complementRow, written, allPairs, inhibitsUnbounded, tooLarge}
+use Rattle.model.specs.Complement.{complementPair, original, complementEntry, complementRow, written, allPairs, inhibitsUnbounded, tooLarge}
+use Rattle.model.specs.Lists.{joined}
 use Rattle.nets.specs.Nets.{bound}
-use Rattle.nets.specs.Checks.{wrong}
+use Rattle.model.specs.Refusals.{wrong}
 use Rattle.sheets.specs.Decoded.{netOf}
 use Rattle.opened.specs.Shape.{arcOffset}
 use Rattle.written.specs.Written.{arcBytes}

@@ -1,4 +1,5 @@
 -- The table of how many pairs of finite K stand below each pair.
+-- A reader of the promises may skip this file.
 use Prim.Native.Nat.{ℕ, _≤_}
 use mathlib.Core.Path.{_≡_}
 use mathlib.Core.List.{List}

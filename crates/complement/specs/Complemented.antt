@@ -11,7 +11,7 @@ use Rattle.model.specs.declared.Refusal.{Refusal}
 use Rattle.model.specs.First.{_▸_, onlyIf}
 use Rattle.model.specs.Replies.{Reply, yields, refuses}
 use Rattle.model.specs.Complement.{complement, complementRefusal}
-use Rattle.nets.specs.Checks.{wrong}
+use Rattle.model.specs.Refusals.{wrong}
 use Rattle.sheets.specs.Whole.{wholeNet}
 use Rattle.sheets.specs.Decoded.{netOf}
 use Rattle.opened.specs.Shape.{arcOffset}

@@ -1,4 +1,5 @@
 -- The pairs of a complement: "All K .. become unbounded"; the originals keep their first marking, and each of finite K gets a complement pair.
+-- A reader of the promises may skip this file.
 use Prim.Native.Nat.{ℕ}
 use mathlib.Core.List.{List, []}
 use Rattle.model.specs.Numbers.{ℕ∞, fin, ∞}

@@ -1,10 +1,11 @@
 -- The places of a complement: the originals, then "one for each place with a finite pair, with as many colours as it has finite pairs".
+-- A reader of the promises may skip this file.
 use Prim.Native.Nat.{ℕ, suc, _-_}
 use mathlib.Core.List.{List, flatMap}
 use lib.Dec.{ltb}
-use lib.ListN.{take}
-use Rattle.model.specs.Nets.{PNet, total, K}
-use Rattle.model.specs.Complement.{listIf, boundedBelow}
+use Rattle.model.specs.Nets.{PNet, firstPair, K}
+use Rattle.model.specs.Complement.{boundedBelow}
+use Rattle.model.specs.Lists.{listIf}
 use Rattle.written.specs.Written.{bytes16}
 use Rattle.complement.specs.declared.half.Half.{Half}
 use Rattle.complement.specs.declared.half.Half.the-variants.{Original, Complement}
@@ -14,10 +15,6 @@ abbrev pub placeIf : ℕ → List ℕ
 placeIf colours = listIf (ltb 0 colours) colours
 
 module _ (net : PNet) where
-  -- the first pair of a place, numbered "across the whole net, place by place"
-  abbrev pub firstPair : ℕ → ℕ
-  firstPair place = total (take place (net .colours))
-
   -- how many colours the pairs from `first` up to `end` give a place
   abbrev pub coloursIn : Half → ℕ → ℕ → ℕ
   coloursIn Original first end = end - first
@@ -25,7 +22,7 @@ module _ (net : PNet) where
 
   -- a half of what a place becomes
   abbrev pub halfPlace : Half → ℕ → List ℕ
-  halfPlace half place = placeIf (coloursIn half (firstPair place) (firstPair (suc place)))
+  halfPlace half place = placeIf (coloursIn half (firstPair net place) (firstPair net (suc place)))
 
   abbrev pub placeBytes : Half → ℕ → List ℕ
   placeBytes half place = flatMap bytes16 (halfPlace half place)

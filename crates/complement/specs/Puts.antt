@@ -1,4 +1,5 @@
 -- Bytes put into the output slice one after the other.
+-- A reader of the promises may skip this file.
 use Prim.Native.Nat.{ℕ, _+_, _≤_}
 use mathlib.Core.List.{List}
 use lib.ListN.{length}

@@ -1,4 +1,5 @@
 -- How large the complement is, which refusal 10 and the length of its sheet go by; and its sheet in three parts.
+-- A reader of the promises may skip this file.
 use Prim.Native.Nat.{ℕ, _≤_}
 use mathlib.Core.Path.{_≡_}
 use mathlib.Core.Bool.{Bool, not, _&&_}
@@ -14,7 +15,7 @@ use Rattle.model.specs.declared.Answer.the-variants.{Accepted, Refused}
 use Rattle.model.specs.First.{_▸_, onlyIf}
 use Rattle.model.specs.Nets.{PNet, pairs}
 use Rattle.model.specs.Complement.{complement}
-use Rattle.nets.specs.Checks.{wrong}
+use Rattle.model.specs.Refusals.{wrong}
 use Rattle.written.specs.Puts.{sheetSize}
 use Rattle.written.specs.Written.{bytes16, arcBytes, headBytes, pairsBytes, lengthOf}
 use Rattle.complement.specs.declared.sheet.Sizes.{Sizes}

@@ -13,11 +13,10 @@ use Rattle.model.specs.declared.Answer.{Answer}
 use Rattle.model.specs.declared.Answer.the-variants.{Accepted, Refused}
 use Rattle.model.specs.Numbers.{ℕ∞}
 use Rattle.model.specs.Rows.{Entry}
-use Rattle.model.specs.Refusals.{answer}
+use Rattle.model.specs.Refusals.{answer, wrong}
 use Rattle.model.specs.Nets.{NetArc, PNet, K, count, arcNo}
 use Rattle.model.specs.Firing.{after, stops}
 use Rattle.nets.specs.Nets.{bound}
-use Rattle.nets.specs.Checks.{wrong}
 use Rattle.sheets.specs.Decoded.{netArc}
 use Rattle.fire.specs.declared.rule.AtPair.{AtPair}
 use Rattle.fire.specs.Parts.{Meets, Unstopped, Free, writtenAt, stopAt}

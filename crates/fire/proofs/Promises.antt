@@ -21,7 +21,8 @@ use Rattle.fire.specs.Promises.{AcceptedBegin, AcceptedFire, RefusedFire
 pub accepted-begin : AcceptedBegin
 accepted-begin net marking e = rw e
 
-mode-accepted : (net marking : List ℕ) (t : Mode) → testRefusal net marking t ≡ none → modeRefusal Argument (netOf net) t marking ≡ none
+-- what an accepted test shows of the mode
+pub mode-accepted : (net marking : List ℕ) (t : Mode) → testRefusal net marking t ≡ none → modeRefusal Argument (netOf net) t marking ≡ none
 unfolding testRefusal
 mode-accepted net marking t e = right-none _ _ (right-none (wholeNet net) _ e)
 

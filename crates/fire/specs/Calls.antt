@@ -1,18 +1,14 @@
 -- begin, test and fire over a net sheet and a lent marking: what each answers, and what it leaves in the marking.
 -- "Across things: net, weights, movements, then the marking (17, then pair by pair 5 before 9), then the mode (6, 11 over all pairs, 12, 13, 14)."
 use Prim.Native.Nat.{ℕ}
-use mathlib.Core.Bool.{not}
 use mathlib.Core.List.{List}
 use mathlib.Core.Option.{Option, none, some}
-use lib.Dec.{eqb}
-use lib.ListN.{length}
 use Rattle.model.specs.declared.Mode.{Mode}
 use Rattle.model.specs.declared.Thing.the-variants.{Argument}
-use Rattle.model.specs.declared.Fault.the-variants.{NotOneEach}
 use Rattle.model.specs.declared.Refusal.{Refusal}
-use Rattle.model.specs.First.{_▸_, onlyIf}
+use Rattle.model.specs.First.{_▸_}
 use Rattle.model.specs.Nets.{pairs}
-use Rattle.model.specs.Markings.{markingRefusal}
+use Rattle.model.specs.Markings.{unequal, markingRefusal}
 use Rattle.model.specs.Firing.{modeRefusal, fired}
 use Rattle.sheets.specs.Whole.{wholeNet}
 use Rattle.sheets.specs.Decoded.{netOf}
@@ -24,8 +20,7 @@ written (some r) new found = found
 
 -- begin: net, then 17; it writes the net's first marking
 unfoldable pub beginRefusal : List ℕ → List ℕ → Option Refusal
-beginRefusal net marking =
-    wholeNet net ▸ onlyIf (not (eqb (length marking) (pairs (netOf net)))) (record { thing = Argument; fault = NotOneEach 0 })
+beginRefusal net marking = wholeNet net ▸ unequal (netOf net) marking
 
 abbrev pub begun : List ℕ → List ℕ → List ℕ
 begun net marking = written (beginRefusal net marking) (netOf net .start) marking

@@ -1,42 +1,34 @@
 -- What the private functions and the shared parts of this crate speak of, beyond the calls.
+-- A reader of the promises may skip this file.
 use Prim.Native.Nat.{ℕ, _+_, _≤_, _<_}
 use mathlib.Core.Path.{_≡_}
-use mathlib.Core.Bool.{Bool, true, false, not}
+use mathlib.Core.Bool.{Bool, true, false}
 use mathlib.Core.Logic.{_↔_}
 use mathlib.Core.List.{List}
 use mathlib.Core.Option.{Option, none}
 use lib.ListN.{length, set}
-use lib.Dec.{eqb, leb}
 use Rattle.model.specs.declared.Arc.{Arc}
 use Rattle.model.specs.declared.Mode.{Mode}
 use Rattle.model.specs.declared.Why.{Why}
 use Rattle.model.specs.declared.Thing.{Thing}
 use Rattle.model.specs.declared.Thing.the-variants.{Argument}
-use Rattle.model.specs.declared.Fault.the-variants.{MarkingOutside, MarkingAboveCapacity, NotThere, NotOneEach}
 use Rattle.model.specs.declared.Refusal.{Refusal}
 use Rattle.model.specs.declared.Answer.{Answer}
 use Rattle.model.specs.First.{_▸_, onlyIf}
 use Rattle.model.specs.Refusals.{answer}
-use Rattle.model.specs.Numbers.{ℕ∞, fin, above, limit}
+use Rattle.model.specs.Numbers.{ℕ∞, limit}
 use Rattle.model.specs.Rows.{Entry}
-use Rattle.model.specs.Nets.{PNet, pairs, pairNo, K, count, arcNo, row}
+use Rattle.model.specs.Nets.{PNet, pairs, K, count, arcNo, row}
 use Rattle.model.specs.Markings.{Marking, markingRefusal}
 use Rattle.model.specs.Firing.{after, stops, stopped, lowestStop, rowRefusal, modeRefusal}
 use Rattle.opened.specs.declared.shape.NetShape.{NetShape}
 use Rattle.opened.specs.declared.starts.Segment.{Segment}
 use Rattle.nets.specs.Nets.{bound}
-use Rattle.nets.specs.Checks.{wrong}
 use Rattle.sheets.specs.Decoded.{netOf, netArc}
 use Rattle.opened.specs.Shape.{Open}
 use Rattle.opened.specs.Starts.{ModeArcs}
 use Rattle.fire.specs.declared.rule.AtPair.{AtPair}
 use Rattle.fire.specs.Calls.{written}
-
--- the count of a marking at pair p: "pair by pair 5 before 9"
-unfoldable pub countRefusal : PNet → List ℕ → ℕ → Option Refusal
-countRefusal net m p =
-    onlyIf (above (count m p) (fin limit)) (wrong Argument (MarkingOutside (pairNo p)))
-    ▸ onlyIf (above (count m p) (K net p)) (wrong Argument (MarkingAboveCapacity (pairNo p)))
 
 -- an arc of a sheet that was accepted
 pub record InRange (a : Arc) : Type 0 where
@@ -111,14 +103,6 @@ pub record Leaves (o : Option Refusal) (new found : List ℕ) (a : Answer) (left
   pub answers : a ≡ answer o
   pub leaves : left ≡ written o new found
 
--- 6: "a movement's mode is not there", of n modes
-unfoldable pub absent : Thing → ℕ → Mode → Option Refusal
-absent thing n t = onlyIf (leb n (t .0)) (wrong thing NotThere)
-
 -- the marking, then the mode, of a call that takes both
 abbrev pub argumentRefusal : PNet → List ℕ → Mode → Option Refusal
 argumentRefusal net m t = markingRefusal net m ▸ modeRefusal Argument net t m
-
--- 17: "marking or weights not one for each pair"
-abbrev pub unequal : PNet → List ℕ → Option Refusal
-unequal net m = onlyIf (not (eqb (length m) (pairs net))) (wrong Argument (NotOneEach 0))

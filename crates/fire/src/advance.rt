@@ -10,11 +10,11 @@ use opened::starts::arcs_of;
 ghost use mathlib.Core.Path.{_≡_};
 ghost use Rattle.model.specs.Refusals.{answer};
 ghost use Rattle.model.specs.Markings.{Marking};
-ghost use Rattle.model.specs.Firing.{modeRefusal, fired};
+ghost use Rattle.model.specs.Firing.{modeRefusal, fired, absent};
 ghost use Rattle.sheets.specs.Decoded.{netOf};
 ghost use Rattle.opened.specs.Shape.{Open};
 ghost use Rattle.opened.specs.Starts.{StartsAre};
-ghost use Rattle.fire.specs.Parts.{absent, Leaves};
+ghost use Rattle.fire.specs.Parts.{Leaves};
 
 // 6: "a movement's mode is not there".
 pub fn mode_answer(net: NetShape, thing: Thing, mode: Mode) -> Answer

@@ -12,15 +12,14 @@ ghost use Prim.Native.Nat.{_<_};
 ghost use lib.ListN.{length};
 ghost use Rattle.model.specs.First.{first};
 ghost use Rattle.model.specs.Refusals.{answer};
-ghost use Rattle.model.specs.Markings.{markingRefusal};
+ghost use Rattle.model.specs.Markings.{markingRefusal, countAtRefusal};
 ghost use Rattle.sheets.specs.Decoded.{netOf};
 ghost use Rattle.opened.specs.Shape.{Open};
-ghost use Rattle.fire.specs.Parts.{countRefusal};
 
 fn count_answer(s: &[u8], net: NetShape, p: usize, marking: &[u32]) -> Answer
     requires { ⌜ Open (now s) net ⌝ }
     requires { ⌜ (length (now marking) ≡ net .pairs) × (p < net .pairs) ⌝ }
-    ensures { λ r. ⌜ r ≡ answer (countRefusal (netOf (now (s .entry))) (now (marking .entry)) p) ⌝ }
+    ensures { λ r. ⌜ r ≡ answer (countAtRefusal (netOf (now (s .entry))) (now (marking .entry)) p) ⌝ }
 {
     let pair = Pair(p as u16);
     let count = marking[p];
@@ -36,7 +35,7 @@ fn count_answer(s: &[u8], net: NetShape, p: usize, marking: &[u32]) -> Answer
 fn each_count(s: &[u8], net: NetShape, marking: &[u32]) -> Answer
     requires { ⌜ Open (now s) net ⌝ }
     requires { ⌜ length (now marking) ≡ net .pairs ⌝ }
-    ensures { λ r. ⌜ r ≡ answer (first (net .pairs) (countRefusal (netOf (now (s .entry))) (now (marking .entry)))) ⌝ }
+    ensures { λ r. ⌜ r ≡ answer (first (net .pairs) (countAtRefusal (netOf (now (s .entry))) (now (marking .entry)))) ⌝ }
 {
     let pairs = net.pairs;
     let mut p = 0;

@@ -13,7 +13,8 @@ use Rattle.model.specs.Numbers.{ℕ∞, fin, ∞}
 use Rattle.model.specs.Rows.{noArc, Row, Capacities}
 use Rattle.model.specs.Nets.{NetArc, PNet, pairs, modes, modeNo, K, arcNo, stands, entryAt, row}
 use Rattle.model.specs.WellFormed.{Rises, WellFormed}
-use Rattle.model.specs.Complement.{joined, listIf, bounded, boundedBelow, complementPair, original, complementEntry, complementRow, written, arcsOf, complement}
+use Rattle.model.specs.Complement.{bounded, boundedBelow, complementPair, original, complementEntry, complementRow, written, arcsOf, complement}
+use Rattle.model.specs.Lists.{joined, listIf}
 use Rattle.model.proofs.Joined.{joined-ext, joined-split, joined-sparse}
 use Rattle.model.proofs.Bounded.{bounded-pair, at-complements, bounded-rises, unbounded}
 use Rattle.model.proofs.ComplementRow.{row-original, row-complement}

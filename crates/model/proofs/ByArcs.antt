@@ -23,11 +23,13 @@ use Rattle.model.specs.Rows.{noArc, Row, Capacities, Counts}
 use Rattle.model.specs.Nets.{NetArc, PNet, pairs, K, count, arcNo, row}
 use Rattle.model.specs.WellFormed.{WellFormed}
 use Rattle.model.specs.Markings.{Marking}
-use Rattle.model.specs.Firing.{after, stops, stopped, lowestStop, ruleRefusal, rowRefusal, table, fired}
+use Rattle.model.specs.Firing.{after, stops, stopped, lowestStop, ruleRefusal, rowRefusal, fired}
+use Rattle.model.specs.Lists.{table}
 use Rattle.model.proofs.First.{then-assoc, left-none, right-none, none-then, first-each, first-all, first-ext, first-sparse, only-if-none, lowest-or-none}
 use Rattle.model.proofs.Numbers.{false-above}
 use Rattle.model.proofs.Nets.{rises-all, rises-in-mode, entry-written, entry-unwritten}
-use Rattle.model.proofs.PassBelow.{passBelow, pass-is}
+use Rattle.model.proofs.PassBelow.{pass-is}
+use Rattle.model.specs.PassBelow.{passBelow}
 use Rattle.model.proofs.Tables.{table-length, table-at}
 
 -- c arcs, rising by pair, write a row over n pairs: theirs are its entries, and elsewhere it has no arc

@@ -18,7 +18,8 @@ use Rattle.model.specs.Numbers.{ℕ∞, fin, ∞}
 use Rattle.model.specs.Rows.{Entry, noArc, Capacities}
 use Rattle.model.specs.Nets.{NetArc, PNet, total, pairs, modes, K, count, arcNo, entryAt, row}
 use Rattle.model.specs.WellFormed.{WellFormed}
-use Rattle.model.specs.Complement.{listIf, finite, boundedBelow, complementPair, complementRow, newPlaces, less, boundedPairs, allPairs, complement, firstArc, inhibitsUnbounded, refusal15, Corresponds}
+use Rattle.model.specs.Complement.{finite, boundedBelow, complementPair, complementRow, newPlaces, less, boundedPairs, allPairs, complement, firstArc, inhibitsUnbounded, refusal15, Corresponds}
+use Rattle.model.specs.Lists.{listIf}
 use Rattle.model.proofs.First.{below-or, first-each, only-if-none}
 use Rattle.model.proofs.Bounded.{below-none, below-split, bounded-at, bounded-number}
 use Rattle.model.proofs.WrittenRows.{written-row}

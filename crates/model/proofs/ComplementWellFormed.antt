@@ -16,7 +16,8 @@ use Rattle.model.specs.Rows.{Entry, noArc, Capacities}
 use Rattle.model.specs.Nets.{PNet, pairs, modes, modeNo, K, arcNo, row}
 use Rattle.model.specs.WellFormed.{ArcOf, WellFormed}
 use Rattle.model.specs.Markings.{Marking}
-use Rattle.model.specs.Complement.{listIf, boundedBelow, complementEntry, complementRow, newPlaces, allPairs, complement, tooLarge, refusal16, sheetLimits, Corresponds}
+use Rattle.model.specs.Complement.{boundedBelow, complementEntry, complementRow, newPlaces, allPairs, complement, tooLarge, refusal16, sheetLimits, Corresponds}
+use Rattle.model.specs.Lists.{listIf}
 use Rattle.model.proofs.Both.{and-both, or-neither}
 use Rattle.model.proofs.Numbers.{above-false}
 use Rattle.model.proofs.Bounded.{below-at-most, original-or}

@@ -14,7 +14,8 @@ use Rattle.model.specs.Numbers.{ℕ∞, fin, ∞}
 use Rattle.model.specs.Rows.{Row, Capacities, Counts}
 use Rattle.model.specs.Firing.{ruleRefusal, rowRefusal}
 use Rattle.model.specs.Nets.{modeNo, K, entryAt, row}
-use Rattle.model.specs.Complement.{joined, bounded, reserve, complementRow, newPlaces, arcsOf, complement, refusal15, refusal16, sheetLimits, complementRefusal}
+use Rattle.model.specs.Complement.{bounded, reserve, complementRow, newPlaces, arcsOf, complement, refusal15, refusal16, sheetLimits, complementRefusal}
+use Rattle.model.specs.Lists.{joined}
 use Rattle.model.specs.Promises.{stays}
 use Rattle.model.specs.Edges.{numberAt, edges, complementGives, edgeNet, Edges}
 use Rattle.model.proofs.Firing.{Low, No, row11, row12, find-stop}

@@ -8,7 +8,6 @@ use lib.Signed.{ltZ}
 use native.Mathlib.Omega.{arith}
 use borrow.Author.Tests.{ltb-true, ltb-false}
 use Rattle.model.specs.Numbers.{ℕ∞, fin, ∞}
-use Rattle.model.specs.Rows.{Entry}
 use Rattle.model.specs.Billington.{_∩_, IK}
 use Rattle.model.specs.Complement.{reserve, complementPre, complementPost}
 use Rattle.model.specs.Promises.{Figure64}

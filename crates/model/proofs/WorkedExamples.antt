@@ -2,7 +2,8 @@
 use mathlib.Core.Path.{refl}
 use Rattle.model.specs.First.{_▸_, first}
 use Rattle.model.specs.Nets.{entryAt}
-use Rattle.model.specs.Complement.{joined, bounded, complementRow, newPlaces, arcsOf, complement, refusal15, refusal16, sheetLimits, complementRefusal}
+use Rattle.model.specs.Complement.{bounded, complementRow, newPlaces, arcsOf, complement, refusal15, refusal16, sheetLimits, complementRefusal}
+use Rattle.model.specs.Lists.{joined}
 use Rattle.model.specs.WorkedExamples.{WorkedExamples}
 
 pub worked-examples : WorkedExamples

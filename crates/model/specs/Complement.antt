@@ -1,5 +1,5 @@
 -- The complemented net (document 01, "The complemented net"; source document 000, section 6.2.3 and figure 6.4).
-use Prim.Native.Nat.{ℕ, zero, suc, _+_, _-_, _<_, max}
+use Prim.Native.Nat.{ℕ, _+_, _-_, _<_, max}
 use mathlib.Core.Path.{_≡_}
 use mathlib.Core.Bool.{Bool, true, false, cond, not, _&&_, _||_}
 use mathlib.Core.List.{List, [], _∷_, _++_, map}
@@ -11,20 +11,12 @@ use Rattle.model.specs.declared.Thing.the-variants.{Net}
 use Rattle.model.specs.declared.Fault.{Fault}
 use Rattle.model.specs.declared.Fault.the-variants.{InhibitedUnbounded, ComplementAbove, NoRoom}
 use Rattle.model.specs.declared.Refusal.{Refusal}
+use Rattle.model.specs.Refusals.{wrong}
 use Rattle.model.specs.First.{_▸_, onlyIf, lowest}
+use Rattle.model.specs.Lists.{joined, listIf}
 use Rattle.model.specs.Numbers.{ℕ∞, fin, ∞, above, limit}
 use Rattle.model.specs.Rows.{Entry, noArc, Row, Capacities}
 use Rattle.model.specs.Nets.{NetArc, PNet, pairs, modes, pairNo, modeNo, K, count, arcNo, row}
-
-module _ {A : Type 0} where
-  -- f 0, then f 1, .. up to f (n - 1), in one list
-  unfoldable pub joined : ℕ → (ℕ → List A) → List A
-  joined zero f = []
-  joined (suc n) f = joined n f ++ f n
-
-  abbrev pub listIf : Bool → A → List A
-  listIf true a = a ∷ []
-  listIf false a = []
 
 abbrev pub finite : ℕ∞ → Bool
 finite (fin k) = true
@@ -67,7 +59,7 @@ abbrev pub complementEntry : ℕ∞ → Entry → Entry
 complementEntry (fin k) e = record { pre = complementPre k e; post = complementPost k e; inhibitor = ∞ }
 complementEntry ∞ e = noArc
 
--- a row over the n originals, then over their complement pairs
+-- a row over the n originals, then over their complement pairs; beyond those it is never asked
 unfoldable pub complementRow : ℕ → Capacities → Row → Row
 complementRow n K row p = cond (ltb p n) (original (row p)) (complementEntry (K (complemented n K p)) (row (complemented n K p)))
 
@@ -110,11 +102,8 @@ complement net =
     }
 
 -- Refusals of complementing: "net, 15, 16, 10, each at its first arc in order". `offset k` is where the k-th arc stands in the sheet.
-abbrev ofNet : Fault → Refusal
-ofNet fault = record { thing = Net; fault = fault }
-
 abbrev pub firstArc : PNet → (NetArc → Bool) → (ℕ → Fault) → Option Refusal
-firstArc net test fault = lowest (length (net .arcs)) (λ k. test (arcNo (net .arcs) k)) (λ k. ofNet (fault k))
+firstArc net test fault = lowest (length (net .arcs)) (λ k. test (arcNo (net .arcs) k)) (λ k. wrong Net (fault k))
 
 -- "finite I at a pair of unbounded K"
 abbrev pub inhibitsUnbounded : PNet → NetArc → Bool
@@ -137,7 +126,7 @@ sheetLimits net =
 
 -- An output slice that is too short is refused by 10 too, after these.
 unfoldable pub complementRefusal : (ℕ → ℕ) → PNet → Option Refusal
-complementRefusal offset net = refusal15 offset net ▸ refusal16 offset net ▸ onlyIf (not (sheetLimits net)) (ofNet NoRoom)
+complementRefusal offset net = refusal15 offset net ▸ refusal16 offset net ▸ onlyIf (not (sheetLimits net)) (wrong Net NoRoom)
 
 -- Corresponding markings of a net and of its complement (source document 000, equation 6.7): equal on the original pairs,
 -- and each bounded pair and its complement add up to its capacity.

@@ -1,7 +1,7 @@
 -- Firing one mode: refusals 6 and 11 to 14, and the marking after (document 01, "Pairs, modes and the firing rule").
-use Prim.Native.Nat.{ℕ, zero, suc, _+_, _-_}
+use Prim.Native.Nat.{ℕ, _+_, _-_}
 use mathlib.Core.Bool.{Bool}
-use mathlib.Core.List.{List, [], _∷_, _++_}
+use mathlib.Core.List.{List}
 use mathlib.Core.Option.{Option}
 use lib.Dec.{leb}
 use Rattle.model.specs.declared.Mode.{Mode}
@@ -10,9 +10,11 @@ use Rattle.model.specs.declared.Why.{Why}
 use Rattle.model.specs.declared.Why.the-variants.{Lacking, OverCapacity, Inhibited, OverLimit}
 use Rattle.model.specs.declared.Fault.the-variants.{NotThere, Stopped}
 use Rattle.model.specs.declared.Refusal.{Refusal}
+use Rattle.model.specs.Refusals.{wrong}
 use Rattle.model.specs.First.{_▸_, onlyIf, lowest}
 use Rattle.model.specs.Numbers.{ℕ∞, fin, Above, above, limit}
 use Rattle.model.specs.Rows.{Entry, Row, Capacities, Counts}
+use Rattle.model.specs.Lists.{table}
 use Rattle.model.specs.Nets.{PNet, pairs, modes, pairNo, K, count, row}
 
 -- "Firing gives M - Pre + Post."
@@ -42,7 +44,7 @@ abbrev pub stops : Why → Entry → ℕ∞ → ℕ → Bool
 stops why e k m = above (compared why e k m .number) (compared why e k m .bound)
 
 abbrev pub stopped : Thing → Why → ℕ → Refusal
-stopped thing why p = record { thing = thing; fault = Stopped why (pairNo p) }
+stopped thing why p = wrong thing (Stopped why (pairNo p))
 
 module _ (thing : Thing) (n : ℕ) (K : Capacities) (row : Row) (M : Counts) where
   -- each of 11 to 14 names its lowest pair
@@ -59,18 +61,11 @@ module _ (thing : Thing) (n : ℕ) (K : Capacities) (row : Row) (M : Counts) whe
 
 -- 6: a mode that is not there among so many
 abbrev pub absent : Thing → ℕ → Mode → Option Refusal
-absent thing modes t = onlyIf (leb modes (t .0)) (record { thing = thing; fault = NotThere })
+absent thing modes t = onlyIf (leb modes (t .0)) (wrong thing NotThere)
 
 -- "then the mode (6, 11 over all pairs, 12, 13, 14)"
 unfoldable pub modeRefusal : Thing → PNet → Mode → List ℕ → Option Refusal
-modeRefusal thing net t m =
-    onlyIf (leb (modes net) (t .0)) (record { thing = thing; fault = NotThere })
-    ▸ rowRefusal thing (pairs net) (K net) (row net t) (count m)
-
--- f 0, f 1, .. up to f (n - 1)
-unfoldable pub table : {A : Type 0} → ℕ → (ℕ → A) → List A
-table zero f = []
-table (suc n) f = table n f ++ f n ∷ []
+modeRefusal thing net t m = absent thing (modes net) t ▸ rowRefusal thing (pairs net) (K net) (row net t) (count m)
 
 unfoldable pub fired : PNet → Mode → List ℕ → List ℕ
 fired net t m = table (pairs net) (λ p. after (row net t p) (count m p))

@@ -3,6 +3,7 @@ pub mod Edges
 pub mod Billington
 pub mod Numbers
 pub mod First
+pub mod Lists
 pub mod Refusals
 pub mod RefusalTables
 pub mod Replies
@@ -11,6 +12,7 @@ pub mod Nets
 pub mod WellFormed
 pub mod Markings
 pub mod Firing
+pub mod PassBelow
 pub mod Runs
 pub mod Figures
 pub mod Dead

@@ -3,7 +3,7 @@ use Prim.Native.Nat.{ℕ, _+_}
 use mathlib.Core.Bool.{Bool, cond, _&&_}
 use mathlib.Core.List.{List, [], _∷_}
 use lib.Dec.{eqb}
-use lib.ListN.{getD}
+use lib.ListN.{take, getD}
 use Rattle.model.specs.declared.Pair.{Pair}
 use Rattle.model.specs.declared.Mode.{Mode}
 use Rattle.model.specs.Numbers.{ℕ∞, ∞}
@@ -21,7 +21,7 @@ pub record PNet : Type 0 where
   pub start : List ℕ
   pub arcs : List NetArc
 
--- pairs and modes "are numbered from 0 across the whole net, place by place and transition by transition"
+-- how many in all
 abbrev pub total : List ℕ → ℕ
 total [] = 0
 total (c ∷ cs) = c + total cs
@@ -31,6 +31,10 @@ pairs net = total (net .colours)
 
 abbrev pub modes : PNet → ℕ
 modes net = total (net .modesOf)
+
+-- pairs "are numbered from 0 across the whole net, place by place": the first of a place, whose colours follow; modes likewise
+abbrev pub firstPair : PNet → ℕ → ℕ
+firstPair net place = total (take place (net .colours))
 
 abbrev pub pairNo : ℕ → Pair
 pairNo p = record { 0 = p }

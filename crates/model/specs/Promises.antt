@@ -1,5 +1,5 @@
--- What is promised of the model: open this file first. Each statement is a type; docs/ARCHITECTURE.md names the one term of proofs/ that has it.
--- The definitions that a statement uses are in the file that its `use` line names, in the words of document 01 and source document 000.
+-- What is promised of the model; more of it stands in DemandThree, Edges and WorkedExamples. promises/specs/Promises.antt lists all promises, those over bytes too.
+-- Each statement is a type; docs/ARCHITECTURE.md names the one term of proofs/ that has it, and the order to read the definitions in.
 use Prim.Native.Nat.{ℕ, _≤_, _<_}
 use mathlib.Core.Path.{_≡_}
 use mathlib.Core.Bool.{true}

@@ -12,6 +12,10 @@ use Rattle.model.specs.declared.Refusal.{Refusal}
 use Rattle.model.specs.declared.Answer.{Answer}
 use Rattle.model.specs.declared.Answer.the-variants.{Accepted, Refused}
 
+-- what is wrong, and in which thing
+abbrev pub wrong : Thing → Fault → Refusal
+wrong thing fault = record { thing = thing; fault = fault }
+
 -- the answer to a call: its first refusal, if there is one
 abbrev pub answer : Option Refusal → Answer
 answer none = Accepted

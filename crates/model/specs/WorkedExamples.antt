@@ -65,7 +65,7 @@ P5 =
     (arc 0 0 2 0 ∞ ∷ arc 0 2 2 4 ∞ ∷ arc 1 0 2 0 ∞ ∷ arc 1 1 1 0 ∞ ∷ arc 1 2 3 5 ∞ ∷ [])
 
 -- Document 01's own example, aboard and ashore: "first marking 3, 0, 2, and a third arc 0,2 with Pre 1, Post 2"
-abbrev ownExample : Worked
+abbrev pub ownExample : Worked
 ownExample =
     record {
       net =

@@ -11,7 +11,7 @@ use Rattle.model.specs.declared.Thing.{Thing}
 use Rattle.model.specs.declared.Thing.the-variants.{Net}
 use Rattle.model.specs.First.{first}
 use Rattle.model.specs.Nets.{total}
-use Rattle.model.specs.Firing.{table}
+use Rattle.model.specs.Lists.{table}
 use Rattle.model.proofs.First.{left-none, right-none, only-if-none, first-each}
 use Rattle.nets.specs.Bytes.{u16At}
 use Rattle.nets.specs.Layout.{sheetEnd, countAt, counts, totalOf, placesAt, transitionsAt, coloursAt, placeCount, transitionCount, pairCount, modeCount}

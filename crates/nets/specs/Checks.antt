@@ -7,15 +7,12 @@ use mathlib.Core.Option.{Option}
 use lib.Dec.{ltb, eqb}
 use lib.ListN.{length}
 use Rattle.model.specs.declared.Thing.{Thing}
-use Rattle.model.specs.declared.Fault.{Fault}
 use Rattle.model.specs.declared.Fault.the-variants.{CutShort, WrongVersion, WrongLength, CountOutside}
 use Rattle.model.specs.declared.Refusal.{Refusal}
+use Rattle.model.specs.Refusals.{wrong}
 use Rattle.model.specs.First.{_▸_, onlyIf}
 use Rattle.nets.specs.Bytes.{u16At}
 use Rattle.nets.specs.Layout.{bodyLength, sheetEnd, version}
-
-abbrev pub wrong : Thing → Fault → Refusal
-wrong thing fault = record { thing = thing; fault = fault }
 
 module _ (thing : Thing) (s : List ℕ) where
   -- 1: "fewer than 4 bytes, or fewer than 4 + L"; 3: "L = 0"; 2: "version byte is not 1"

@@ -1,4 +1,5 @@
 -- What the private functions and the shared parts require: facts that the tests of a sheet have established.
+-- A reader of the promises may skip this file.
 use Prim.Native.Nat.{ℕ, _≤_}
 use mathlib.Core.List.{List}
 use lib.ListN.{length}

@@ -2,7 +2,7 @@
 use Prim.Native.Nat.{ℕ, _+_, _-_, _*_, _/_}
 use mathlib.Core.List.{List}
 use Rattle.model.specs.Nets.{total}
-use Rattle.model.specs.Firing.{table}
+use Rattle.model.specs.Lists.{table}
 use Rattle.nets.specs.Bytes.{byteAt, u16At, u32At}
 
 -- "A sheet is a 4-byte length L (the bytes after it), a version byte 1, then its fields"

@@ -11,7 +11,8 @@ use Rattle.model.specs.First.{_▸_, first, onlyIf}
 use Rattle.model.specs.Numbers.{ℕ∞, fin, ∞, above, limit}
 use Rattle.nets.specs.Bytes.{u16At, u32At}
 use Rattle.nets.specs.Layout.{countAt, totalOf, placesAt, transitionsAt, coloursAt, placeCount, transitionCount, modesAt, pairCount, modeCount, pairsAt, pairAt, arcCountAt, arcsAfter, arcAt, capacityAt, startAt, arcSize, arcModeAt, arcPairAt, preAt, postAt, inhibitorAt}
-use Rattle.nets.specs.Checks.{wrong, headRefusal, missing, leftOver, countRefusal}
+use Rattle.nets.specs.Checks.{headRefusal, missing, leftOver, countRefusal}
+use Rattle.model.specs.Refusals.{wrong}
 
 -- "The value 4,294,967,295 means unbounded and is legal for K and I only."
 abbrev pub unbounded : ℕ

@@ -8,9 +8,9 @@ use model::Thing;
 ghost use mathlib.Core.Path.{_≡_};
 ghost use Prim.Native.Nat.{_+_, _<_, _≤_};
 ghost use lib.ListN.{length};
-ghost use Rattle.model.specs.Refusals.{answer};
+ghost use Rattle.model.specs.Refusals.{answer, wrong};
 ghost use Rattle.nets.specs.Layout.{sheetEnd};
-ghost use Rattle.nets.specs.Checks.{wrong, headRefusal, leftOver};
+ghost use Rattle.nets.specs.Checks.{headRefusal, leftOver};
 ghost use Rattle.nets.specs.Held.{Headed};
 
 pub fn refused(thing: Thing, fault: Fault) -> Answer

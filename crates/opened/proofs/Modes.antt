@@ -10,7 +10,7 @@ use Rattle.model.specs.Nets.{modes}
 use Rattle.model.specs.Firing.{absent}
 use Rattle.model.proofs.Firing.{mode-there, mode-missing}
 use Rattle.opened.specs.declared.shape.NetShape.{NetShape}
-use Rattle.nets.specs.Checks.{wrong}
+use Rattle.model.specs.Refusals.{wrong}
 use Rattle.sheets.specs.Decoded.{netOf}
 use Rattle.opened.specs.Shape.{Open}
 use Rattle.opened.proofs.Shapes.{sizes}

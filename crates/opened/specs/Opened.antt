@@ -1,4 +1,5 @@
 -- What opening a net gives: the shape of an accepted sheet, or its refusal.
+-- A reader of the promises may skip this file.
 use mathlib.Core.Option.{Option, none, some}
 use Rattle.model.specs.declared.Refusal.{Refusal}
 use Rattle.opened.specs.declared.shape.NetShape.{NetShape}

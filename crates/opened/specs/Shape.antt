@@ -1,4 +1,5 @@
 -- What is worked out once of a net sheet that has been accepted, and what a look into it gives.
+-- A reader of the promises needs `arcOffset` alone.
 use Prim.Native.Nat.{ℕ, _≤_, _<_}
 use mathlib.Core.Path.{_≡_}
 use mathlib.Core.List.{List}

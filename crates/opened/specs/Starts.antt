@@ -1,4 +1,5 @@
 -- Where the arcs of each mode stand among a net's arcs, which rise by mode.
+-- A reader of the promises may skip this file.
 use Prim.Native.Nat.{ℕ, _+_, _≤_, _<_}
 use mathlib.Core.Path.{_≡_}
 use mathlib.Core.List.{List}

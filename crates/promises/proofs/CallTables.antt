@@ -18,7 +18,7 @@ use Rattle.model.specs.First.{_▸_, first, onlyIf}
 use Rattle.model.specs.RefusalTables.{Table, row, _then_, each, Reads}
 use Rattle.model.specs.Numbers.{ℕ∞, fin, ∞, limit}
 use Rattle.model.specs.Nets.{PNet, pairs, modes, modeNo, K, count, row as modeRow}
-use Rattle.model.specs.Markings.{markingRefusal}
+use Rattle.model.specs.Markings.{markingRefusal, unequal}
 use Rattle.model.specs.Firing.{compared, Stops, stopped, lowestStop, ruleRefusal, rowRefusal, absent, modeRefusal, fired}
 use Rattle.model.specs.Runs.{Outcome, goOn, runFrom, run, certificateRefusal}
 use Rattle.model.specs.Complement.{finite, complement, refusal15, refusal16, sheetLimits, complementRefusal}
@@ -32,7 +32,6 @@ use Rattle.sheets.specs.Decoded.{netOf, movementsOf}
 use Rattle.sheets.proofs.RefusalTables.{sheet-tables}
 use Rattle.written.specs.Written.{sheetOf}
 use Rattle.fire.specs.Calls.{beginRefusal, testRefusal}
-use Rattle.fire.specs.Parts.{unequal}
 use Rattle.run.specs.Calls.{beforeRun, runOf, certifyRefusal}
 use Rattle.weigh.specs.Calls.{figureRefusal, changeRefusal}
 use Rattle.dead.specs.IsDead.{deadRefusal}

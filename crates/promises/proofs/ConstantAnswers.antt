@@ -15,10 +15,10 @@ use Rattle.model.specs.declared.Fault.the-variants.{CutShort}
 use Rattle.model.specs.declared.Refusal.{Refusal}
 use Rattle.model.specs.declared.Answer.{Answer}
 use Rattle.model.specs.First.{_▸_}
-use Rattle.model.specs.Refusals.{answer, number}
+use Rattle.model.specs.Refusals.{answer, number, wrong}
 use Rattle.model.specs.Nets.{modeNo}
 use Rattle.model.proofs.First.{left-none, some-then}
-use Rattle.nets.specs.Checks.{wrong, headRefusal}
+use Rattle.nets.specs.Checks.{headRefusal}
 use Rattle.nets.specs.Nets.{netRefusal}
 use Rattle.sheets.specs.Weights.{weightsRefusal}
 use Rattle.sheets.specs.Movements.{movementsRefusal}

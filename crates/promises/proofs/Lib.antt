@@ -11,3 +11,4 @@ pub mod CopiesNet
 pub mod RunFrauds
 pub mod Frauds
 pub mod CallTables
+pub mod Promises

@@ -17,8 +17,9 @@ use Rattle.model.specs.Refusals.{number, thing, position}
 use Rattle.model.specs.Runs.{Outcome, runFrom, run, certificateRefusal}
 use Rattle.model.specs.Figures.{sum, figure, change}
 use Rattle.model.specs.Dead.{deadPair, isDead, firstDead}
-use Rattle.model.specs.Complement.{joined, bounded, complementRow, newPlaces, arcsOf, complement, refusal15, refusal16, sheetLimits, complementRefusal}
-use Rattle.model.specs.Firing.{stopped, ruleRefusal, rowRefusal, modeRefusal, table, fired}
+use Rattle.model.specs.Complement.{bounded, complementRow, newPlaces, arcsOf, complement, refusal15, refusal16, sheetLimits, complementRefusal}
+use Rattle.model.specs.Lists.{joined, table}
+use Rattle.model.specs.Firing.{stopped, ruleRefusal, rowRefusal, modeRefusal, fired}
 use Rattle.model.specs.WellFormed.{InRange, ArcOf, WellFormed}
 use Rattle.model.specs.Markings.{markingRefusal}
 use Rattle.model.proofs.First.{left-none, right-none, none-then}

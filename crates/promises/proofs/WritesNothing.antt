@@ -10,10 +10,9 @@ use Rattle.model.specs.declared.Thing.the-variants.{Argument}
 use Rattle.model.specs.Refusals.{number}
 use Rattle.model.specs.Nets.{PNet, pairs, count, row}
 use Rattle.model.specs.Firing.{modeRefusal, fired}
-use Rattle.model.proofs.First.{right-none}
 use Rattle.model.proofs.Markings.{marking-after}
-use Rattle.sheets.specs.Whole.{wholeNet}
 use Rattle.sheets.specs.Decoded.{netOf}
+use Rattle.fire.proofs.Promises.{mode-accepted}
 use Rattle.fire.specs.Calls.{testRefusal, firedBy}
 use Rattle.promises.specs.Frauds.{WritesNothing}
 use Rattle.promises.proofs.Accepting.{number-none}
@@ -23,10 +22,6 @@ fired-moves : (net : PNet) (t : Mode) (m : List ℕ) (p : ℕ) → p < pairs net
     → row net t p .pre ≢ row net t p .post → fired net t m ≢ m
 fired-moves net t m p h e apart same =
     apart (omega (arith, marking-after Argument net t m e .0 p h, ap (λ m. count m p) same))
-
-mode-accepted : (net marking : List ℕ) (t : Mode) → testRefusal net marking t ≡ none → modeRefusal Argument (netOf net) t marking ≡ none
-unfolding testRefusal
-mode-accepted net marking t e = right-none _ _ (right-none (wholeNet net) _ e)
 
 pub writes-nothing : WritesNothing
 writes-nothing =

@@ -18,7 +18,7 @@ use Rattle.model.specs.Nets.{NetArc, PNet, pairs, modes, pairNo, modeNo, K, cou
 use Rattle.model.specs.Firing.{stopped, fired}
 use Rattle.model.specs.Complement.{complementEntry, complement}
 use Rattle.nets.specs.Layout.{sheetEnd}
-use Rattle.nets.specs.Checks.{wrong}
+use Rattle.model.specs.Refusals.{wrong}
 use Rattle.nets.specs.Nets.{netRefusal}
 use Rattle.sheets.specs.Weights.{weightsRefusal}
 use Rattle.sheets.specs.Movements.{movementsRefusal}

@@ -1,3 +1,4 @@
+pub mod Promises
 pub mod DemandOne
 pub mod DemandThree
 pub mod TwoRuns

@@ -41,6 +41,7 @@ module _ (net complement movements marking marking′ : List ℕ) where
         → (inNet .refusal ≡ some r) × (inComplement .refusal ≡ some r) × (inNet .accepted ≡ 0)
     -- "11, 12 and 13 in the net become 11 in its complement; 6 and 14 stay"
     pub refusal : wholeMovements movements ≡ none → inComplement .refusal ≡ becomes Movements (netOf net) nextMode (inNet .marking) (inNet .refusal)
+    -- "after each accepted movement": a first part of the list is a movement sheet too, of which this says the same
     pub atEnd : Corresponds (netOf net) (inNet .marking) (inComplement .marking)
 
 abbrev pub TwoRuns : Type 0

@@ -7,7 +7,7 @@ use native.Mathlib.Omega.{arith}
 use borrow.Author.Tests.{eqb-true, eqb-false, lt-ltb, le-ltb}
 use Rattle.model.specs.declared.Arc.{Arc}
 use Rattle.model.specs.Numbers.{ℕ∞, fin, ∞, above, limit}
-use Rattle.model.proofs.PassBelow.{least, room, passBelow}
+use Rattle.model.specs.PassBelow.{passBelow, least, room}
 use Rattle.nets.specs.Nets.{unbounded, bound}
 use Rattle.sheets.specs.Decoded.{netArc}
 use Rattle.nets.proofs.Bounds.{bound-unbounded, bound-finite}

@@ -9,7 +9,8 @@ use native.Mathlib.Omega.{arith}
 use borrow.Author.Tests.{ltb-true, lt-ltb}
 use Rattle.model.specs.declared.Arc.{Arc}
 use Rattle.model.specs.Nets.{NetArc, PNet, K}
-use Rattle.model.proofs.PassBelow.{passBelow, pass-is}
+use Rattle.model.proofs.PassBelow.{pass-is}
+use Rattle.model.specs.PassBelow.{passBelow}
 use Rattle.opened.specs.declared.shape.NetShape.{NetShape}
 use Rattle.nets.specs.Nets.{bound}
 use Rattle.sheets.specs.Decoded.{netOf, netArc}

@@ -1,4 +1,5 @@
 -- What the private functions and the shared parts of this crate speak of, beyond the calls.
+-- A reader of the promises may skip this file.
 use Prim.Native.Nat.{ℕ, _<_}
 use mathlib.Core.Path.{_≡_}
 use mathlib.Core.Bool.{not}
@@ -13,9 +14,9 @@ use Rattle.model.specs.declared.Refusal.{Refusal}
 use Rattle.model.specs.First.{_▸_, first, onlyIf}
 use Rattle.model.specs.Nets.{PNet, pairs, pairNo, K, count, arcNo}
 use Rattle.model.specs.Runs.{Outcome, goOn, run}
-use Rattle.model.proofs.PassBelow.{passBelow}
+use Rattle.model.specs.PassBelow.{passBelow}
 use Rattle.opened.specs.declared.shape.NetShape.{NetShape}
-use Rattle.nets.specs.Checks.{wrong}
+use Rattle.model.specs.Refusals.{wrong}
 use Rattle.sheets.specs.Decoded.{netOf}
 use Rattle.opened.specs.Shape.{Open}
 use Rattle.opened.specs.Starts.{StartsAre}

@@ -16,7 +16,7 @@ ghost use Prim.Native.Nat.{_<_, min};
 ghost use Rattle.model.specs.declared.Thing.the-variants.{Movements};
 ghost use Rattle.model.specs.Markings.{Marking};
 ghost use Rattle.model.specs.Firing.{fired};
-ghost use Rattle.model.proofs.PassBelow.{passBelow};
+ghost use Rattle.model.specs.PassBelow.{passBelow};
 ghost use Rattle.nets.specs.Nets.{bound};
 ghost use Rattle.sheets.specs.Decoded.{netOf, netArc};
 ghost use Rattle.opened.specs.Shape.{Open};

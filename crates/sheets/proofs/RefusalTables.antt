@@ -22,11 +22,12 @@ use Rattle.model.proofs.Decisions.{Decided, by-less, by-at-most, by-equal, by-a
 use Rattle.model.proofs.RefusalTables.{reads-row, reads-then, reads-each, reads-either}
 use Rattle.nets.specs.Bytes.{u16At, u32At}
 use Rattle.nets.specs.Layout.{bodyLength, sheetEnd, weightCountAt, version, countAt, totalOf, pairAt, arcAt, arcCountAt, arcsAfter, placeCount, transitionCount, coloursAt, modesAt, pairCount, pairsAt, modeCount, movementCount, movementAt, weightCount, weightAt}
-use Rattle.nets.specs.Checks.{wrong, headRefusal, missing, leftOver, countRefusal}
+use Rattle.nets.specs.Checks.{headRefusal, missing, leftOver, countRefusal}
+use Rattle.model.specs.Refusals.{wrong}
 use Rattle.sheets.specs.Movements.{mostMovements, movementFields, movementsRefusal}
 use Rattle.sheets.specs.Weights.{signed, weightRefusal, weightFields, weightsRefusal}
 use Rattle.nets.specs.Nets.{unbounded, bound, outside, runningRefusal, capacityRefusal, startRefusal, pairRefusal, risesTo, notRising, isBlank, arcNumbersRefusal, arcNamesRefusal, arcRefusal, arcFields, eachCount, countFields, pairAndArcFields, netFields, netRefusal}
-use Rattle.sheets.specs.RefusalTables.{headTable, pastEnd, leftAfter, countTable, movementTable, Outweighs, weightTable, runningTable, pairTable, Higher, arcNamesTable, arcNumbersTable, arcTable, netTable, SheetTables}
+use Rattle.sheets.specs.RefusalTables.{headTable, pastEnd, leftAfter, countTable, movementTable, WeightOutside, weightTable, runningTable, pairTable, Higher, arcNamesTable, arcNumbersTable, arcTable, netTable, SheetTables}
 
 -- a row that stands in the chain as it stands in the table
 plain : {test : Bool} {P : Type 0} (r : Refusal) → Decided test P → Reads (row P r) (onlyIf test r)
@@ -62,11 +63,11 @@ movement-reads s =
     (reads-then (reads-row _ (lone s) (λ e. ap (λ (at : ℕ). wrong Movements (WrongLength at)) (omega (arith, e .1))))
     (plain _ (by-less mostMovements (movementCount s))))
 
-outweighs : (z : ℤ) → Decided (ltb limit (natAbs z)) (Outweighs z)
-outweighs (pos n) =
+weight-outside : (z : ℤ) → Decided (ltb limit (natAbs z)) (WeightOutside z)
+weight-outside (pos n) =
     by-other (by-less limit n) (λ l. inr (ltZ-yes (lt→ltb limit n l)))
     (elim [ inl below ↦ absurd (below .lt) | inr over ↦ ltb→lt limit n (over .lt) ])
-outweighs (negsuc n) =
+weight-outside (negsuc n) =
     by-other (by-less limit (suc n)) (λ l. inl (ltZ-yes (lt→ltb 999999 n (omega arith))))
     (elim [ inl below ↦ omega (arith, ltb→lt 999999 n (below .lt)) | inr over ↦ absurd (over .lt) ])
 
@@ -78,7 +79,7 @@ weight-reads pairs s =
     (reads-then (plain _ (by-not (by-equal (weightCount s) pairs)))
     (reads-then
     (reads-each (weightCount s)
-    (λ p l. reads-then (past-reads Weights s (weightAt p) 4) (plain _ (outweighs (signed (u32At s (weightAt p)))))))
+    (λ p l. reads-then (past-reads Weights s (weightAt p) 4) (plain _ (weight-outside (signed (u32At s (weightAt p)))))))
     (left-reads Weights s (weightAt (weightCount s))))))
 
 -- 4,294,967,295 is the one number above the limit that a K or I may have

@@ -1,4 +1,4 @@
--- The size of a weight from its 4 bytes.
+-- A weight from its 4 bytes, and its size.
 use Prim.Native.Nat.{ℕ, _-_, _≤_, _<_}
 use mathlib.Core.Path.{_≡_, refl, sym, _∙_}
 use mathlib.Core.Bool.{Bool, true, false}
@@ -7,6 +7,15 @@ use lib.IntN.{natAbs}
 use native.Mathlib.Omega.{arith}
 use borrow.Author.Tests.{ltb-true, lt-ltb, le-ltb}
 use Rattle.sheets.specs.Weights.{signed}
+use Rattle.sheets.specs.Accepted.{SignedWeights}
+
+pub signed-weights : SignedWeights
+unfolding signed
+signed-weights =
+    record {
+      positive = λ x h. simp (lt-ltb x 2147483648 h);
+      negative = λ x h l. simp (le-ltb x 2147483648 h, lt-ltb x 4294967296 l);
+    }
 
 pub size-below : (x : ℕ) → x < 2147483648 → natAbs (signed x) ≡ x
 unfolding signed

@@ -4,7 +4,7 @@ use mathlib.Core.List.{List}
 use lib.IntN.{ℤ}
 use Rattle.model.specs.declared.Arc.{Arc}
 use Rattle.model.specs.declared.Mode.{Mode}
-use Rattle.model.specs.Firing.{table}
+use Rattle.model.specs.Lists.{table}
 use Rattle.model.specs.Nets.{NetArc, PNet, pairNo, modeNo}
 use Rattle.nets.specs.Bytes.{u16At, u32At}
 use Rattle.nets.specs.Layout.{counts, coloursAt, placeCount, transitionCount, modesAt, pairCount, pairsAt, pairAt, arcCount, arcsAt, arcAt, capacityAt, startAt, arcModeAt, arcPairAt, preAt, postAt, inhibitorAt, movementAt, movementCount, weightCount, weightAt}

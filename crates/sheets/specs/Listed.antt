@@ -1,10 +1,11 @@
 -- Mode numbers that stand one after the other in a run of bytes: those of a movement sheet, or of a part of one.
+-- A reader of the promises may skip this file.
 use Prim.Native.Nat.{ℕ, _≤_}
 use mathlib.Core.List.{List}
 use lib.ListN.{length}
 use Rattle.model.specs.declared.Mode.{Mode}
 use Rattle.model.specs.Nets.{modeNo}
-use Rattle.model.specs.Firing.{table}
+use Rattle.model.specs.Lists.{table}
 use Rattle.nets.specs.Bytes.{u16At}
 use Rattle.nets.specs.Layout.{countAt}
 

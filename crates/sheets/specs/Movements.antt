@@ -8,7 +8,8 @@ use Rattle.model.specs.declared.Fault.the-variants.{CountOutside}
 use Rattle.model.specs.declared.Refusal.{Refusal}
 use Rattle.model.specs.First.{_▸_, onlyIf}
 use Rattle.nets.specs.Layout.{movementsAt, movementAt, movementCount}
-use Rattle.nets.specs.Checks.{wrong, headRefusal, leftOver}
+use Rattle.nets.specs.Checks.{headRefusal, leftOver}
+use Rattle.model.specs.Refusals.{wrong}
 
 -- "at most 8,192"
 abbrev pub mostMovements : ℕ

@@ -13,7 +13,7 @@ use Rattle.model.specs.Numbers.{Above, limit}
 use Rattle.model.specs.RefusalTables.{Table, row, _then_, each, Reads}
 use Rattle.nets.specs.Bytes.{u16At, u32At}
 use Rattle.nets.specs.Layout.{bodyLength, sheetEnd, version, countAt, totalOf, pairAt, capacityAt, startAt, arcAt, arcSize, arcModeAt, arcPairAt, preAt, postAt, inhibitorAt, placesAt, transitionsAt, coloursAt, arcsAfter, placeCount, transitionCount, modesAt, pairCount, modeCount, pairsAt, arcCountAt, movementsAt, movementCount, weightCountAt, weightCount, weightAt}
-use Rattle.nets.specs.Checks.{wrong}
+use Rattle.model.specs.Refusals.{wrong}
 use Rattle.sheets.specs.Movements.{mostMovements, movementsRefusal}
 use Rattle.sheets.specs.Weights.{signed, weightsRefusal}
 use Rattle.nets.specs.Nets.{unbounded, bound, netRefusal}
@@ -46,8 +46,8 @@ movementTable s =
     then row (mostMovements < movementCount s) (wrong Movements (CountOutside movementsAt))
 
 -- "A weight may be negative, from -1000000 to 1000000"; negsuc 999999 is -1,000,000
-abbrev pub Outweighs : ℤ → Type 0
-Outweighs z = (z <ℤ negsuc 999999) ⊎ (pos 1000000 <ℤ z)
+abbrev pub WeightOutside : ℤ → Type 0
+WeightOutside z = (z <ℤ negsuc 999999) ⊎ (pos 1000000 <ℤ z)
 
 -- "In a weight sheet 17 comes before the weights."
 unfoldable pub weightTable : ℕ → List ℕ → Table
@@ -56,7 +56,7 @@ weightTable pairs s =
     then pastEnd Weights s weightCountAt 2
     then row (weightCount s ≢ pairs) (wrong Weights (NotOneEach weightCountAt))
     then each (weightCount s) (λ p.
-    pastEnd Weights s (weightAt p) 4 then row (Outweighs (signed (u32At s (weightAt p)))) (wrong Weights (NumberOutside (weightAt p))))
+    pastEnd Weights s (weightAt p) 4 then row (WeightOutside (signed (u32At s (weightAt p)))) (wrong Weights (NumberOutside (weightAt p))))
     then leftAfter Weights s (weightAt (weightCount s))
 
 module _ (s : List ℕ) where

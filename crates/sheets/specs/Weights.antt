@@ -14,7 +14,8 @@ use Rattle.model.specs.First.{_▸_, first, onlyIf}
 use Rattle.model.specs.Numbers.{limit}
 use Rattle.nets.specs.Bytes.{u32At}
 use Rattle.nets.specs.Layout.{weightCount, weightCountAt, weightAt}
-use Rattle.nets.specs.Checks.{wrong, headRefusal, missing, leftOver}
+use Rattle.nets.specs.Checks.{headRefusal, missing, leftOver}
+use Rattle.model.specs.Refusals.{wrong}
 
 -- a signed number of 4 bytes, in two's complement
 unfoldable pub signed : ℕ → ℤ

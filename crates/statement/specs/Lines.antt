@@ -35,6 +35,6 @@ endLine accepted figure = line (ascii "end" ∷ decimal accepted ∷ signedDecim
 unfoldable pub badLine : Refusal → List ℕ
 badLine r = line (ascii "bad" ∷ decimal (thing (Refused r)) ∷ decimal (number (Refused r)) ∷ decimal (position (Refused r)) ∷ [])
 
--- "Input above 65,536 bytes prints only `long`."
+-- the line of an input that is too long
 unfoldable pub longLine : List ℕ
 longLine = line (ascii "long" ∷ [])

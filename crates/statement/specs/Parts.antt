@@ -1,4 +1,5 @@
 -- What the private functions of this crate speak of: puts that go on where those before them ended, and three sheets that have been read.
+-- A reader of the promises may skip this file.
 use Prim.Native.Nat.{ℕ, _≤_}
 use mathlib.Core.Path.{_≡_}
 use mathlib.Core.List.{List, _++_}

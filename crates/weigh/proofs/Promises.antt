@@ -15,8 +15,9 @@ use Rattle.model.proofs.Firing.{accepted-enough}
 use Rattle.model.proofs.Figures as model
 use Rattle.sheets.specs.Decoded.{netOf, weightsOf}
 use Rattle.fire.specs.Calls.{testRefusal}
+use Rattle.fire.proofs.Promises.{mode-accepted}
 use Rattle.weigh.specs.Calls.{figured, told, figureRefusal, changeRefusal}
-use Rattle.weigh.specs.Promises.{FigureIsSum, FigureFired}
+use Rattle.weigh.specs.Promises.{FigureIsSum, ChangeIsSum, FigureFired}
 
 -- an accepted call has its value
 value-is : {o : Option Refusal} {z : ℤ} → o ≡ none → told (figured o z) .value ≡ some z
@@ -27,14 +28,14 @@ pub figure-is-sum : FigureIsSum
 unfolding figure
 figure-is-sum net weights marking e = value-is e
 
-module _ (net weights marking : List ℕ) (t : Mode) (e : figureRefusal net weights marking ≡ none) (f : testRefusal net marking t ≡ none) where
-  mode-accepted : modeRefusal Argument (netOf net) t marking ≡ none
-  unfolding testRefusal
-  mode-accepted = right-none _ _ (right-none _ _ f)
+pub change-is-sum : ChangeIsSum
+unfolding change
+change-is-sum net weights t e = value-is e
 
+module _ (net weights marking : List ℕ) (t : Mode) (e : figureRefusal net weights marking ≡ none) (f : testRefusal net marking t ≡ none) where
   change-accepted : changeRefusal net weights t ≡ none
   unfolding figureRefusal changeRefusal modeRefusal
-  change-accepted = none-then (left-none _ _ e) (none-then (left-none _ _ (right-none _ _ e)) (left-none _ _ mode-accepted))
+  change-accepted = none-then (left-none _ _ e) (none-then (left-none _ _ (right-none _ _ e)) (left-none _ _ (mode-accepted net marking t f)))
 
   after-accepted : figureRefusal net weights (fired (netOf net) t marking) ≡ none
   unfolding figureRefusal
@@ -42,7 +43,7 @@ module _ (net weights marking : List ℕ) (t : Mode) (e : figureRefusal net weig
       none-then (left-none _ _ e)
       (none-then (left-none _ _ (right-none _ _ e))
       (marking-test (netOf net) _ .1
-      (marking-kept Argument (netOf net) t marking (marking-test (netOf net) marking .0 (right-none _ _ (right-none _ _ e))) mode-accepted)))
+      (marking-kept Argument (netOf net) t marking (marking-test (netOf net) marking .0 (right-none _ _ (right-none _ _ e))) (mode-accepted net marking t f))))
 
 pub figure-fired : FigureFired
 figure-fired net weights marking t e f =
@@ -55,5 +56,5 @@ figure-fired net weights marking t e f =
           rw f
           (value-is (after-accepted net weights marking t e f)
           ∙ ap some
-          (model.figure-fired (netOf net) (weightsOf weights) t marking (accepted-enough Argument (netOf net) t marking (mode-accepted net weights marking t e f))));
+          (model.figure-fired (netOf net) (weightsOf weights) t marking (accepted-enough Argument (netOf net) t marking (mode-accepted net marking t f))));
     }

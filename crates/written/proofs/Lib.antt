@@ -9,3 +9,4 @@ pub mod RoundTrip
 pub mod Accepts
 pub mod NetAccepts
 pub mod Puts
+pub mod Largest

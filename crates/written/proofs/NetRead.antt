@@ -7,7 +7,7 @@ use native.Mathlib.Omega.{arith}
 use Rattle.model.specs.Numbers.{∞}
 use Rattle.model.specs.Nets.{PNet, total, pairs, K, count, arcNo}
 use Rattle.model.specs.WellFormed.{WellFormed, Counted}
-use Rattle.model.specs.Firing.{table}
+use Rattle.model.specs.Lists.{table}
 use Rattle.nets.specs.Bytes.{u32At}
 use Rattle.nets.specs.Layout.{bodyLength, version, counts, coloursAt, placeCount, transitionCount, modesAt, pairCount, pairsAt, pairAt, arcCountAt, arcCount, arcsAt, arcAt, capacityAt, startAt}
 use Rattle.nets.specs.Nets.{bound}

@@ -8,7 +8,7 @@ use lib.Seq.{sets, length-sets, sets-eq, set-comm, getD-set-other}
 use native.Mathlib.Omega.{arith}
 use native.Mathlib.Numerals.{add-one}
 use Rattle.model.specs.Nets.{PNet}
-use Rattle.model.specs.Complement.{joined}
+use Rattle.model.specs.Lists.{joined}
 use Rattle.nets.specs.Bytes.{byteAt}
 use Rattle.written.specs.Written.{bytes16, headBytes, fieldsOf, lengthOf, sheetOf}
 use Rattle.written.specs.Puts.{Written, Put}

@@ -38,7 +38,7 @@ all-there start end zero h each = omega arith
 all-there start end (suc n) h each = omega (arith, each n (omega arith))
 
 -- the fields of an accepted sheet end where it ends
-fields-end : (s : List ℕ) → netRefusal s ≡ none → arcAt (arcsAt s) (arcCount s) ≡ sheetEnd s
+pub fields-end : (s : List ℕ) → netRefusal s ≡ none → arcAt (arcsAt s) (arcCount s) ≡ sheetEnd s
 unfolding netRefusal netFields pairAndArcFields arcFields arcCount
 fields-end s e =
     let arcs = right-none _ _ (right-none _ _ (right-none _ _ e)) in

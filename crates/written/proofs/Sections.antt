@@ -7,8 +7,7 @@ use lib.ListN.{length, getD, length-append}
 use lib.Seq.{ext-getD}
 use native.Mathlib.Omega.{arith}
 use native.Mathlib.Nat.{mul-suc, mul-zero, eq-or-lt-of-le, le-of-suc-le-suc}
-use Rattle.model.specs.Firing.{table}
-use Rattle.model.specs.Complement.{joined}
+use Rattle.model.specs.Lists.{table, joined}
 use Rattle.model.proofs.Tables.{table-length, table-at}
 use Rattle.written.proofs.Stands.{Stands, stands-both, stands-left, stands-right}
 

@@ -1,5 +1,5 @@
--- What is promised of sheets. Each statement is a type; docs/ARCHITECTURE.md names the one term of proofs/ that has it.
-use Prim.Native.Nat.{ℕ, _<_}
+-- What is promised of net sheets. Each statement is a type; docs/ARCHITECTURE.md names the one term of proofs/ that has it.
+use Prim.Native.Nat.{ℕ, _≤_, _<_}
 use mathlib.Core.Path.{_≡_}
 use mathlib.Core.List.{List, _++_}
 use mathlib.Core.Option.{none}
@@ -8,12 +8,15 @@ use Rattle.model.specs.Nets.{PNet}
 use Rattle.model.specs.Refusals.{answer}
 use Rattle.model.specs.WellFormed.{WellFormed}
 use Rattle.nets.specs.Bytes.{byteAt}
+use Rattle.model.specs.WorkedExamples.{ownExample}
+use Rattle.nets.specs.Layout.{sheetEnd}
 use Rattle.nets.specs.Nets.{netRefusal}
 use Rattle.sheets.specs.Whole.{wholeNet, rest}
 use Rattle.sheets.specs.Decoded.{netOf}
-use Rattle.written.specs.Written.{sheetOf}
+use Rattle.written.specs.Written.{lengthOf, sheetOf}
+use Rattle.written.specs.Puts.{sheetSize}
 
--- Both directions of a sheet. A net that is written can be read back, alone and with bytes after it, which are handed back.
+-- Both directions of a net sheet. A net that is written can be read back, alone and with bytes after it, which are handed back.
 pub record ReadBack (net : PNet) : Type 0 where
   pub accepted : wholeNet (sheetOf net) ≡ none
   pub same : netOf (sheetOf net) ≡ net
@@ -24,6 +27,16 @@ pub record ReadBack (net : PNet) : Type 0 where
 abbrev pub WrittenThenRead : Type 0
 WrittenThenRead = (net : PNet) → WellFormed net → ReadBack net
 
--- An accepted sheet is the sheet of the net that was read from it: there is one sheet for each net.
+-- An accepted net sheet is the sheet of the net that was read from it: there is one sheet for each net.
 abbrev pub ReadThenWritten : Type 0
 ReadThenWritten = (s : List ℕ) → ((i : ℕ) → i < length s → byteAt s i < 256) → wholeNet s ≡ none → s ≡ sheetOf (netOf s)
+
+-- "The largest net sheet is 35,083 bytes."
+pub record LargestSheet : Type 0 where
+  pub most : (s : List ℕ) → netRefusal s ≡ none → sheetEnd s ≤ sheetSize 64 64 256 2048
+  pub is : sheetSize 64 64 256 2048 ≡ 35083
+
+-- Document 01's own example: "(L = 61)", and its complement "has L = 87".
+pub record ExampleLengths : Type 0 where
+  pub net : lengthOf (ownExample .net) ≡ 61
+  pub complement : lengthOf (ownExample .printed) ≡ 87

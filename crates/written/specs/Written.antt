@@ -4,7 +4,7 @@ use mathlib.Core.List.{List, [], _∷_, _++_, flatten, flatMap}
 use lib.ListN.{length}
 use Rattle.model.specs.Numbers.{ℕ∞, fin, ∞}
 use Rattle.model.specs.Nets.{NetArc, PNet, pairs, K, count}
-use Rattle.model.specs.Complement.{joined}
+use Rattle.model.specs.Lists.{joined}
 use Rattle.nets.specs.Nets.{unbounded}
 
 -- "all big-endian": a number in two bytes, and in four

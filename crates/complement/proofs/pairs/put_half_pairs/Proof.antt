@@ -1,7 +1,7 @@
 -- The bytes of the pairs passed are put.
 use borrow.Author.Needs.{needs}
 use Prim.Native.Nat.{_≤_, _-_}
-use Rattle.model.specs.Complement.{joined}
+use Rattle.model.specs.Lists.{joined}
 use Rattle.sheets.specs.Decoded.{netOf}
 use Rattle.complement.specs.Pairs.{halfPair}
 use Rattle.complement.specs.Puts.{Puts}

@@ -5,11 +5,12 @@ use mathlib.Core.Path.{_≡_, refl, _∙_, ap}
 use lib.ListN.{length}
 use native.Mathlib.Omega.{arith}
 use native.Mathlib.Numerals.{add-one}
-use Rattle.model.specs.Complement.{joined}
+use Rattle.model.specs.Lists.{joined}
 use Rattle.sheets.specs.Decoded.{netOf}
 use Rattle.opened.proofs.Shapes.{sizes}
 use Rattle.complement.specs.declared.half.Half.the-variants.{Complement}
-use Rattle.complement.specs.Places.{firstPair, halfPlace}
+use Rattle.complement.specs.Places.{halfPlace}
+use Rattle.model.specs.Nets.{firstPair}
 use Rattle.complement.proofs.Counts.{count-none, count-more}
 use Rattle.complement.proofs.PlaceHalves.{half-place, next-first}
 use Rattle.complement.proofs.places.count_new_places.Statement.{statement}

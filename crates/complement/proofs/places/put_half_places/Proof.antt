@@ -5,11 +5,12 @@ use mathlib.Core.Path.{_≡_, refl, sym, ap}
 use mathlib.Core.List.{flatMap}
 use native.Mathlib.Omega.{arith}
 use native.Mathlib.Numerals.{add-one}
-use Rattle.model.specs.Complement.{joined}
+use Rattle.model.specs.Lists.{joined}
 use Rattle.sheets.specs.Decoded.{netOf}
 use Rattle.written.specs.Written.{bytes16}
 use Rattle.opened.proofs.Shapes.{sizes}
-use Rattle.complement.specs.Places.{firstPair, placeBytes}
+use Rattle.complement.specs.Places.{placeBytes}
+use Rattle.model.specs.Nets.{firstPair}
 use Rattle.complement.specs.Puts.{Puts}
 use Rattle.complement.proofs.PlaceHalves.{half-place, next-first}
 use Rattle.complement.proofs.Puts.{room-as, puts-as, puts-none, room-more, puts-more, puts-end}

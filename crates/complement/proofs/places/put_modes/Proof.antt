@@ -2,7 +2,7 @@
 use borrow.Author.Needs.{needs}
 use Prim.Native.Nat.{_≤_, _-_}
 use mathlib.Core.Path.{sym, ap}
-use Rattle.model.specs.Complement.{joined}
+use Rattle.model.specs.Lists.{joined}
 use Rattle.sheets.specs.Decoded.{netOf}
 use Rattle.written.specs.Written.{bytes16}
 use Rattle.written.proofs.Puts.{put-length}

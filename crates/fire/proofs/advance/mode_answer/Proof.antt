@@ -1,16 +1,13 @@
 -- The test as the definition has it.
 use borrow.Author.Needs.{needs}
 use borrow.Author.Tests.{le-leb, lt-leb}
-use Rattle.fire.specs.Parts.{absent}
 use Rattle.fire.proofs.advance.mode_answer.Statement.{statement}
 use Rattle.fire.proofs.advance.mode_answer.Tie as tie
 
 returns : tie.Need-returns
-unfolding absent
 returns c = rw (le-leb _ _ (c .before .if1 .taken)) (c .refused .ensures)
 
 returns-2 : tie.Need-returns-2
-unfolding absent
 returns-2 c = rw (lt-leb _ _ (c .if1 .left))
 
 pub mode-answer-spec : {M : Type 1} → statement M

@@ -6,12 +6,12 @@ use mathlib.Core.Option.{none}
 use Rattle.model.specs.First.{first}
 use Rattle.model.proofs.Refusals.{answer-first-at, answer-first-end, answer-first-more}
 use Rattle.sheets.specs.Decoded.{netOf}
-use Rattle.fire.specs.Parts.{countRefusal}
+use Rattle.model.specs.Markings.{countAtRefusal}
 use Rattle.fire.proofs.marking.each_count.Statement.{statement}
 use Rattle.fire.proofs.marking.each_count.Tie as tie
 
 abbrev Inv-loop : tie.InvT-loop
-Inv-loop s net marking pairs p₀ p = (p ≤ pairs) × (first p (countRefusal (netOf s) marking) ≡ none)
+Inv-loop s net marking pairs p₀ p = (p ≤ pairs) × (first p (countAtRefusal (netOf s) marking) ≡ none)
 
 abbrev μ-loop : tie.MeasureT-loop
 μ-loop s net marking pairs p₀ p = pairs - p

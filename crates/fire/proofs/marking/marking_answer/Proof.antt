@@ -3,7 +3,6 @@ use borrow.Author.Needs.{needs}
 use Rattle.model.specs.Markings.{markingRefusal}
 use Rattle.model.proofs.Refusals.{answer-passes, answer-fails}
 use Rattle.opened.proofs.Shapes.{sizes}
-use Rattle.fire.specs.Parts.{countRefusal}
 use Rattle.fire.proofs.Opened.{one-each, not-one-each}
 use Rattle.fire.proofs.marking.marking_answer.Statement.{statement}
 use Rattle.fire.proofs.marking.marking_answer.Tie as tie
@@ -15,7 +14,7 @@ returns c =
     answer-fails _ (not-one-each (start .pre) _ (c .before .if1 .taken)) (c .refused .ensures)
 
 returns-2 : tie.Need-returns-2
-unfolding markingRefusal countRefusal
+unfolding markingRefusal
 returns-2 c =
     let start = c .before .before .before .before .before in
     answer-passes _ _ (one-each (start .pre) _ (c .before .if1 .left)) (rw (sizes (start .pre) .pairs) at (c .each-count .ensures))

@@ -1,0 +1,81 @@
+-- All that is promised, in one record: open this file first. A field is a statement, of the file that its `use` line names; its term is in proofs/.
+use Rattle.model.specs.Promises as model
+use Rattle.model.specs.Edges.{Edges}
+use Rattle.model.specs.WorkedExamples.{WorkedExamples}
+use Rattle.model.specs.DemandThree.{Demand3}
+use Rattle.sheets.specs.Accepted.{AcceptedNet, AcceptedMovements, AcceptedWeights, SignedWeights}
+use Rattle.written.specs.Promises.{WrittenThenRead, ReadThenWritten, LargestSheet, ExampleLengths}
+use Rattle.fire.specs.Promises.{AcceptedBegin, AcceptedFire, RefusedFire, MarkingStays}
+use Rattle.run.specs.Promises.{RunsLeave, RunsKeep, Certified}
+use Rattle.weigh.specs.Promises.{FigureIsSum, ChangeIsSum, FigureFired}
+use Rattle.dead.specs.Promises.{SaysDead, NamesFirst}
+use Rattle.promises.specs.DemandOne.{DemandOne}
+use Rattle.promises.specs.DemandThree.{OverBytes}
+use Rattle.promises.specs.TwoRuns.{TwoRuns}
+use Rattle.promises.specs.FigureOverRun.{FigureOverRun}
+use Rattle.promises.specs.CallTables.{CallTables}
+use Rattle.promises.specs.Uniqueness.{Uniqueness}
+use Rattle.promises.specs.Frauds.{Frauds}
+use Rattle.promises.specs.OwnExample.{OwnExample}
+
+-- of nets, markings and lists of modes
+pub record OfNets : Type 0 where
+  pub refusalTable : model.RefusalTable
+  pub rule : model.Rule
+  pub modeRule : model.ModeRule
+  pub markingAfter : model.MarkingAfter
+  pub withoutArcs : model.WithoutArcs
+  pub markingTest : model.MarkingTest
+  pub markingKept : model.MarkingKept
+  pub runs : model.Runs
+  pub certificates : model.Certificates
+  pub figureAfter : model.FigureAfter
+  pub deadModes : model.DeadModes
+  pub firstDead : model.FirstDead
+  pub figure64 : model.Figure64
+  pub workedExamples : WorkedExamples
+  pub demand3 : Demand3
+  pub edges : Edges
+
+-- of sheets, read and written
+pub record OfSheets : Type 0 where
+  pub acceptedNet : AcceptedNet
+  pub acceptedMovements : AcceptedMovements
+  pub acceptedWeights : AcceptedWeights
+  pub signedWeights : SignedWeights
+  pub writtenThenRead : WrittenThenRead
+  pub readThenWritten : ReadThenWritten
+  pub largestSheet : LargestSheet
+  pub exampleLengths : ExampleLengths
+
+-- of the calls, over the bytes that they are given
+pub record OfCalls : Type 0 where
+  pub acceptedBegin : AcceptedBegin
+  pub acceptedFire : AcceptedFire
+  pub refusedFire : RefusedFire
+  pub markingStays : MarkingStays
+  pub runsLeave : RunsLeave
+  pub runsKeep : RunsKeep
+  pub certified : Certified
+  pub figureIsSum : FigureIsSum
+  pub changeIsSum : ChangeIsSum
+  pub figureFired : FigureFired
+  pub figureOverRun : FigureOverRun
+  pub saysDead : SaysDead
+  pub namesFirst : NamesFirst
+  pub overBytes : OverBytes
+  pub twoRuns : TwoRuns
+
+-- of the contracts of the calls
+pub record OfContracts : Type 0 where
+  pub demandOne : DemandOne
+  pub callTables : CallTables
+  pub uniqueness : Uniqueness
+  pub frauds : Frauds
+  pub ownExample : OwnExample
+
+pub record Promises : Type 0 where
+  pub nets : OfNets
+  pub sheets : OfSheets
+  pub calls : OfCalls
+  pub contracts : OfContracts
