@@ -1,6 +1,8 @@
 pub mod Continued
+pub mod Example
 pub mod LineSizes
 pub mod Stating
 pub mod Telling
+pub mod TextOfRun
 pub mod Texts
 pub mod Weighed

@@ -1,0 +1,22 @@
+-- Document 01's own example, computed from the bytes of its sheets.
+use mathlib.Core.Path.{refl}
+use Rattle.model.specs.First.{_▸_, first}
+use Rattle.model.specs.Nets.{entryAt}
+use Rattle.model.specs.Firing.{ruleRefusal, rowRefusal, modeRefusal, table, fired}
+use Rattle.model.specs.Figures.{sum, figure}
+use Rattle.nets.specs.Bytes.{u16At, u32At}
+use Rattle.nets.specs.Layout.{counts, pairCount, modeCount, arcCount}
+use Rattle.nets.specs.Checks.{headRefusal, countRefusal}
+use Rattle.nets.specs.Nets.{bound, runningRefusal, capacityRefusal, startRefusal, pairRefusal, risesTo, notRising, isBlank, arcNumbersRefusal, arcNamesRefusal, arcRefusal, arcFields, eachCount, countFields, pairAndArcFields, netFields, netRefusal}
+use Rattle.sheets.specs.Weights.{signed, weightRefusal, weightFields, weightsRefusal}
+use Rattle.sheets.specs.Movements.{movementFields, movementsRefusal}
+use Rattle.sheets.specs.Whole.{bytesAfter, wholeMovements, rest}
+use Rattle.sheets.specs.Decoded.{netArcAt, netOf, weightsOf, movementsOf}
+use Rattle.text.specs.Decimals.{decimalWithin, decimal, signedDecimal}
+use Rattle.statement.specs.Example.{Printed}
+use Rattle.statement.specs.Lines.{line, startLine, acceptedLine, refusedLine, endLine}
+use Rattle.statement.specs.Replay.{unlessRefused, linesFrom, runText, movementsText, weightsText, sheetsText, replayText}
+
+pub printed : Printed
+unfolding _▸_ first entryAt ruleRefusal rowRefusal modeRefusal table fired sum figure u16At u32At counts pairCount modeCount arcCount headRefusal countRefusal bound runningRefusal capacityRefusal startRefusal pairRefusal risesTo notRising isBlank arcNumbersRefusal arcNamesRefusal arcRefusal arcFields eachCount countFields pairAndArcFields netFields netRefusal signed weightRefusal weightFields weightsRefusal movementFields movementsRefusal bytesAfter wholeMovements rest netArcAt netOf weightsOf movementsOf decimalWithin decimal signedDecimal line startLine acceptedLine refusedLine endLine unlessRefused linesFrom runText movementsText weightsText sheetsText replayText
+printed = refl
