@@ -1,5 +1,3 @@
-pub mod Continued
-pub mod LineSizes
 pub mod Stating
 pub mod Telling
 pub mod Texts
