@@ -14,7 +14,7 @@ use Rattle.sheets.specs.Whole.{bytesAfter, wholeMovements, rest}
 use Rattle.sheets.specs.Decoded.{netArcAt, netOf, weightsOf, movementsOf}
 use Rattle.text.specs.Decimals.{decimalWithin, decimal, signedDecimal}
 use Rattle.statement.specs.Example.{Printed}
-use Rattle.statement.specs.Lines.{line, startLine, acceptedLine, refusedLine, endLine}
+use Rattle.lines.specs.Lines.{line, startLine, acceptedLine, refusedLine, endLine}
 use Rattle.statement.specs.Replay.{unlessRefused, linesFrom, runText, movementsText, weightsText, sheetsText, replayText}
 
 pub printed : Printed

@@ -1,6 +1,4 @@
-pub mod Continued
 pub mod Example
-pub mod LineSizes
 pub mod Stating
 pub mod Telling
 pub mod TextOfRun

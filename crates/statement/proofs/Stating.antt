@@ -15,7 +15,7 @@ use Rattle.text.proofs.Puts.{into-within, to-within, to-found, to-full}
 use Rattle.statement.specs.declared.Stated.{Stated}
 use Rattle.statement.specs.declared.Stated.the-variants.{Written, NoRoom}
 use Rattle.statement.specs.Contracts.{StatementAllows}
-use Rattle.statement.specs.Parts.{Continues}
+use Rattle.lines.specs.Continues.{Continues}
 use Rattle.statement.specs.Replay.{replayText, room, stated, statedIn}
 
 pub too-short : (input out : List ℕ) → length out < room → StatementAllows input out (NoRoom, out)

@@ -29,11 +29,12 @@ use Rattle.opened.proofs.Shapes.{sizes}
 use Rattle.fire.specs.Calls.{written}
 use Rattle.fire.specs.Parts.{Leaves}
 use Rattle.text.specs.declared.Put.{Put}
-use Rattle.statement.specs.Lines.{acceptedLine, refusedLine, endLine}
-use Rattle.statement.specs.Parts.{Continues, Read}
+use Rattle.lines.specs.Lines.{acceptedLine, refusedLine, endLine}
+use Rattle.statement.specs.Parts.{Read}
+use Rattle.lines.specs.Continues.{Continues}
 use Rattle.statement.specs.Replay.{unlessRefused, linesFrom}
-use Rattle.statement.proofs.Continued.{_and_, nothing, within}
-use Rattle.statement.proofs.LineSizes.{accepted-size}
+use Rattle.lines.proofs.Continued.{_and_, nothing, within}
+use Rattle.lines.proofs.LineSizes.{accepted-size}
 use Rattle.statement.proofs.Weighed.{figure-size}
 
 module _ (net : PNet) (weights : List ℤ) (ts : List Mode) (k : ℕ) (m : List ℕ) where

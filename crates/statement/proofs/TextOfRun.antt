@@ -13,7 +13,7 @@ use Rattle.model.specs.Nets.{PNet, modeNo}
 use Rattle.model.specs.Firing.{modeRefusal, fired}
 use Rattle.model.specs.Runs.{Outcome, goOn, runFrom, run}
 use Rattle.model.specs.Figures.{figure}
-use Rattle.statement.specs.Lines.{startLine, acceptedLine, refusedLine, endLine}
+use Rattle.lines.specs.Lines.{startLine, acceptedLine, refusedLine, endLine}
 use Rattle.statement.specs.Promises.{acceptedLines, lastLines, TextOfRun}
 use Rattle.statement.specs.Replay.{unlessRefused, linesFrom, runText}
 

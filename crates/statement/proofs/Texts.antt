@@ -14,10 +14,10 @@ use Rattle.model.specs.Nets.{PNet}
 use Rattle.model.specs.Figures.{figure}
 use Rattle.model.proofs.Refusals.{answer-refused, answer-none}
 use Rattle.text.specs.declared.Put.{Put}
-use Rattle.statement.specs.Lines.{startLine, badLine}
-use Rattle.statement.specs.Parts.{Continues}
+use Rattle.lines.specs.Lines.{startLine, badLine}
+use Rattle.lines.specs.Continues.{Continues}
 use Rattle.statement.specs.Replay.{unlessRefused, linesFrom, runText, room}
-use Rattle.statement.proofs.Continued.{_and_, within}
+use Rattle.lines.proofs.Continued.{_and_, within}
 use Rattle.statement.proofs.Telling.{mostLines}
 
 module _ {out : List ℕ} {before put : Put} {now : List ℕ} where

@@ -10,7 +10,7 @@ use Rattle.model.specs.Nets.{PNet, modeNo}
 use Rattle.model.specs.Firing.{fired}
 use Rattle.model.specs.Runs.{Outcome, run}
 use Rattle.model.specs.Figures.{figure}
-use Rattle.statement.specs.Lines.{startLine, acceptedLine, refusedLine, endLine}
+use Rattle.lines.specs.Lines.{startLine, acceptedLine, refusedLine, endLine}
 use Rattle.statement.specs.Replay.{runText}
 
 module _ (net : PNet) (weights : List ℤ) where

@@ -19,7 +19,7 @@ use Rattle.sheets.specs.Whole.{wholeMovements, rest}
 use Rattle.sheets.specs.Decoded.{netOf, weightsOf, movementsOf}
 use Rattle.statement.specs.declared.Stated.{Stated}
 use Rattle.statement.specs.declared.Stated.the-variants.{Written, NoRoom}
-use Rattle.statement.specs.Lines.{startLine, acceptedLine, refusedLine, endLine, badLine, longLine}
+use Rattle.lines.specs.Lines.{startLine, acceptedLine, refusedLine, endLine, badLine, longLine}
 
 -- a text, or what is printed of a refusal in its stead: "A bad sheet prints only `bad`, the thing, the number and the position."
 unfoldable pub unlessRefused : Option Refusal → List ℕ → (Refusal → List ℕ) → List ℕ

@@ -1,8 +1,8 @@
 // The three sheets of an input, each read in the part after the one before it: "A bad sheet prints only `bad`".
-use crate::lines::put_bad;
-use crate::lines::put_start;
 use crate::movements::put_movements;
 use fire::start::write_start;
+use lines::put_bad;
+use lines::put_start;
 use model::Answer;
 use nets::net::read_net;
 use opened::shape::NetShape;
@@ -20,7 +20,8 @@ ghost use Rattle.model.specs.Refusals.{answer};
 ghost use Rattle.sheets.specs.Weights.{weightsRefusal};
 ghost use Rattle.sheets.specs.Decoded.{netOf, weightsOf, movementsOf};
 ghost use Rattle.opened.specs.Shape.{Open};
-ghost use Rattle.statement.specs.Parts.{Continues, Read};
+ghost use Rattle.statement.specs.Parts.{Read};
+ghost use Rattle.lines.specs.Continues.{Continues};
 ghost use Rattle.statement.specs.Replay.{runText, movementsText, weightsText, sheetsText, room};
 
 // The net's first marking and its figure, then the movements.

@@ -1,14 +1,12 @@
 // From replay's input to replay's output (document 01, "`replay`").
 mod input;
-mod lines;
 mod movements;
-mod words;
 
 use crate::input::put_sheets;
-use crate::lines::put_long;
+use lines::put_long;
 use text::Put;
 ghost use Rattle.statement.specs.Contracts.{StatementAllows};
-ghost use Rattle.statement.specs.Parts.{Continues};
+ghost use Rattle.lines.specs.Continues.{Continues};
 ghost use Rattle.statement.specs.Replay.{replayText, room};
 
 // How many bytes were written, or a slice too short for every text: then none was.

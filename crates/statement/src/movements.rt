@@ -1,8 +1,8 @@
 // The movements of a list, a line each, up to the first that is refused, and `end`.
-use crate::lines::put_accepted;
-use crate::lines::put_end;
-use crate::lines::put_refused;
 use fire::advance::advance;
+use lines::put_accepted;
+use lines::put_end;
+use lines::put_refused;
 use model::Answer;
 use model::Mode;
 use model::Refusal;
@@ -23,8 +23,9 @@ ghost use Rattle.sheets.specs.Weights.{weightsRefusal};
 ghost use Rattle.sheets.specs.Decoded.{netOf, weightsOf, movementsOf};
 ghost use Rattle.opened.specs.Shape.{Open};
 ghost use Rattle.opened.specs.Starts.{StartsAre};
-ghost use Rattle.statement.specs.Lines.{refusedLine, endLine};
-ghost use Rattle.statement.specs.Parts.{Continues, Read};
+ghost use Rattle.lines.specs.Lines.{refusedLine, endLine};
+ghost use Rattle.statement.specs.Parts.{Read};
+ghost use Rattle.lines.specs.Continues.{Continues};
 ghost use Rattle.statement.specs.Replay.{linesFrom};
 
 // The figure once the mode has fired: at most 256 pairs of a weight and a count within 1,000,000, so the sum is exact.

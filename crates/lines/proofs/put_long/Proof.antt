@@ -1,0 +1,12 @@
+-- The one word.
+use Rattle.lines.specs.Lines.{line, longLine}
+use borrow.Author.Needs.{needs}
+use Rattle.lines.proofs.put_long.Statement.{statement}
+use Rattle.lines.proofs.put_long.Tie as tie
+
+returns : tie.Need-returns
+unfolding line longLine
+returns c = c .before .before .then-bytes .ensures
+
+pub put-long-spec : {M : Type 1} → statement M
+put-long-spec = tie.close (tie.spec (λ c. search needs) (λ c κs. search needs) (λ c. search needs) returns)
