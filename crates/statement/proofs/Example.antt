@@ -1,8 +1,9 @@
 -- Document 01's own example, computed from the bytes of its sheets.
 use mathlib.Core.Path.{refl}
 use Rattle.model.specs.First.{_▸_, first}
+use Rattle.model.specs.Lists.{table}
 use Rattle.model.specs.Nets.{entryAt}
-use Rattle.model.specs.Firing.{ruleRefusal, rowRefusal, modeRefusal, table, fired}
+use Rattle.model.specs.Firing.{ruleRefusal, rowRefusal, modeRefusal, fired}
 use Rattle.model.specs.Figures.{sum, figure}
 use Rattle.nets.specs.Bytes.{u16At, u32At}
 use Rattle.nets.specs.Layout.{counts, pairCount, modeCount, arcCount}
