@@ -1,14 +1,14 @@
--- Two inputs whose answers have different numbers exclude every constant answer.
-use Prim.Native.Nat.{ℕ, _≤_}
+-- An input with the number 0 alone and one that never has it exclude every constant answer.
+use Prim.Native.Nat.{ℕ, _≤_, _<_}
 use mathlib.Core.Path.{_≡_, refl, sym, _∙_, ap}
 use mathlib.Core.Bool.{Bool, true, false}
 use mathlib.Core.List.{List, [], _∷_, append-nil}
-use mathlib.Core.Logic.{_≢_}
 use mathlib.Core.Option.{Option, none, some}
 use lib.Dec.{eqb}
-use lib.ListN.{length}
+use lib.IntN.{pos}
+use lib.ListN.{length, replicate, length-replicate}
 use native.Mathlib.Omega.{arith}
-use borrow.Author.Tests.{eqb-true, eqb-false}
+use borrow.Author.Tests.{eqb-true, eqb-false, lt-ltb, le-ltb}
 use Rattle.model.specs.declared.Thing.{Thing}
 use Rattle.model.specs.declared.Thing.the-variants.{Net, Weights, Movements}
 use Rattle.model.specs.declared.Fault.the-variants.{CutShort}
@@ -34,25 +34,31 @@ use Rattle.dead.specs.IsDead as one
 use Rattle.dead.specs.FirstDead as first
 use Rattle.complement.specs.Complemented.{complementingRefusal}
 use Rattle.complement.specs.Complemented as complementing
+use Rattle.text.specs.declared.Put.{Put}
+use Rattle.text.specs.Decimals.{digit, decimal, decimalWithin, signedDecimal}
+use Rattle.text.specs.Puts.{endWithin, putTo}
+use Rattle.text.specs.Contracts.{PutBytesAllows}
+use Rattle.statement.specs.declared.Stated.{Stated}
+use Rattle.statement.specs.Replay.{room, stated}
+use Rattle.statement.specs.Contracts.{StatementAllows}
+use Rattle.abi.specs.Told.{textTold}
 use Rattle.promises.specs.OwnExample as own
-use Rattle.promises.specs.ConstantAnswers.{Only, Never, NotConstant, Varies, PartVaries, ConstantAnswers}
+use Rattle.promises.specs.ConstantAnswers.{Only, Never, NotConstant, Varies, PartVaries, full, ConstantAnswers}
 use Rattle.promises.proofs.OwnExample.{read-back, weights-read, movements-read, tests, runs-whole, own-example}
 
 module _ {I O : Type 0} (Allows : I → O → Type 0) (number : O → ℕ) where
-  two-numbers : {m n : ℕ} (i j : I) → Only Allows number m i → Only Allows number n j → m ≢ n → NotConstant Allows number
-  two-numbers {m} {n} i j here there apart o = go (eqb (number o) m) refl
+  not-constant : (i j : I) → Only Allows number 0 i → Never Allows number 0 j → NotConstant Allows number
+  not-constant i j here there o = go (eqb (number o) 0) refl
     where
-      go : (b : Bool) → eqb (number o) m ≡ b → (given : I) × Never Allows number (number o) given
-      go true e = (j, λ p a q. apart (sym (eqb-true (number o) m e) ∙ sym q ∙ there p a))
-      go false e = (i, λ p a q. eqb-false (number o) m e (sym q ∙ here p a))
+      go : (b : Bool) → eqb (number o) 0 ≡ b → (given : I) × Never Allows number (number o) given
+      go true e = (j, λ p a q. there p a (q ∙ eqb-true (number o) 0 e))
+      go false e = (i, λ p a q. eqb-false (number o) 0 e (sym q ∙ here p a))
+
+  pub accepts-and-refuses : (i j : I) → Only Allows number 0 i → Never Allows number 0 j → Varies Allows number
+  accepts-and-refuses i j here there = record { notAllRefused = (i, here); notAllAccepted = (j, there); notConstant = not-constant i j here there }
 
   varies : (i j : I) → Only Allows number 0 i → Only Allows number 1 j → Varies Allows number
-  varies i j here there =
-      record {
-        notAllRefused = (i, here);
-        notAllAccepted = (j, λ o a e. omega (arith, there o a));
-        notConstant = two-numbers i j here there (λ e. omega arith);
-      }
+  varies i j here there = accepts-and-refuses i j here (λ o a e. omega (arith, there o a))
 
 -- a part of length 0 and one of length 1
 module _ {I : Type 0} (Allows : I → List ℕ → Type 0) (run : I → List ℕ) where
@@ -60,7 +66,7 @@ module _ {I : Type 0} (Allows : I → List ℕ → Type 0) (run : I → List ℕ
   part-varies i j here there held =
       record {
         notWholeRun = (i, λ a. omega (arith, here (run i) a));
-        notConstant = two-numbers Allows length i j here there (λ e. omega arith);
+        notConstant = not-constant Allows length i j here (λ o a e. omega (arith, there o a));
       }
 
 -- a lone byte is refused by 1, and so is any call that is given one for its net
@@ -145,8 +151,33 @@ back-whole : {o : Option Refusal} {r : Refusal} (s : List ℕ) → o ≡ some r 
 unfolding rest
 back-whole s e = rw e
 
+-- the one digit of 0 in a slice of one byte and in an empty one
+abbrev digits : List ℕ
+digits = digit 0 ∷ []
+
+fits : (o : Put × List ℕ) → PutBytesAllows lone 0 digits o → full (o .0) ≡ 0
+unfolding putTo endWithin
+fits o a = ap full (a .0)
+
+no-room : (o : Put × List ℕ) → PutBytesAllows [] 0 digits o → full (o .0) ≡ 1
+unfolding putTo endWithin
+no-room o a = ap full (a .0)
+
+-- a slice for the text of `replay`, whose length is never counted out
+slice : (n : ℕ) → (out : List ℕ) × (n ≤ length out)
+slice n = (replicate n 0, omega (arith, length-replicate {A = ℕ} n 0))
+
+module _ (input out : List ℕ) (o : Stated × List ℕ) (allowed : StatementAllows input out o) where
+  text-written : room ≤ length out → textTold (o .0) .number ≡ 0
+  unfolding stated
+  text-written h = ap (λ s. textTold s .number) (allowed .0) ∙ rw (le-ltb (length out) room h)
+
+  text-refused : length out < room → textTold (o .0) .number ≡ 10
+  unfolding stated
+  text-refused h = ap (λ s. textTold s .number) (allowed .0) ∙ rw (lt-ltb (length out) room h)
+
 pub constant-answers : ConstantAnswers
-unfolding wholeNet wholeWeights wholeMovements beginRefusal testRefusal runOf certifyRefusal figured
+unfolding wholeNet wholeWeights wholeMovements beginRefusal testRefusal runOf certifyRefusal figured decimal decimalWithin signedDecimal
 constant-answers =
     record {
       readNet = varies _ _ own.net lone (says net-accepted) (says net-cut);
@@ -181,4 +212,10 @@ constant-answers =
       complement =
           varies _ _ (own.net, own.room) (lone, []) (λ o a. ap (λ r. r .number) (own-example .complement o a))
           (λ o a. ap (λ o. complementing.told o .number) (a .0) ∙ rw complement-cut);
+      putBytes = varies _ _ (lone, 0, digits) ([], 0, digits) fits no-room;
+      putDecimal = varies _ _ (lone, 0, 0) ([], 0, 0) fits no-room;
+      putSigned = varies _ _ (lone, 0, pos 0) ([], 0, pos 0) fits no-room;
+      statement =
+          accepts-and-refuses _ _ ([], slice room .0) ([], []) (λ o a. text-written [] (slice room .0) o a (slice room .1))
+          (λ o a e. omega (arith, text-refused [] [] o a (omega arith)));
     }

@@ -1,9 +1,17 @@
 -- The frauds that document 01 names.
 use Rattle.promises.specs.Frauds.{Frauds}
 use Rattle.promises.proofs.ConstantAnswers.{constant-answers}
+use Rattle.promises.proofs.ConstantAnswersForC.{constant-answers-for-c}
 use Rattle.promises.proofs.WritesNothing.{writes-nothing}
 use Rattle.promises.proofs.CopiesNet.{copies-net}
 use Rattle.promises.proofs.RunFrauds.{run-frauds}
 
 pub frauds : Frauds
-frauds = record { constant = constant-answers; firing = writes-nothing; copying = copies-net; running = run-frauds }
+frauds =
+    record {
+      constant = constant-answers;
+      constantForC = constant-answers-for-c;
+      firing = writes-nothing;
+      copying = copies-net;
+      running = run-frauds;
+    }

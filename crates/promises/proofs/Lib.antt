@@ -5,6 +5,7 @@ pub mod FigureOverRun
 pub mod Uniqueness
 pub mod OwnExample
 pub mod ConstantAnswers
+pub mod ConstantAnswersForC
 pub mod Accepting
 pub mod WritesNothing
 pub mod CopiesNet

@@ -1,12 +1,31 @@
 -- A contract that is an equation, or one for the answer and one for the lent slice, allows one outcome.
 use mathlib.Core.Path.{_≡_, sym, _∙_, ap₂}
-use Rattle.promises.specs.Uniqueness.{Unique, Uniqueness}
+use Rattle.promises.specs.Uniqueness.{Unique, UniqueForC, Uniqueness}
 
 one-answer : {A : Type 0} (given : A) → Unique (λ o. o ≡ given)
 one-answer given o o′ e e′ = e ∙ sym e′
 
 answer-and-slice : {A B : Type 0} (given : A) (left : B) → Unique {A = A × B} (λ o. (o .0 ≡ given) × (o .1 ≡ left))
 answer-and-slice {A} {B} given left o o′ e e′ = ap₂ {C = A × B} (λ a b. (a, b)) (e .0 ∙ sym (e′ .0)) (e .1 ∙ sym (e′ .1))
+
+for-c : UniqueForC
+for-c =
+    record {
+      readNet = λ s. one-answer _;
+      readWeights = λ s pairs. one-answer _;
+      readMovements = λ s. one-answer _;
+      begin = λ net marking. answer-and-slice _ _;
+      test = λ net marking t. one-answer _;
+      fire = λ net marking t. answer-and-slice _ _;
+      run = λ net movements marking. answer-and-slice _ _;
+      certify = λ net movements claim. one-answer _;
+      figure = λ net weights marking. one-answer _;
+      change = λ net weights t. one-answer _;
+      isDead = λ net t. one-answer _;
+      firstDead = λ net. one-answer _;
+      complement = λ net out. answer-and-slice _ _;
+      statement = λ input out. answer-and-slice _ _;
+    }
 
 pub uniqueness : Uniqueness
 uniqueness =
@@ -30,4 +49,9 @@ uniqueness =
       isDead = λ net t. one-answer _;
       firstDead = λ net. one-answer _;
       complement = λ net out. answer-and-slice _ _;
+      putBytes = λ out at bytes. answer-and-slice _ _;
+      putDecimal = λ out at n. answer-and-slice _ _;
+      putSigned = λ out at z. answer-and-slice _ _;
+      statement = λ input out. answer-and-slice _ _;
+      forC = for-c;
     }

@@ -3,6 +3,7 @@ use Prim.Native.Nat.{ℕ}
 use mathlib.Core.Path.{_≡_}
 use mathlib.Core.List.{List}
 use mathlib.Core.Logic.{_≢_}
+use lib.IntN.{ℤ}
 use lib.ListN.{length}
 use Rattle.model.specs.declared.Mode.{Mode}
 use Rattle.model.specs.Refusals.{number}
@@ -17,6 +18,11 @@ use Rattle.dead.specs.FirstDead as first
 use Rattle.dead.specs.Contracts.{IsDeadAllows, FirstDeadAllows}
 use Rattle.complement.specs.Complemented as complementing
 use Rattle.complement.specs.Contracts.{ComplementAllows}
+use Rattle.text.specs.declared.Put.{Put}
+use Rattle.text.specs.declared.Put.the-variants.{To, Full}
+use Rattle.text.specs.Contracts.{PutBytesAllows, PutDecimalAllows, PutSignedAllows}
+use Rattle.statement.specs.Contracts.{StatementAllows}
+use Rattle.abi.specs.Told.{textTold}
 
 -- what a call is given, the outcomes that its contract then allows, and the number of an outcome's answer
 module _ {I O : Type 0} (Allows : I → O → Type 0) (number : O → ℕ) where
@@ -40,7 +46,12 @@ pub record PartVaries {I : Type 0} (Allows : I → List ℕ → Type 0) (run : I
   pub notWholeRun : (given : I) × (¬ Allows given (run given))
   pub notConstant : NotConstant Allows length
 
--- a field for each public call
+-- a put has no number of document 01: 0 where the bytes are put, 1 where there is no room for them
+abbrev pub full : Put → ℕ
+full (To after) = 0
+full Full = 1
+
+-- a field for each public call; the text of `replay` has the number that C is told
 pub record ConstantAnswers : Type 0 where
   pub readNet : Varies ReadNetAllows number
   pub readWeights : Varies (λ (i : List ℕ × ℕ). ReadWeightsAllows (i .0) (i .1)) number
@@ -61,3 +72,7 @@ pub record ConstantAnswers : Type 0 where
   pub isDead : Varies (λ (i : List ℕ × Mode). IsDeadAllows (i .0) (i .1)) (λ o. one.told o .number)
   pub firstDead : Varies FirstDeadAllows (λ o. first.told o .number)
   pub complement : Varies (λ (i : List ℕ × List ℕ). ComplementAllows (i .0) (i .1)) (λ o. complementing.told (o .0) .number)
+  pub putBytes : Varies (λ (i : List ℕ × ℕ × List ℕ). PutBytesAllows (i .0) (i .1) (i .2)) (λ o. full (o .0))
+  pub putDecimal : Varies (λ (i : List ℕ × ℕ × ℕ). PutDecimalAllows (i .0) (i .1) (i .2)) (λ o. full (o .0))
+  pub putSigned : Varies (λ (i : List ℕ × ℕ × ℤ). PutSignedAllows (i .0) (i .1) (i .2)) (λ o. full (o .0))
+  pub statement : Varies (λ (i : List ℕ × List ℕ). StatementAllows (i .0) (i .1)) (λ o. textTold (o .0) .number)

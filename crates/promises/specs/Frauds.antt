@@ -21,6 +21,7 @@ use Rattle.complement.specs.Complemented.{told}
 use Rattle.complement.specs.Contracts.{ComplementAllows}
 use Rattle.promises.specs.OwnExample as own
 use Rattle.promises.specs.ConstantAnswers.{ConstantAnswers}
+use Rattle.promises.specs.ConstantAnswersForC.{ConstantAnswersForC}
 
 -- "A firing that writes nothing breaks demand 2's rule": an accepted firing of a mode that takes from some pair another number than it gives leaves another marking
 pub record WritesNothing : Type 0 where
@@ -74,6 +75,7 @@ pub record RunFrauds : Type 0 where
 
 pub record Frauds : Type 0 where
   pub constant : ConstantAnswers
+  pub constantForC : ConstantAnswersForC
   pub firing : WritesNothing
   pub copying : CopiesNet
   pub running : RunFrauds

@@ -6,5 +6,6 @@ pub mod FigureOverRun
 pub mod Uniqueness
 pub mod OwnExample
 pub mod ConstantAnswers
+pub mod ConstantAnswersForC
 pub mod Frauds
 pub mod CallTables

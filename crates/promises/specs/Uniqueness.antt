@@ -2,6 +2,7 @@
 use Prim.Native.Nat.{ℕ}
 use mathlib.Core.Path.{_≡_}
 use mathlib.Core.List.{List}
+use lib.IntN.{ℤ}
 use Rattle.model.specs.declared.Mode.{Mode}
 use Rattle.sheets.specs.Contracts.{ReadWeightsAllows, ReadMovementsAllows, AfterNetAllows, AfterWeightsAllows, AfterMovementsAllows, WholeNetAllows, WholeWeightsAllows, WholeMovementsAllows}
 use Rattle.nets.specs.Contracts.{ReadNetAllows}
@@ -10,10 +11,30 @@ use Rattle.run.specs.Contracts.{RunAllows, CertifyAllows}
 use Rattle.weigh.specs.Contracts.{FigureAllows, ChangeAllows}
 use Rattle.dead.specs.Contracts.{IsDeadAllows, FirstDeadAllows}
 use Rattle.complement.specs.Contracts.{ComplementAllows}
+use Rattle.text.specs.Contracts.{PutBytesAllows, PutDecimalAllows, PutSignedAllows}
+use Rattle.statement.specs.Contracts.{StatementAllows}
+use Rattle.abi.specs.Contracts as c
 
 -- any two outcomes that a contract allows are equal
 abbrev pub Unique : {A : Type 0} → (A → Type 0) → Type 0
 Unique {A} Allows = (o o′ : A) → Allows o → Allows o′ → o ≡ o′
+
+-- the calls for C
+pub record UniqueForC : Type 0 where
+  pub readNet : (s : List ℕ) → Unique (c.ReadNetAllows s)
+  pub readWeights : (s : List ℕ) (pairs : ℕ) → Unique (c.ReadWeightsAllows s pairs)
+  pub readMovements : (s : List ℕ) → Unique (c.ReadMovementsAllows s)
+  pub begin : (net marking : List ℕ) → Unique (c.BeginAllows net marking)
+  pub test : (net marking : List ℕ) (t : Mode) → Unique (c.TestAllows net marking t)
+  pub fire : (net marking : List ℕ) (t : Mode) → Unique (c.FireAllows net marking t)
+  pub run : (net movements marking : List ℕ) → Unique (c.RunAllows net movements marking)
+  pub certify : (net movements claim : List ℕ) → Unique (c.CertifyAllows net movements claim)
+  pub figure : (net weights marking : List ℕ) → Unique (c.FigureAllows net weights marking)
+  pub change : (net weights : List ℕ) (t : Mode) → Unique (c.ChangeAllows net weights t)
+  pub isDead : (net : List ℕ) (t : Mode) → Unique (c.IsDeadAllows net t)
+  pub firstDead : (net : List ℕ) → Unique (c.FirstDeadAllows net)
+  pub complement : (net out : List ℕ) → Unique (c.ComplementAllows net out)
+  pub statement : (input out : List ℕ) → Unique (c.StatementAllows input out)
 
 -- a field for each public call, for all that it may be given
 pub record Uniqueness : Type 0 where
@@ -36,3 +57,8 @@ pub record Uniqueness : Type 0 where
   pub isDead : (net : List ℕ) (t : Mode) → Unique (IsDeadAllows net t)
   pub firstDead : (net : List ℕ) → Unique (FirstDeadAllows net)
   pub complement : (net out : List ℕ) → Unique (ComplementAllows net out)
+  pub putBytes : (out : List ℕ) (at : ℕ) (bytes : List ℕ) → Unique (PutBytesAllows out at bytes)
+  pub putDecimal : (out : List ℕ) (at n : ℕ) → Unique (PutDecimalAllows out at n)
+  pub putSigned : (out : List ℕ) (at : ℕ) (z : ℤ) → Unique (PutSignedAllows out at z)
+  pub statement : (input out : List ℕ) → Unique (StatementAllows input out)
+  pub forC : UniqueForC
