@@ -20,6 +20,8 @@ use Rattle.dead.proofs.Promises.{says-dead, names-first}
 use Rattle.promises.specs.Promises.{Promises}
 use Rattle.promises.proofs.DemandOne.{demand-one}
 use Rattle.promises.proofs.DemandThree.{over-bytes}
+use Rattle.statement.proofs.TextOfRun.{text-of-run}
+use Rattle.statement.proofs.Example.{printed}
 use Rattle.promises.proofs.TwoRuns.{two-runs}
 use Rattle.promises.proofs.FigureOverRun.{figure-over-run}
 use Rattle.promises.proofs.CallTables.{call-tables}
@@ -77,6 +79,8 @@ promises =
             namesFirst = names-first;
             overBytes = over-bytes;
             twoRuns = two-runs;
+            textOfRun = text-of-run;
+            printed = printed;
           };
       contracts = record { demandOne = demand-one; callTables = call-tables; uniqueness = uniqueness; frauds = frauds; ownExample = own-example };
     }

@@ -11,6 +11,8 @@ use Rattle.weigh.specs.Promises.{FigureIsSum, ChangeIsSum, FigureFired}
 use Rattle.dead.specs.Promises.{SaysDead, NamesFirst}
 use Rattle.promises.specs.DemandOne.{DemandOne}
 use Rattle.promises.specs.DemandThree.{OverBytes}
+use Rattle.statement.specs.Promises.{TextOfRun}
+use Rattle.statement.specs.Example.{Printed}
 use Rattle.promises.specs.TwoRuns.{TwoRuns}
 use Rattle.promises.specs.FigureOverRun.{FigureOverRun}
 use Rattle.promises.specs.CallTables.{CallTables}
@@ -65,6 +67,8 @@ pub record OfCalls : Type 0 where
   pub namesFirst : NamesFirst
   pub overBytes : OverBytes
   pub twoRuns : TwoRuns
+  pub textOfRun : TextOfRun
+  pub printed : Printed
 
 -- of the contracts of the calls
 pub record OfContracts : Type 0 where
