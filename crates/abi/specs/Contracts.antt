@@ -5,8 +5,8 @@ use mathlib.Core.List.{List}
 use Rattle.model.specs.declared.Mode.{Mode}
 use Rattle.model.specs.Refusals.{answer}
 use Rattle.nets.specs.Nets.{netRefusal}
-use Rattle.sheets.specs.Weights.{weightsRefusal}
-use Rattle.sheets.specs.Movements.{movementsRefusal}
+use Rattle.lists.specs.Weights.{weightsRefusal}
+use Rattle.lists.specs.Movements.{movementsRefusal}
 use Rattle.fire.specs.Calls.{beginRefusal, begun, testRefusal, firedBy}
 use Rattle.run.specs.Calls.{ranOf, runOf, certifyRefusal}
 use Rattle.weigh.specs.Calls as weigh
@@ -14,12 +14,13 @@ use Rattle.dead.specs.IsDead as one
 use Rattle.dead.specs.FirstDead as first
 use Rattle.complement.specs.Complemented as complement
 use Rattle.statement.specs.Replay.{stated, statedIn}
-use Rattle.abi.specs.declared.answers.Answered.{Answered}
-use Rattle.abi.specs.declared.answers.Counted.{Counted}
-use Rattle.abi.specs.declared.answers.Weighed.{Weighed}
-use Rattle.abi.specs.declared.answers.Decided.{Decided}
-use Rattle.abi.specs.declared.answers.Named.{Named}
-use Rattle.abi.specs.Told.{answered, counted, weighed, decided, named, textTold, ran, taken}
+use Rattle.answers.specs.declared.Answered.{Answered}
+use Rattle.answers.specs.declared.Counted.{Counted}
+use Rattle.answers.specs.declared.Weighed.{Weighed}
+use Rattle.answers.specs.declared.Decided.{Decided}
+use Rattle.answers.specs.declared.Named.{Named}
+use Rattle.answers.specs.Told.{answered, counted, weighed, decided, named, textTold}
+use Rattle.abi.specs.Told.{ran, taken}
 
 -- the readers, on a run of bytes
 module _ (s : List ℕ) where

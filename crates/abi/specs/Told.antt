@@ -1,61 +1,12 @@
--- What a call tells C: document 01's number, thing and position of its answer, and the value, 0 where a refused call has none.
+-- What the calls for C tell of a run and of a reader; of the others: Told.antt of the crate answers.
 use Prim.Native.Nat.{ℕ, _-_}
-use mathlib.Core.Bool.{Bool, true, false}
 use mathlib.Core.List.{List}
-use mathlib.Core.Option.{Option, none, some}
-use lib.IntN.{ℤ, pos}
 use lib.ListN.{length}
-use Rattle.model.specs.declared.Thing.the-variants.{Net}
-use Rattle.model.specs.declared.Fault.the-variants.{NoRoom as NoRoomFor}
 use Rattle.model.specs.declared.Answer.{Answer}
-use Rattle.model.specs.Refusals.{number, thing, position}
-use Rattle.model.specs.Replies.{Reply, yields, refuses}
-use Rattle.model.specs.Nets.{pairNo, modeNo}
-use Rattle.model.specs.Dead.{DeadMode}
 use Rattle.sheets.specs.Whole.{rest}
 use Rattle.run.specs.declared.Ran.{Ran}
-use Rattle.statement.specs.declared.Stated.{Stated}
-use Rattle.statement.specs.declared.Stated.the-variants.{Written, NoRoom}
-use Rattle.abi.specs.declared.answers.Answered.{Answered}
-use Rattle.abi.specs.declared.answers.Counted.{Counted}
-use Rattle.abi.specs.declared.answers.Weighed.{Weighed}
-use Rattle.abi.specs.declared.answers.Decided.{Decided}
-use Rattle.abi.specs.declared.answers.Named.{Named}
-
--- an answer without a value
-abbrev pub answered : Answer → Answered
-answered a = record { number = number a; thing = thing a; position = position a }
-
-module _ {A : Type 0} where
-  -- an answer with one
-  abbrev pub replied : Reply A → Answered
-  replied r = record { number = r .number; thing = r .thing; position = r .position }
-
-  abbrev pub valueOr : A → Option A → A
-  valueOr nothing none = nothing
-  valueOr nothing (some a) = a
-
-abbrev pub counted : Reply ℕ → Counted
-counted r = record { answer = replied r; value = valueOr 0 (r .value) }
-
-abbrev pub weighed : Reply ℤ → Weighed
-weighed r = record { answer = replied r; value = valueOr (pos 0) (r .value) }
-
-abbrev pub decided : Reply Bool → Decided
-decided r = record { answer = replied r; value = valueOr false (r .value) }
-
--- a mode and its pair, where one was found
-abbrev pub naming : Answered → Option DeadMode → Named
-naming a none = record { answer = a; found = false; mode = modeNo 0; pair = pairNo 0 }
-naming a (some d) = record { answer = a; found = true; mode = d .mode; pair = d .pair }
-
-abbrev pub named : Reply (Option DeadMode) → Named
-named r = naming (replied r) (valueOr none (r .value))
-
--- the text of `replay`; 10: "or the output slice is shorter than it"
-abbrev pub textTold : Stated → Reply ℕ
-textTold (Written length) = yields length
-textTold NoRoom = refuses (record { thing = Net; fault = NoRoomFor })
+use Rattle.answers.specs.declared.Counted.{Counted}
+use Rattle.answers.specs.Told.{answered}
 
 -- A run "returns how many were accepted", of a refused run too.
 abbrev pub ran : Ran → Counted

@@ -1,6 +1,6 @@
 // The complement of a net.
-use crate::answers::Counted;
-use crate::answers::tell_length;
+use answers::Counted;
+use answers::tell_length;
 use complement::complement;
 ghost use Rattle.abi.specs.Contracts.{ComplementAllows};
 

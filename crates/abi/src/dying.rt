@@ -1,8 +1,8 @@
 // Locally dead modes.
-use crate::answers::Decided;
-use crate::answers::Named;
-use crate::answers::tell_deadness;
-use crate::answers::tell_first_dead;
+use answers::Decided;
+use answers::Named;
+use answers::tell_deadness;
+use answers::tell_first_dead;
 use dead::first_dead;
 use dead::is_dead;
 use model::Mode;

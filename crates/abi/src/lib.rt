@@ -1,5 +1,4 @@
 // The public calls for C (include/pnet.h). Each hands its arguments to its library's call, and its answer back as a struct by value.
-mod answers;
 pub mod complementing;
 pub mod dying;
 pub mod moving;

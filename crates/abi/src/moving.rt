@@ -1,7 +1,7 @@
 // Movements over a lent marking.
-use crate::answers::Answered;
-use crate::answers::Counted;
-use crate::answers::tell;
+use answers::Answered;
+use answers::Counted;
+use answers::tell;
 use fire::begin;
 use fire::fire;
 use fire::test;

@@ -1,13 +1,13 @@
 // The readers: instead of the part after the sheet, how many bytes the sheet takes.
-use crate::answers::Counted;
-use crate::answers::tell;
+use answers::Counted;
+use answers::tell;
+use heads::head::sheet_end;
+use lists::movements::read_movements;
+use lists::weights::read_weights;
 use model::Answer;
-use nets::head::sheet_end;
 use nets::net::read_net;
-use sheets::movements::read_movements;
-use sheets::weights::read_weights;
 ghost use mathlib.Core.Path.{_≡_};
-ghost use Rattle.nets.specs.Held.{Headed};
+ghost use Rattle.heads.specs.Held.{Headed};
 ghost use Rattle.abi.specs.Told.{taken};
 ghost use Rattle.abi.specs.Contracts.{ReadNetAllows, ReadWeightsAllows, ReadMovementsAllows};
 

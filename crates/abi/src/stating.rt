@@ -1,6 +1,6 @@
 // The text of `replay`.
-use crate::answers::Counted;
-use crate::answers::tell_text;
+use answers::Counted;
+use answers::tell_text;
 use statement::statement;
 ghost use Rattle.abi.specs.Contracts.{StatementAllows};
 

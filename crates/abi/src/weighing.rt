@@ -1,6 +1,6 @@
 // Kilograms: the figure of a marking, a mode's weight change.
-use crate::answers::Weighed;
-use crate::answers::tell_kilograms;
+use answers::Weighed;
+use answers::tell_kilograms;
 use model::Mode;
 use weigh::change;
 use weigh::figure;

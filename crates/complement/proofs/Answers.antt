@@ -12,7 +12,7 @@ use Rattle.model.specs.declared.Thing.the-variants.{Net}
 use Rattle.model.specs.declared.Fault.the-variants.{NoRoom}
 use Rattle.model.specs.declared.Refusal.{Refusal}
 use Rattle.model.specs.declared.Answer.{Answer}
-use Rattle.model.specs.First.{_▸_, onlyIf}
+use Rattle.model.specs.First.{_▸_, first, onlyIf}
 use Rattle.model.specs.Refusals.{answer, wrong}
 use Rattle.model.specs.Complement.{refusal15, refusal16, sheetLimits, complementRefusal}
 use Rattle.model.proofs.First.{then-assoc, right-none, only-if-none}
@@ -22,10 +22,19 @@ use Rattle.opened.specs.Shape.{Open, arcOffset}
 use Rattle.written.proofs.Puts.{from-start}
 use Rattle.complement.specs.declared.Complemented.the-variants.{Length, Refused}
 use Rattle.complement.specs.declared.sheet.Sizes.{Sizes}
+use Rattle.complement.specs.declared.refusals.Obstacle.{Obstacle}
+use Rattle.complement.specs.declared.refusals.Obstacle.the-variants.{Inhibitor, Number}
+use Rattle.complement.specs.ArcRefusals.{obstacleAt, firstObstacle}
 use Rattle.complement.specs.Complemented.{complementSheet, tooShort, roomRefusal, complemented, output}
-use Rattle.complement.specs.Puts.{Puts}
+use Rattle.halves.specs.Puts.{Puts}
 use Rattle.complement.specs.Sizes.{SizesAre, inLimits, sizesRefusal, firstOf}
 use Rattle.complement.proofs.SheetParts.{size-is}
+
+-- 15 and 16 are each the first of its arcs
+pub each-obstacle : (s : List ℕ) (obstacle : Obstacle) → first (length (netOf s .arcs)) (obstacleAt s obstacle) ≡ firstObstacle s obstacle
+unfolding refusal15 refusal16
+each-obstacle s Inhibitor = refl
+each-obstacle s Number = refl
 
 first-of : (o p : Option Refusal) → firstOf (answer o) (answer p) ≡ answer (o ▸ p)
 unfolding _▸_

@@ -1,10 +1,2 @@
-pub mod Entries
-pub mod Read
-pub mod Below
-pub mod Counts
-pub mod Puts
-pub mod PlaceHalves
-pub mod PairHalves
-pub mod ModeHalves
 pub mod SheetParts
 pub mod Answers

@@ -1,8 +1,4 @@
 pub mod Complemented
-pub mod Bounded
-pub mod Arcs
-pub mod Places
-pub mod Pairs
+pub mod ArcRefusals
 pub mod Sizes
-pub mod Puts
 pub mod Contracts

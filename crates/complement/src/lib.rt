@@ -1,19 +1,13 @@
 // The complementing call: the second form of a net, in which a token left behind shows at once (document 01, "The complemented net").
 // It writes the sheet of the complement straight from the sheet of the net.
-mod arcs;
-mod bounded;
-mod entry;
-mod half;
-mod pairs;
-mod places;
 mod refusals;
 mod room;
 mod sheet;
 
-use crate::bounded::bounded_below;
 use crate::room::complement_answer;
 use crate::sheet::complement_sizes;
 use crate::sheet::put_sheet;
+use halves::bounded::bounded_below;
 use model::Answer;
 use model::Refusal;
 use opened::Opened;

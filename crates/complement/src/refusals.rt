@@ -1,10 +1,10 @@
 // Refusals 15 and 16: "each at its first arc in order", with the arc's offset in the sheet that was given.
-use crate::entry::complement_arc;
-use crate::entry::too_large;
+use halves::entry::complement_arc;
+use halves::entry::too_large;
+use heads::head::refused;
 use model::Answer;
 use model::Fault;
 use model::Thing;
-use nets::head::refused;
 use opened::finite::is_finite;
 use opened::shape::NetShape;
 use opened::shape::arc;
@@ -13,15 +13,20 @@ use opened::shape::capacity;
 ghost use mathlib.Core.Path.{_≡_};
 ghost use Prim.Native.Nat.{_<_};
 ghost use Rattle.model.specs.Refusals.{answer};
-ghost use Rattle.model.specs.Complement.{refusal15, refusal16};
-ghost use Rattle.sheets.specs.Decoded.{netOf};
-ghost use Rattle.opened.specs.Shape.{Open, arcOffset};
-ghost use Rattle.complement.specs.Arcs.{refusal15At, refusal16At};
+ghost use Rattle.opened.specs.Shape.{Open};
+ghost use Rattle.complement.specs.declared.refusals.Obstacle.the-variants.{Inhibitor, Number};
+ghost use Rattle.complement.specs.ArcRefusals.{obstacleAt, firstObstacle};
+
+// What an arc of the net may have that no complement can say: 15 "finite I at a pair of unbounded K", 16 "a complement number above 1,000,000".
+pub(crate) enum Obstacle {
+    Inhibitor,
+    Number,
+}
 
 fn inhibitor_answer(s: &[u8], net: NetShape, k: usize) -> Answer
     requires { ⌜ Open (now s) net ⌝ }
     requires { ⌜ k < net .arcs ⌝ }
-    ensures { λ r. ⌜ r ≡ answer (refusal15At (now (s .entry)) k) ⌝ }
+    ensures { λ r. ⌜ r ≡ answer (obstacleAt (now (s .entry)) Inhibitor k) ⌝ }
 {
     let a = arc(s, net, k);
     if !is_finite(a.inhibitor) {
@@ -34,27 +39,10 @@ fn inhibitor_answer(s: &[u8], net: NetShape, k: usize) -> Answer
     Answer::Accepted
 }
 
-// 15: "finite I at a pair of unbounded K".
-pub(crate) fn inhibitors_answer(s: &[u8], net: NetShape) -> Answer
-    requires { ⌜ Open (now s) net ⌝ }
-    ensures { λ r. ⌜ r ≡ answer (refusal15 (arcOffset (now (s .entry))) (netOf (now (s .entry)))) ⌝ }
-{
-    let arcs = net.arcs;
-    let mut k = 0;
-    while k < arcs {
-        let answer = inhibitor_answer(s, net, k);
-        if let Answer::Refused(_) = answer {
-            return answer;
-        }
-        k += 1;
-    }
-    Answer::Accepted
-}
-
 fn number_answer(s: &[u8], net: NetShape, k: usize) -> Answer
     requires { ⌜ Open (now s) net ⌝ }
     requires { ⌜ k < net .arcs ⌝ }
-    ensures { λ r. ⌜ r ≡ answer (refusal16At (now (s .entry)) k) ⌝ }
+    ensures { λ r. ⌜ r ≡ answer (obstacleAt (now (s .entry)) Number k) ⌝ }
 {
     let a = arc(s, net, k);
     let pair = a.pair;
@@ -64,15 +52,25 @@ fn number_answer(s: &[u8], net: NetShape, k: usize) -> Answer
     Answer::Accepted
 }
 
-// 16: "a complement number above 1,000,000".
-pub(crate) fn numbers_answer(s: &[u8], net: NetShape) -> Answer
+fn arc_answer(s: &[u8], net: NetShape, obstacle: Obstacle, k: usize) -> Answer
     requires { ⌜ Open (now s) net ⌝ }
-    ensures { λ r. ⌜ r ≡ answer (refusal16 (arcOffset (now (s .entry))) (netOf (now (s .entry)))) ⌝ }
+    requires { ⌜ k < net .arcs ⌝ }
+    ensures { λ r. ⌜ r ≡ answer (obstacleAt (now (s .entry)) obstacle k) ⌝ }
+{
+    match obstacle {
+        Obstacle::Inhibitor => inhibitor_answer(s, net, k),
+        Obstacle::Number => number_answer(s, net, k),
+    }
+}
+
+pub(crate) fn arcs_answer(s: &[u8], net: NetShape, obstacle: Obstacle) -> Answer
+    requires { ⌜ Open (now s) net ⌝ }
+    ensures { λ r. ⌜ r ≡ answer (firstObstacle (now (s .entry)) obstacle) ⌝ }
 {
     let arcs = net.arcs;
     let mut k = 0;
     while k < arcs {
-        let answer = number_answer(s, net, k);
+        let answer = arc_answer(s, net, obstacle, k);
         if let Answer::Refused(_) = answer {
             return answer;
         }

@@ -1,11 +1,11 @@
 // Refusal 10, and the order of the three: "Complementing: net, 15, 16, 10".
-use crate::refusals::inhibitors_answer;
-use crate::refusals::numbers_answer;
+use crate::refusals::Obstacle;
+use crate::refusals::arcs_answer;
 use crate::sheet::Sizes;
+use heads::head::refused;
 use model::Answer;
 use model::Fault;
 use model::Thing;
-use nets::head::refused;
 use opened::shape::NetShape;
 use written::sheet_size;
 ghost use mathlib.Core.Path.{_≡_};
@@ -69,8 +69,8 @@ pub(crate) fn complement_answer(s: &[u8], net: NetShape, sizes: Sizes, room: usi
     requires { ⌜ SizesAre (netOf (now s)) sizes × Few sizes ⌝ }
     ensures { λ r. ⌜ r ≡ answer (roomRefusal (now (s .entry)) room) ⌝ }
 {
-    let inhibitors = inhibitors_answer(s, net);
-    let numbers = numbers_answer(s, net);
+    let inhibitors = arcs_answer(s, net, Obstacle::Inhibitor);
+    let numbers = arcs_answer(s, net, Obstacle::Number);
     let sizes_fit = room_answer(sizes, net.transitions, room);
     then(inhibitors, then(numbers, sizes_fit))
 }

@@ -1,12 +1,12 @@
 // The sheet of the complement: how large it is, and its parts in turn.
-use crate::arcs::count_arcs;
-use crate::arcs::put_arcs;
-use crate::bounded::bounded_between;
-use crate::pairs::put_pairs;
-use crate::places::count_new_places;
-use crate::places::put_modes;
-use crate::places::put_places;
+use halves::bounded::bounded_between;
+use halves::pairs::put_pairs;
 use opened::shape::NetShape;
+use sections::arcs::count_arcs;
+use sections::arcs::put_arcs;
+use sections::places::count_new_places;
+use sections::places::put_modes;
+use sections::places::put_places;
 use written::put_count;
 use written::put_head;
 use written::sheet_size;
@@ -17,9 +17,9 @@ ghost use Rattle.model.specs.Complement.{complement};
 ghost use Rattle.sheets.specs.Decoded.{netOf};
 ghost use Rattle.opened.specs.Shape.{Open};
 ghost use Rattle.written.specs.Written.{sheetOf};
-ghost use Rattle.complement.specs.Bounded.{BelowAre};
+ghost use Rattle.halves.specs.Bounded.{BelowAre};
 ghost use Rattle.complement.specs.Sizes.{SizesAre, Few, countsBytes, recordsBytes, arcsBytes};
-ghost use Rattle.complement.specs.Puts.{Room, Puts};
+ghost use Rattle.halves.specs.Puts.{Room, Puts};
 
 // How many places, pairs and arcs the complement has.
 pub(crate) struct Sizes {

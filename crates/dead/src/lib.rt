@@ -1,11 +1,11 @@
 // Locally dead modes: "A mode is locally dead when, at some pair, Pre or Post is above K" (document 01, "Certificate, figure, dead modes").
+use fields::numbers::above_bound;
 use model::Arc;
 use model::Fault;
 use model::Mode;
 use model::Pair;
 use model::Refusal;
 use model::Thing;
-use nets::numbers::above_bound;
 use opened::Opened;
 use opened::open_net;
 use opened::shape::NetShape;

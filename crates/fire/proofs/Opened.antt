@@ -19,7 +19,7 @@ use Rattle.opened.specs.declared.shape.NetShape.{NetShape}
 use Rattle.sheets.specs.Decoded.{netOf}
 use Rattle.opened.specs.Shape.{Open}
 use Rattle.opened.proofs.Shapes.{sizes}
-use Rattle.fire.specs.Parts.{refusalOf}
+use Rattle.firing.specs.AtMode.{refusalOf}
 
 module _ {s : List ℕ} {net : NetShape} (o : Open s net) where
   -- 17: "marking or weights not one for each pair"

@@ -16,8 +16,8 @@ use Rattle.sheets.specs.Whole.{wholeNet}
 use Rattle.opened.specs.Shape.{shapeOf}
 use Rattle.opened.specs.Opened.{opened}
 use Rattle.opened.proofs.Opening.{opened-refused, opened-shape}
-use Rattle.fire.specs.Parts.{Leaves}
-use Rattle.fire.proofs.Leaving.{leaves-refused, leaves-after}
+use Rattle.firing.specs.Leaving.{Leaves}
+use Rattle.firing.proofs.Leaving.{leaves-refused, leaves-after}
 
 module _ {x : Opened} (s : List ℕ) (rest : Option Refusal) (e : x ≡ opened (wholeNet s) (shapeOf s)) where
   pub sheet-refused : {r : Refusal} → x ≡ Refused r → answers.Refused r ≡ answer (wholeNet s ▸ rest)

@@ -2,21 +2,16 @@
 -- "Across things: net, weights, movements, then the marking (17, then pair by pair 5 before 9), then the mode (6, 11 over all pairs, 12, 13, 14)."
 use Prim.Native.Nat.{ℕ}
 use mathlib.Core.List.{List}
-use mathlib.Core.Option.{Option, none, some}
+use mathlib.Core.Option.{Option}
 use Rattle.model.specs.declared.Mode.{Mode}
 use Rattle.model.specs.declared.Thing.the-variants.{Argument}
 use Rattle.model.specs.declared.Refusal.{Refusal}
 use Rattle.model.specs.First.{_▸_}
-use Rattle.model.specs.Nets.{pairs}
 use Rattle.model.specs.Markings.{unequal, markingRefusal}
 use Rattle.model.specs.Firing.{modeRefusal, fired}
 use Rattle.sheets.specs.Whole.{wholeNet}
 use Rattle.sheets.specs.Decoded.{netOf}
-
--- "Other refused calls write nothing."
-abbrev pub written : Option Refusal → List ℕ → List ℕ → List ℕ
-written none new found = new
-written (some r) new found = found
+use Rattle.firing.specs.Leaving.{written}
 
 -- begin: net, then 17; it writes the net's first marking
 unfoldable pub beginRefusal : List ℕ → List ℕ → Option Refusal

@@ -1,107 +1,15 @@
--- What the private functions and the shared parts of this crate speak of, beyond the calls.
+-- What the private functions of this crate speak of, beyond the calls.
 -- A reader of the promises may skip this file.
-use Prim.Native.Nat.{ℕ, _+_, _≤_, _<_}
-use mathlib.Core.Path.{_≡_}
-use mathlib.Core.Bool.{Bool, true, false}
-use mathlib.Core.Logic.{_↔_}
+use Prim.Native.Nat.{ℕ}
 use mathlib.Core.List.{List}
-use mathlib.Core.Option.{Option, none}
-use lib.ListN.{length, set}
-use Rattle.model.specs.declared.Arc.{Arc}
+use mathlib.Core.Option.{Option}
 use Rattle.model.specs.declared.Mode.{Mode}
-use Rattle.model.specs.declared.Why.{Why}
-use Rattle.model.specs.declared.Thing.{Thing}
 use Rattle.model.specs.declared.Thing.the-variants.{Argument}
 use Rattle.model.specs.declared.Refusal.{Refusal}
-use Rattle.model.specs.declared.Answer.{Answer}
-use Rattle.model.specs.First.{_▸_, onlyIf}
-use Rattle.model.specs.Refusals.{answer}
-use Rattle.model.specs.Numbers.{ℕ∞, limit}
-use Rattle.model.specs.Rows.{Entry}
-use Rattle.model.specs.Nets.{PNet, pairs, K, count, arcNo, row}
-use Rattle.model.specs.Markings.{Marking, markingRefusal}
-use Rattle.model.specs.Firing.{after, stops, stopped, lowestStop, rowRefusal, modeRefusal}
-use Rattle.opened.specs.declared.shape.NetShape.{NetShape}
-use Rattle.opened.specs.declared.starts.Segment.{Segment}
-use Rattle.nets.specs.Nets.{bound}
-use Rattle.sheets.specs.Decoded.{netOf, netArc}
-use Rattle.opened.specs.Shape.{Open}
-use Rattle.opened.specs.Starts.{ModeArcs}
-use Rattle.fire.specs.declared.rule.AtPair.{AtPair}
-use Rattle.fire.specs.Calls.{written}
-
--- an arc of a sheet that was accepted
-pub record InRange (a : Arc) : Type 0 where
-  pub pre : a .pre ≤ limit
-  pub post : a .post ≤ limit
-
--- with a count of a marking that was accepted
-pub record Counted (at : AtPair) : Type 0 where
-  pub arc : InRange (at .arc)
-  pub count : at .count ≤ limit
-
--- nothing of 11 to 14 stops a mode where it has e, the capacity is k and the count m
-abbrev pub Unstopped : Entry → ℕ∞ → ℕ → Type 0
-Unstopped e k m = (why : Why) → stops why e k m ≡ false
-
--- what the k-th arc of a net meets at a marking
-pub record Meets (net : PNet) (m : List ℕ) (k : ℕ) (at : AtPair) : Type 0 where
-  pub arc : netArc (at .arc) ≡ arcNo (net .arcs) k
-  pub inside : at .arc .pair .0 < pairs net
-  pub capacity : bound (at .capacity) ≡ K net (at .arc .pair .0)
-  pub count : at .count ≡ count m (at .arc .pair .0)
-  pub counted : Counted at
-
--- nothing stops a mode where the k-th arc of a net stands
-unfoldable pub Free : PNet → List ℕ → ℕ → Type 0
-Free net m k =
-    let a = arcNo (net .arcs) k in
-    Unstopped (a .entry) (K net (a .pair .0)) (count m (a .pair .0))
-
--- the k-th arc can be written: its pair has a count, which is in range
-pub record Writable (net : PNet) (m : List ℕ) (k : ℕ) : Type 0 where
-  pub oneEach : length m ≡ pairs net
-  pub inRange : count m (arcNo (net .arcs) k .pair .0) ≤ limit
-
--- M - Pre + Post where the k-th arc of a net stands
-unfoldable pub writtenAt : PNet → List ℕ → ℕ → List ℕ
-writtenAt net m k =
-    let a = arcNo (net .arcs) k in
-    set m (a .pair .0) (after (a .entry) (count m (a .pair .0)))
-
--- the arcs of a mode of an open net, at a marking that was accepted
-pub record AtMode (s : List ℕ) (net : NetShape) (arcs : Segment) (m : List ℕ) : Type 0 where
-  pub opened : Open s net
-  pub marking : Marking (netOf s) m
-  pub inside : arcs .start + arcs .count ≤ net .arcs
-  pub mode : Mode
-  pub own : ModeArcs (netOf s .arcs) mode (arcs .start) (arcs .count)
-
--- what holds of the mode that has these arcs
-abbrev pub OfMode : List ℕ → Segment → (Mode → Type 0) → Type 0
-OfMode s arcs P = (t : Mode) → ModeArcs (netOf s .arcs) t (arcs .start) (arcs .count) → P t
-
--- one of 11 to 14 where the k-th arc of a net stands
-unfoldable pub stopAt : Thing → Why → PNet → List ℕ → ℕ → Option Refusal
-stopAt thing why net m k =
-    let a = arcNo (net .arcs) k in
-    onlyIf (stops why (a .entry) (K net (a .pair .0)) (count m (a .pair .0))) (stopped thing why (a .pair .0))
-
--- what is found of a mode at a marking, over all pairs
-unfoldable pub stopOf : Thing → Why → PNet → List ℕ → Mode → Option Refusal
-stopOf thing why net m t = lowestStop thing (pairs net) (K net) (row net t) (count m) why
-
-unfoldable pub refusalOf : Thing → PNet → List ℕ → Mode → Option Refusal
-refusalOf thing net m t = rowRefusal thing (pairs net) (K net) (row net t) (count m)
-
--- a test that passes exactly when none of 11 to 14 is found
-pub record Decides (test : Bool) (net : PNet) (m : List ℕ) (t : Mode) : Type 0 where
-  pub each : (thing : Thing) → (test ≡ true) ↔ (refusalOf thing net m t ≡ none)
-
--- a call that is refused by o, or by nothing: what it answers, and what it leaves in the marking that it found
-pub record Leaves (o : Option Refusal) (new found : List ℕ) (a : Answer) (left : List ℕ) : Type 0 where
-  pub answers : a ≡ answer o
-  pub leaves : left ≡ written o new found
+use Rattle.model.specs.First.{_▸_}
+use Rattle.model.specs.Nets.{PNet}
+use Rattle.model.specs.Markings.{markingRefusal}
+use Rattle.model.specs.Firing.{modeRefusal}
 
 -- the marking, then the mode, of a call that takes both
 abbrev pub argumentRefusal : PNet → List ℕ → Mode → Option Refusal

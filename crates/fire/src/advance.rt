@@ -1,10 +1,10 @@
 // One movement of an open net over a marking that was accepted.
-use crate::mode::fire_arcs;
+use firing::mode::fire_arcs;
+use heads::head::refused;
 use model::Answer;
 use model::Fault;
 use model::Mode;
 use model::Thing;
-use nets::head::refused;
 use opened::shape::NetShape;
 use opened::starts::arcs_of;
 ghost use mathlib.Core.Path.{_≡_};
@@ -14,7 +14,7 @@ ghost use Rattle.model.specs.Firing.{modeRefusal, fired, absent};
 ghost use Rattle.sheets.specs.Decoded.{netOf};
 ghost use Rattle.opened.specs.Shape.{Open};
 ghost use Rattle.opened.specs.Starts.{StartsAre};
-ghost use Rattle.fire.specs.Parts.{Leaves};
+ghost use Rattle.firing.specs.Leaving.{Leaves};
 
 // 6: "a movement's mode is not there".
 pub fn mode_answer(net: NetShape, thing: Thing, mode: Mode) -> Answer

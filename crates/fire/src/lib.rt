@@ -2,14 +2,14 @@
 // What each call answers, and what it leaves in the marking, is said in specs/Calls.antt.
 use crate::advance::mode_answer;
 use crate::marking::marking_answer;
-use crate::mode::fire_arcs;
-use crate::mode::row_answer;
 use crate::start::write_start;
+use firing::mode::fire_arcs;
+use firing::mode::row_answer;
+use heads::head::refused;
 use model::Answer;
 use model::Fault;
 use model::Mode;
 use model::Thing;
-use nets::head::refused;
 use opened::Opened;
 use opened::open_net;
 use opened::shape::NetShape;
@@ -19,15 +19,13 @@ ghost use Rattle.model.specs.Refusals.{answer};
 ghost use Rattle.model.specs.Firing.{fired};
 ghost use Rattle.sheets.specs.Decoded.{netOf};
 ghost use Rattle.opened.specs.Shape.{Open};
-ghost use Rattle.fire.specs.Parts.{argumentRefusal, Leaves};
+ghost use Rattle.fire.specs.Parts.{argumentRefusal};
+ghost use Rattle.firing.specs.Leaving.{Leaves};
 ghost use Rattle.model.specs.Markings.{unequal};
 ghost use Rattle.fire.specs.Contracts.{BeginAllows, TestAllows, FireAllows};
 
 pub mod advance;
-pub mod arcs;
 pub mod marking;
-pub mod mode;
-pub mod rule;
 pub mod start;
 
 fn begin_open(s: &[u8], net: NetShape, marking: &mut [u32]) -> Answer

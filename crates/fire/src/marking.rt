@@ -1,10 +1,10 @@
 // The test of a marking that a call takes: one count for each pair (17), then pair by pair 5 before 9.
+use fields::numbers::above_bound;
+use heads::head::refused;
 use model::Answer;
 use model::Fault;
 use model::Pair;
 use model::Thing;
-use nets::head::refused;
-use nets::numbers::above_bound;
 use opened::shape::NetShape;
 use opened::shape::capacity;
 ghost use mathlib.Core.Path.{_≡_};

@@ -1,6 +1,1 @@
-pub mod Heads
-pub mod RunningTotals
-pub mod Bounds
-pub mod BoundNumbers
-pub mod PairFields
 pub mod Valid

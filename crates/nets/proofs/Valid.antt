@@ -10,14 +10,16 @@ use Rattle.model.specs.declared.Thing.the-variants.{Net}
 use Rattle.model.specs.First.{first}
 use Rattle.model.specs.Numbers.{limit}
 use Rattle.model.proofs.First.{left-none, right-none, first-each, only-if-none}
-use Rattle.nets.specs.Bytes.{u16At, u32At}
-use Rattle.nets.specs.Layout.{sheetEnd, placesAt, coloursAt, placeCount, transitionCount, modesAt, pairCount, modeCount, pairsAt, pairAt, arcCountAt, arcCount, arcsAt, arcAt, arcSize, arcModeAt, arcPairAt, preAt, postAt, inhibitorAt}
-use Rattle.nets.specs.Checks.{headRefusal, countRefusal}
-use Rattle.nets.specs.Held.{Headed, Counted}
-use Rattle.nets.specs.Nets.{bound, outside, runningRefusal, pairRefusal, risesTo, notRising, isBlank, arcNumbersRefusal, arcNamesRefusal, arcRefusal, arcFields, eachCount, countFields, pairAndArcFields, netFields, netRefusal}
-use Rattle.nets.proofs.Heads.{head-holds}
-use Rattle.nets.proofs.RunningTotals.{CountRead, RunningRead, count-holds, running-holds, counted}
-use Rattle.nets.proofs.PairFields.{CapacityRead, StartRead, capacity-holds as capacity-read, start-holds as start-read}
+use Rattle.heads.specs.Bytes.{u16At, u32At}
+use Rattle.heads.specs.Layout.{sheetEnd, placesAt, coloursAt, placeCount, transitionCount, modesAt, pairCount, modeCount, pairsAt, pairAt, arcCountAt, arcCount, arcsAt, arcAt, arcSize, arcModeAt, arcPairAt, preAt, postAt, inhibitorAt}
+use Rattle.heads.specs.Checks.{headRefusal, countRefusal}
+use Rattle.heads.specs.Held.{Headed, Counted}
+use Rattle.fields.specs.Numbers.{bound, outside}
+use Rattle.fields.specs.Fields.{runningRefusal, pairRefusal, eachCount, countFields}
+use Rattle.nets.specs.Nets.{risesTo, notRising, isBlank, arcNumbersRefusal, arcNamesRefusal, arcRefusal, arcFields, pairAndArcFields, netFields, netRefusal}
+use Rattle.heads.proofs.Heads.{head-holds}
+use Rattle.fields.proofs.RunningTotals.{CountRead, RunningRead, count-holds, running-holds, counted}
+use Rattle.fields.proofs.PairFields.{CapacityRead, StartRead, capacity-holds as capacity-read, start-holds as start-read}
 
 and-false : (a b : Bool) → a && b ≡ false → a ≡ true → b ≡ false
 and-false true b e h = e

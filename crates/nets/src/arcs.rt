@@ -1,12 +1,12 @@
 // The arcs of a net sheet, which rise strictly by mode, then pair.
-use crate::bytes::count_at;
-use crate::bytes::u16_at;
-use crate::bytes::u32_at;
-use crate::counts::read_count;
-use crate::head::left_over;
-use crate::head::refused;
-use crate::head::sheet_end;
-use crate::numbers::bound_outside;
+use fields::counts::read_count;
+use fields::numbers::bound_outside;
+use heads::bytes::count_at;
+use heads::bytes::u16_at;
+use heads::bytes::u32_at;
+use heads::head::left_over;
+use heads::head::refused;
+use heads::head::sheet_end;
 use model::Answer;
 use model::Fault;
 use model::Thing;
@@ -15,7 +15,7 @@ ghost use Prim.Native.Nat.{_+_, _*_, _<_, _≤_};
 ghost use lib.ListN.{length};
 ghost use Rattle.model.specs.First.{first};
 ghost use Rattle.model.specs.Refusals.{answer};
-ghost use Rattle.nets.specs.Held.{Headed};
+ghost use Rattle.heads.specs.Held.{Headed};
 ghost use Rattle.nets.specs.Nets.{risesTo, notRising, isBlank, arcNamesRefusal, arcNumbersRefusal, arcRefusal, arcFields};
 
 fn rises_to(s: &[u8], before: usize, at: usize) -> bool

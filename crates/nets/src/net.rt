@@ -1,16 +1,16 @@
 // A net sheet: its counts, its pairs, its arcs.
 use crate::arcs::arc_fields;
-use crate::bytes::count_at;
-use crate::counts::count_fields;
-use crate::counts::total_of;
-use crate::head::read_head;
-use crate::pairs::read_pairs;
+use fields::counts::count_fields;
+use fields::counts::total_of;
+use fields::pairs::read_pairs;
+use heads::bytes::count_at;
+use heads::head::read_head;
 use model::Answer;
 use model::Thing;
 ghost use mathlib.Core.Path.{_≡_};
 ghost use Rattle.model.specs.Refusals.{answer};
-ghost use Rattle.nets.specs.Layout.{pairCount, modeCount, pairsAt};
-ghost use Rattle.nets.specs.Held.{Headed, Counted};
+ghost use Rattle.heads.specs.Layout.{pairCount, modeCount, pairsAt};
+ghost use Rattle.heads.specs.Held.{Headed, Counted};
 ghost use Rattle.nets.specs.Nets.{pairAndArcFields, netFields};
 ghost use Rattle.nets.specs.Contracts.{ReadNetAllows};
 

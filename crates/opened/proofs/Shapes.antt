@@ -9,9 +9,9 @@ use Rattle.model.specs.Numbers.{limit}
 use Rattle.model.specs.Nets.{pairs, modes, K, count, arcNo}
 use Rattle.model.specs.WellFormed.{ArcOf, Counted, WellFormed}
 use Rattle.opened.specs.declared.shape.NetShape.{NetShape}
-use Rattle.nets.specs.Bytes.{u16At, u32At}
-use Rattle.nets.specs.Layout.{coloursAt, modesAt, counts, placeCount, transitionCount, pairCount, modeCount, arcCount, pairsAt, arcsAt, countAt, pairAt, arcAt, arcSize, arcModeAt, capacityAt, startAt}
-use Rattle.nets.specs.Nets.{bound}
+use Rattle.heads.specs.Bytes.{u16At, u32At}
+use Rattle.heads.specs.Layout.{coloursAt, modesAt, counts, placeCount, transitionCount, pairCount, modeCount, arcCount, pairsAt, arcsAt, countAt, pairAt, arcAt, arcSize, arcModeAt, capacityAt, startAt}
+use Rattle.fields.specs.Numbers.{bound}
 use Rattle.sheets.specs.Decoded.{netArcAt, netOf, netArc}
 use Rattle.opened.specs.Shape.{shapeOf, Open, ArcIs, arcOffset}
 use Rattle.nets.proofs.Valid.{headed, counts-hold, arcs-within, colours-hold, modes-hold, start-holds, arc-holds}

@@ -9,8 +9,9 @@ use Rattle.model.specs.Numbers.{limit}
 use Rattle.model.specs.Nets.{arcNo}
 use Rattle.model.specs.WellFormed.{InRange}
 use Rattle.opened.specs.declared.shape.NetShape.{NetShape}
-use Rattle.nets.specs.Layout.{placeCount, transitionCount, pairCount, modeCount, arcCount, pairsAt, arcsAt, arcAt}
-use Rattle.nets.specs.Nets.{bound, netRefusal}
+use Rattle.heads.specs.Layout.{placeCount, transitionCount, pairCount, modeCount, arcCount, pairsAt, arcsAt, arcAt}
+use Rattle.fields.specs.Numbers.{bound}
+use Rattle.nets.specs.Nets.{netRefusal}
 use Rattle.sheets.specs.Decoded.{netOf, netArc}
 
 unfoldable pub shapeOf : List ℕ → NetShape

@@ -1,7 +1,7 @@
 // A K or an I as a sheet writes it: a number, or 4,294,967,295 for unbounded.
 ghost use mathlib.Core.Path.{_≡_};
 ghost use Rattle.model.specs.Complement.{finite};
-ghost use Rattle.nets.specs.Nets.{bound};
+ghost use Rattle.fields.specs.Numbers.{bound};
 
 pub fn is_finite(x: u32) -> bool
     ensures { λ r. ⌜ r ≡ finite (bound x) ⌝ }

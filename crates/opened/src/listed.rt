@@ -1,8 +1,8 @@
 // What a movement sheet and a weight sheet list, read in place once the sheet has been accepted.
+use heads::bytes::u16_at;
+use heads::bytes::u32_at;
 use model::Mode;
 use model::Pair;
-use nets::bytes::u16_at;
-use nets::bytes::u32_at;
 ghost use mathlib.Core.Path.{_≡_};
 ghost use mathlib.Core.Option.{none};
 ghost use Prim.Native.Nat.{_+_, _≤_, _<_};
@@ -11,9 +11,9 @@ ghost use lib.ListN.{length, getD};
 ghost use Rattle.model.specs.Numbers.{limit};
 ghost use Rattle.model.specs.Nets.{modeNo};
 ghost use Rattle.model.specs.Figures.{weight as weightOf};
-ghost use Rattle.nets.specs.Layout.{movementsAt};
-ghost use Rattle.sheets.specs.Movements.{movementsRefusal};
-ghost use Rattle.sheets.specs.Weights.{signed, weightsRefusal};
+ghost use Rattle.heads.specs.Layout.{movementsAt};
+ghost use Rattle.lists.specs.Movements.{movementsRefusal};
+ghost use Rattle.lists.specs.Weights.{signed, weightsRefusal};
 ghost use Rattle.sheets.specs.Decoded.{movementsOf, weightsOf};
 ghost use Rattle.sheets.specs.Listed.{modeAt, ModesStand};
 

@@ -1,10 +1,10 @@
 // A net sheet that has been accepted, looked into in place: where its parts stand is worked out once a call, and kept by value.
+use heads::bytes::count_at;
+use heads::bytes::u16_at;
+use heads::bytes::u32_at;
 use model::Arc;
 use model::Mode;
 use model::Pair;
-use nets::bytes::count_at;
-use nets::bytes::u16_at;
-use nets::bytes::u32_at;
 use nets::net::mode_count;
 use nets::net::pair_count;
 use nets::net::pairs_at;
@@ -14,8 +14,9 @@ ghost use Prim.Native.Nat.{_+_, _≤_, _<_};
 ghost use lib.ListN.{length, getD};
 ghost use Rattle.model.specs.Numbers.{limit};
 ghost use Rattle.model.specs.Nets.{K, count, arcNo};
-ghost use Rattle.nets.specs.Layout.{pairsAt, pairAt, arcSize};
-ghost use Rattle.nets.specs.Nets.{bound, netRefusal};
+ghost use Rattle.heads.specs.Layout.{pairsAt, pairAt, arcSize};
+ghost use Rattle.fields.specs.Numbers.{bound};
+ghost use Rattle.nets.specs.Nets.{netRefusal};
 ghost use Rattle.sheets.specs.Decoded.{netOf};
 ghost use Rattle.opened.specs.Shape.{shapeOf, Open, ArcIs, arcOffset};
 

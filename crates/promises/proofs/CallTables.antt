@@ -26,7 +26,7 @@ use Rattle.model.proofs.First.{below-or, left-none, then-none, then-assoc, then
 use Rattle.model.proofs.Runs.{runs}
 use Rattle.model.proofs.Decisions.{Decided, by-less, by-at-most, by-equal, by-above, by-not, by-or, by-and, by-other}
 use Rattle.model.proofs.RefusalTables.{reads-row, reads-then, reads-each, reads-either}
-use Rattle.nets.specs.Layout.{sheetEnd}
+use Rattle.heads.specs.Layout.{sheetEnd}
 use Rattle.sheets.specs.Whole.{bytesAfter, wholeNet, wholeWeights, wholeMovements}
 use Rattle.sheets.specs.Decoded.{netOf, movementsOf}
 use Rattle.sheets.proofs.RefusalTables.{sheet-tables}

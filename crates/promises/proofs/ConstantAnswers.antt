@@ -18,12 +18,12 @@ use Rattle.model.specs.First.{_▸_}
 use Rattle.model.specs.Refusals.{answer, number, wrong}
 use Rattle.model.specs.Nets.{modeNo}
 use Rattle.model.proofs.First.{left-none, some-then}
-use Rattle.nets.specs.Checks.{headRefusal}
+use Rattle.heads.specs.Checks.{headRefusal}
 use Rattle.nets.specs.Nets.{netRefusal}
-use Rattle.sheets.specs.Weights.{weightsRefusal}
-use Rattle.sheets.specs.Movements.{movementsRefusal}
+use Rattle.lists.specs.Weights.{weightsRefusal}
+use Rattle.lists.specs.Movements.{movementsRefusal}
 use Rattle.sheets.specs.Whole.{wholeNet, wholeWeights, wholeMovements, rest}
-use Rattle.nets.specs.Bytes.{u16At, u32At}
+use Rattle.heads.specs.Bytes.{u16At, u32At}
 use Rattle.written.proofs.SheetLength.{sheet-size}
 use Rattle.fire.specs.Calls.{beginRefusal, testRefusal}
 use Rattle.run.specs.Calls.{beforeRun, runOf, certifyRefusal}
@@ -41,7 +41,7 @@ use Rattle.text.specs.Contracts.{PutBytesAllows}
 use Rattle.statement.specs.declared.Stated.{Stated}
 use Rattle.statement.specs.Replay.{room, stated}
 use Rattle.statement.specs.Contracts.{StatementAllows}
-use Rattle.abi.specs.Told.{textTold}
+use Rattle.answers.specs.Told.{textTold}
 use Rattle.promises.specs.OwnExample as own
 use Rattle.promises.specs.ConstantAnswers.{Only, Never, NotConstant, Varies, PartVaries, full, ConstantAnswers}
 use Rattle.promises.proofs.OwnExample.{read-back, weights-read, movements-read, tests, runs-whole, own-example}

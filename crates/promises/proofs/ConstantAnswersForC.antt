@@ -5,8 +5,8 @@ use mathlib.Core.Option.{Option, none, some}
 use Rattle.model.specs.Replies.{Reply}
 use Rattle.model.specs.Dead.{DeadMode}
 use Rattle.dead.specs.FirstDead as first
-use Rattle.abi.specs.declared.answers.Answered.{Answered}
-use Rattle.abi.specs.Told.{replied, valueOr, naming, named}
+use Rattle.answers.specs.declared.Answered.{Answered}
+use Rattle.answers.specs.Told.{replied, valueOr, naming, named}
 use Rattle.promises.specs.ConstantAnswers.{Varies}
 use Rattle.promises.specs.ConstantAnswersForC.{ConstantAnswersForC}
 use Rattle.promises.proofs.ConstantAnswers.{accepts-and-refuses, constant-answers}

@@ -15,8 +15,8 @@ use Rattle.model.proofs.First.{left-none}
 use Rattle.model.proofs.Bounded.{bounded-number}
 use Rattle.model.proofs.ComplementNet.{pairs-complement}
 use Rattle.model.proofs.Demand3.{demand3}
-use Rattle.nets.specs.Bytes.{byteAt, u16At}
-use Rattle.nets.specs.Layout.{placeCount}
+use Rattle.heads.specs.Bytes.{byteAt, u16At}
+use Rattle.heads.specs.Layout.{placeCount}
 use Rattle.nets.specs.Nets.{netRefusal}
 use Rattle.sheets.specs.Whole.{wholeNet}
 use Rattle.sheets.specs.Decoded.{netOf}

@@ -1,21 +1,30 @@
 -- A refused call leaves what it was lent: each answer with a number has a refusal behind it.
-use Prim.Native.Nat.{ℕ}
-use mathlib.Core.Path.{_≡_, refl, _∙_, ap, subst}
-use mathlib.Core.List.{List, []}
+use Prim.Native.Nat.{ℕ, _+_}
+use mathlib.Core.Path.{_≡_, refl, sym, _∙_, ap, subst}
+use mathlib.Core.Bool.{Bool, true, false, cond}
+use mathlib.Core.List.{List, [], _++_}
 use mathlib.Core.Logic.{_≢_}
 use mathlib.Core.Option.{Option, none, some}
-use lib.ListN.{length, take}
+use lib.Dec.{leb, ltb}
+use lib.ListN.{length, take, drop}
+use native.Mathlib.Omega.{arith}
 use Rattle.model.specs.declared.Refusal.{Refusal}
 use Rattle.model.specs.Refusals.{answer}
 use Rattle.model.specs.Nets.{PNet}
 use Rattle.model.specs.Promises.{Leads, stays}
 use Rattle.model.specs.Firing.{fired}
 use Rattle.sheets.specs.Decoded.{netOf, movementsOf}
-use Rattle.fire.specs.Calls.{written, beginRefusal, testRefusal}
+use Rattle.firing.specs.Leaving.{written}
+use Rattle.fire.specs.Calls.{beginRefusal, testRefusal}
 use Rattle.run.specs.Calls.{runOf}
 use Rattle.run.proofs.Promises.{runs-leave}
 use Rattle.complement.specs.Complemented.{complementSheet, complementingRefusal, told, complemented, output}
-use Rattle.promises.specs.DemandOne.{Refused, DemandOne}
+use Rattle.text.specs.declared.Put.the-variants.{To, Full}
+use Rattle.text.specs.Puts.{endWithin, putTo, putInto}
+use Rattle.statement.specs.declared.Stated.the-variants.{Written, NoRoom}
+use Rattle.statement.specs.Replay.{room, replayText, stated, statedIn}
+use Rattle.answers.specs.Told.{counted, textTold}
+use Rattle.promises.specs.DemandOne.{Refused, DemandOne, DemandOneForC}
 
 kept : (o : Option Refusal) (new found : List ℕ) → Refused (answer o) → written o new found ≡ found
 kept none new found h = absurd (h refl)
@@ -24,6 +33,23 @@ kept (some r) new found h = refl
 output-kept : (o : Option Refusal) (n : ℕ) (sheet found : List ℕ) → told (complemented o n) .number ≢ 0 → output o sheet found ≡ found
 output-kept none n sheet found h = absurd (h refl)
 output-kept (some r) n sheet found h = refl
+
+put-kept : (out : List ℕ) (at : ℕ) (bytes : List ℕ) → putTo out at bytes ≡ Full → putInto out at bytes ≡ out
+unfolding endWithin putTo putInto
+put-kept out at bytes e = go (leb (at + length bytes) (length out)) e
+  where
+    go : (t : Bool) → cond t (To (at + length bytes)) Full ≡ Full → cond t (take at out ++ bytes ++ drop (at + length bytes) out) out ≡ out
+    go true e = let z : _≡_ {A = ℕ} 0 1 = cc in absurd (omega arith)
+    go false e = refl
+
+text-kept : (input out : List ℕ) → counted (textTold (stated input out)) .answer .number ≢ 0 → statedIn input out ≡ out
+unfolding stated statedIn
+text-kept input out h = go (ltb (length out) room) h
+  where
+    go : (t : Bool) → counted (textTold (cond t NoRoom (Written (length (replayText input))))) .answer .number ≢ 0
+        → cond t out (replayText input ++ drop (length (replayText input)) out) ≡ out
+    go true h = refl
+    go false h = absurd (h refl)
 
 stays-is : {net : PNet} {m m′ : List ℕ} → Leads net [] m m′ → m′ ≡ m
 stays-is stays = refl
@@ -46,4 +72,24 @@ demand-one =
       run = λ net movements marking o allows refused. run-leads net movements marking (ap (λ ran. ran .accepted) (allows .0)) (allows .1);
       runNone = λ net movements marking o allows e.
           stays-is (rw e at (run-leads net movements marking (ap (λ ran. ran .accepted) (allows .0)) (allows .1)));
+      putBytes = λ out at bytes o allows full. allows .1 ∙ put-kept out at bytes (sym (allows .0) ∙ full);
+      statement = λ input out o allows full.
+          allows .1 ∙ text-kept input out (subst (λ s. counted (textTold s) .answer .number ≢ 0) (sym full ∙ allows .0) (λ e. let z : _≡_ {A = ℕ} 0 1 = cc in absurd (omega arith)));
+    }
+
+pub demand-one-for-c : DemandOneForC
+demand-one-for-c =
+    record {
+      begin = λ net marking o allows refused.
+          allows .1 ∙ kept (beginRefusal net marking) (netOf net .start) marking (subst (λ a. a .number ≢ 0) (allows .0) refused);
+      fire = λ net marking t o allows refused.
+          allows .1 ∙ kept (testRefusal net marking t) (fired (netOf net) t marking) marking (subst (λ a. a .number ≢ 0) (allows .0) refused);
+      complement = λ net out o allows refused.
+          allows .1
+          ∙ output-kept (complementingRefusal net (length out)) (length (complementSheet net)) (complementSheet net) out
+          (subst (λ c. c .answer .number ≢ 0) (allows .0) refused);
+      statement = λ input out o allows refused. allows .1 ∙ text-kept input out (subst (λ c. c .answer .number ≢ 0) (allows .0) refused);
+      run = λ net movements marking o allows refused. run-leads net movements marking (ap (λ c. c .value) (allows .0)) (allows .1);
+      runNone = λ net movements marking o allows e.
+          stays-is (rw e at (run-leads net movements marking (ap (λ c. c .value) (allows .0)) (allows .1)));
     }

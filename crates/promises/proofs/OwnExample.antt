@@ -25,10 +25,10 @@ use Rattle.model.specs.Markings.{markingRefusal}
 use Rattle.model.proofs.First.{left-none, right-none, none-then}
 use Rattle.model.proofs.Markings.{marking-test}
 use Rattle.model.proofs.Each.{each-at, sorted-rising}
-use Rattle.nets.specs.Bytes.{u16At, u32At}
-use Rattle.nets.specs.Checks.{headRefusal}
-use Rattle.sheets.specs.Weights.{signed, weightRefusal, weightFields, weightsRefusal}
-use Rattle.sheets.specs.Movements.{movementFields, movementsRefusal}
+use Rattle.heads.specs.Bytes.{u16At, u32At}
+use Rattle.heads.specs.Checks.{headRefusal}
+use Rattle.lists.specs.Weights.{signed, weightRefusal, weightFields, weightsRefusal}
+use Rattle.lists.specs.Movements.{movementFields, movementsRefusal}
 use Rattle.sheets.specs.Whole.{bytesAfter, wholeWeights, wholeMovements}
 use Rattle.sheets.specs.Decoded.{weightsOf, movementsOf}
 use Rattle.opened.specs.Shape.{arcOffset}

@@ -10,7 +10,7 @@ use Rattle.model.proofs.Demand3.{demand3}
 use Rattle.model.proofs.Edges.{starred}
 use Rattle.sheets.proofs.Accepted.{well-formed}
 use Rattle.sheets.proofs.Lists.{movements-within, weights-within}
-use Rattle.sheets.proofs.Signs.{signed-weights}
+use Rattle.lists.proofs.Signs.{signed-weights}
 use Rattle.written.proofs.RoundTrip.{written-then-read, read-then-written}
 use Rattle.written.proofs.Largest.{largest-sheet, example-lengths}
 use Rattle.fire.proofs.Promises.{accepted-begin, accepted-fire, refused-fire, marking-stays}
@@ -18,7 +18,7 @@ use Rattle.run.proofs.Promises.{runs-leave, runs-keep, certified}
 use Rattle.weigh.proofs.Promises.{figure-is-sum, change-is-sum, figure-fired}
 use Rattle.dead.proofs.Promises.{says-dead, names-first}
 use Rattle.promises.specs.Promises.{Promises}
-use Rattle.promises.proofs.DemandOne.{demand-one}
+use Rattle.promises.proofs.DemandOne.{demand-one, demand-one-for-c}
 use Rattle.promises.proofs.DemandThree.{over-bytes}
 use Rattle.statement.proofs.TextOfRun.{text-of-run}
 use Rattle.statement.proofs.Example.{printed}
@@ -82,5 +82,5 @@ promises =
             textOfRun = text-of-run;
             printed = printed;
           };
-      contracts = record { demandOne = demand-one; callTables = call-tables; uniqueness = uniqueness; frauds = frauds; ownExample = own-example };
+      contracts = record { demandOne = demand-one; demandOneForC = demand-one-for-c; callTables = call-tables; uniqueness = uniqueness; frauds = frauds; ownExample = own-example };
     }

@@ -17,11 +17,11 @@ use Rattle.model.specs.Rows.{Entry}
 use Rattle.model.specs.Nets.{NetArc, PNet, pairs, modes, pairNo, modeNo, K, count, arcNo, row as modeRow}
 use Rattle.model.specs.Firing.{stopped, fired}
 use Rattle.model.specs.Complement.{complementEntry, complement}
-use Rattle.nets.specs.Layout.{sheetEnd}
+use Rattle.heads.specs.Layout.{sheetEnd}
 use Rattle.model.specs.Refusals.{wrong}
 use Rattle.nets.specs.Nets.{netRefusal}
-use Rattle.sheets.specs.Weights.{weightsRefusal}
-use Rattle.sheets.specs.Movements.{movementsRefusal}
+use Rattle.lists.specs.Weights.{weightsRefusal}
+use Rattle.lists.specs.Movements.{movementsRefusal}
 use Rattle.sheets.specs.Whole.{wholeNet, wholeWeights, wholeMovements}
 use Rattle.sheets.specs.Decoded.{netOf, movementsOf}
 use Rattle.sheets.specs.RefusalTables.{netTable, weightTable, movementTable}

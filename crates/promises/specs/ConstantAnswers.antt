@@ -7,7 +7,8 @@ use lib.IntN.{ℤ}
 use lib.ListN.{length}
 use Rattle.model.specs.declared.Mode.{Mode}
 use Rattle.model.specs.Refusals.{number}
-use Rattle.sheets.specs.Contracts.{ReadWeightsAllows, ReadMovementsAllows, AfterNetAllows, AfterWeightsAllows, AfterMovementsAllows, WholeNetAllows, WholeWeightsAllows, WholeMovementsAllows}
+use Rattle.lists.specs.Contracts.{ReadWeightsAllows, ReadMovementsAllows}
+use Rattle.sheets.specs.Contracts.{AfterNetAllows, AfterWeightsAllows, AfterMovementsAllows, WholeNetAllows, WholeWeightsAllows, WholeMovementsAllows}
 use Rattle.nets.specs.Contracts.{ReadNetAllows}
 use Rattle.fire.specs.Contracts.{BeginAllows, TestAllows, FireAllows}
 use Rattle.run.specs.Contracts.{RunAllows, CertifyAllows}
@@ -22,7 +23,7 @@ use Rattle.text.specs.declared.Put.{Put}
 use Rattle.text.specs.declared.Put.the-variants.{To, Full}
 use Rattle.text.specs.Contracts.{PutBytesAllows, PutDecimalAllows, PutSignedAllows}
 use Rattle.statement.specs.Contracts.{StatementAllows}
-use Rattle.abi.specs.Told.{textTold}
+use Rattle.answers.specs.Told.{textTold}
 
 -- what a call is given, the outcomes that its contract then allows, and the number of an outcome's answer
 module _ {I O : Type 0} (Allows : I → O → Type 0) (number : O → ℕ) where

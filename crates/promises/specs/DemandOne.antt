@@ -16,6 +16,15 @@ use Rattle.run.specs.Contracts.{RunAllows}
 use Rattle.complement.specs.declared.Complemented.{Complemented}
 use Rattle.complement.specs.Complemented.{told}
 use Rattle.complement.specs.Contracts.{ComplementAllows}
+use Rattle.text.specs.declared.Put.{Put}
+use Rattle.text.specs.declared.Put.the-variants.{Full}
+use Rattle.text.specs.Contracts.{PutBytesAllows}
+use Rattle.statement.specs.declared.Stated.{Stated}
+use Rattle.statement.specs.declared.Stated.the-variants.{NoRoom}
+use Rattle.statement.specs.Contracts.{StatementAllows}
+use Rattle.answers.specs.declared.Answered.{Answered}
+use Rattle.answers.specs.declared.Counted.{Counted}
+use Rattle.abi.specs.Contracts as forC
 
 -- refused: any number but 0
 abbrev pub Refused : Answer → Type 0
@@ -29,3 +38,16 @@ pub record DemandOne : Type 0 where
   pub run : (net movements marking : List ℕ) (o : Ran × List ℕ) → RunAllows net movements marking o → Refused (o .0 .answer)
       → Leads (netOf net) (take (o .0 .accepted) (movementsOf movements)) marking (o .1)
   pub runNone : (net movements marking : List ℕ) (o : Ran × List ℕ) → RunAllows net movements marking o → o .0 .accepted ≡ 0 → o .1 ≡ marking
+  -- put_decimal and put_signed put the bytes of a number, by the same contract
+  pub putBytes : (out : List ℕ) (at : ℕ) (bytes : List ℕ) (o : Put × List ℕ) → PutBytesAllows out at bytes o → o .0 ≡ Full → o .1 ≡ out
+  pub statement : (input out : List ℕ) (o : Stated × List ℕ) → StatementAllows input out o → o .0 ≡ NoRoom → o .1 ≡ out
+
+-- the same of the calls for C: refused where the number told is not 0
+pub record DemandOneForC : Type 0 where
+  pub begin : (net marking : List ℕ) (o : Answered × List ℕ) → forC.BeginAllows net marking o → o .0 .number ≢ 0 → o .1 ≡ marking
+  pub fire : (net marking : List ℕ) (t : Mode) (o : Answered × List ℕ) → forC.FireAllows net marking t o → o .0 .number ≢ 0 → o .1 ≡ marking
+  pub complement : (net out : List ℕ) (o : Counted × List ℕ) → forC.ComplementAllows net out o → o .0 .answer .number ≢ 0 → o .1 ≡ out
+  pub statement : (input out : List ℕ) (o : Counted × List ℕ) → forC.StatementAllows input out o → o .0 .answer .number ≢ 0 → o .1 ≡ out
+  pub run : (net movements marking : List ℕ) (o : Counted × List ℕ) → forC.RunAllows net movements marking o → o .0 .answer .number ≢ 0
+      → Leads (netOf net) (take (o .0 .value) (movementsOf movements)) marking (o .1)
+  pub runNone : (net movements marking : List ℕ) (o : Counted × List ℕ) → forC.RunAllows net movements marking o → o .0 .value ≡ 0 → o .1 ≡ marking

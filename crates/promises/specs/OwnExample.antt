@@ -9,8 +9,8 @@ use lib.ListN.{replicate}
 use Rattle.model.specs.declared.Answer.{Answer}
 use Rattle.model.specs.Refusals.{number, thing, position}
 use Rattle.model.specs.Replies.{yields}
-use Rattle.model.specs.Numbers.{fin, ∞}
-use Rattle.model.specs.Nets.{PNet, pairNo, modeNo}
+use Rattle.model.specs.Nets.{PNet, modeNo}
+use Rattle.model.specs.WorkedExamples.{ownExample}
 use Rattle.written.specs.Written.{sheetOf}
 use Rattle.fire.specs.Contracts.{BeginAllows, FireAllows}
 use Rattle.run.specs.declared.Ran.{Ran}
@@ -30,17 +30,7 @@ use Rattle.complement.specs.Contracts.{ComplementAllows}
 -- "two places, aboard (one colour, K 5, first 3) and ashore (one colour, unbounded, first 0); one transition of one mode; arcs 0,0 with Pre 1, Post 0, I 4
 -- and 0,1 with Pre 0, Post 1, I unbounded"
 abbrev pub example : PNet
-example =
-    record {
-      colours = 1 ∷ 1 ∷ [];
-      modesOf = 1 ∷ [];
-      capacity = fin 5 ∷ ∞ ∷ [];
-      start = 3 ∷ 0 ∷ [];
-      arcs =
-          record { mode = modeNo 0; pair = pairNo 0; entry = record { pre = 1; post = 0; inhibitor = fin 4 } }
-          ∷ record { mode = modeNo 0; pair = pairNo 1; entry = record { pre = 0; post = 1; inhibitor = ∞ } }
-          ∷ [];
-    }
+example = ownExample .net
 
 abbrev pub net : List ℕ
 net = sheetOf example

@@ -3,13 +3,14 @@ use Rattle.model.specs.Promises as model
 use Rattle.model.specs.Edges.{Edges}
 use Rattle.model.specs.WorkedExamples.{WorkedExamples}
 use Rattle.model.specs.DemandThree.{Demand3}
-use Rattle.sheets.specs.Accepted.{AcceptedNet, AcceptedMovements, AcceptedWeights, SignedWeights}
+use Rattle.sheets.specs.Accepted.{AcceptedNet, AcceptedMovements, AcceptedWeights}
+use Rattle.lists.specs.Promises.{SignedWeights}
 use Rattle.written.specs.Promises.{WrittenThenRead, ReadThenWritten, LargestSheet, ExampleLengths}
 use Rattle.fire.specs.Promises.{AcceptedBegin, AcceptedFire, RefusedFire, MarkingStays}
 use Rattle.run.specs.Promises.{RunsLeave, RunsKeep, Certified}
 use Rattle.weigh.specs.Promises.{FigureIsSum, ChangeIsSum, FigureFired}
 use Rattle.dead.specs.Promises.{SaysDead, NamesFirst}
-use Rattle.promises.specs.DemandOne.{DemandOne}
+use Rattle.promises.specs.DemandOne.{DemandOne, DemandOneForC}
 use Rattle.promises.specs.DemandThree.{OverBytes}
 use Rattle.statement.specs.Promises.{TextOfRun}
 use Rattle.statement.specs.Example.{Printed}
@@ -73,6 +74,7 @@ pub record OfCalls : Type 0 where
 -- of the contracts of the calls
 pub record OfContracts : Type 0 where
   pub demandOne : DemandOne
+  pub demandOneForC : DemandOneForC
   pub callTables : CallTables
   pub uniqueness : Uniqueness
   pub frauds : Frauds

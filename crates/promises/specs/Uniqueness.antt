@@ -4,7 +4,8 @@ use mathlib.Core.Path.{_≡_}
 use mathlib.Core.List.{List}
 use lib.IntN.{ℤ}
 use Rattle.model.specs.declared.Mode.{Mode}
-use Rattle.sheets.specs.Contracts.{ReadWeightsAllows, ReadMovementsAllows, AfterNetAllows, AfterWeightsAllows, AfterMovementsAllows, WholeNetAllows, WholeWeightsAllows, WholeMovementsAllows}
+use Rattle.lists.specs.Contracts.{ReadWeightsAllows, ReadMovementsAllows}
+use Rattle.sheets.specs.Contracts.{AfterNetAllows, AfterWeightsAllows, AfterMovementsAllows, WholeNetAllows, WholeWeightsAllows, WholeMovementsAllows}
 use Rattle.nets.specs.Contracts.{ReadNetAllows}
 use Rattle.fire.specs.Contracts.{BeginAllows, TestAllows, FireAllows}
 use Rattle.run.specs.Contracts.{RunAllows, CertifyAllows}

@@ -8,10 +8,10 @@ use borrow.Author.Tests.{eqb-true, eqb-false, lt-ltb, le-ltb}
 use Rattle.model.specs.declared.Arc.{Arc}
 use Rattle.model.specs.Numbers.{ℕ∞, fin, ∞, above, limit}
 use Rattle.model.specs.PassBelow.{passBelow, least, room}
-use Rattle.nets.specs.Nets.{unbounded, bound}
+use Rattle.fields.specs.Numbers.{unbounded, bound}
 use Rattle.sheets.specs.Decoded.{netArc}
-use Rattle.nets.proofs.Bounds.{bound-unbounded, bound-finite}
-use Rattle.fire.specs.Parts.{InRange}
+use Rattle.fields.proofs.Bounds.{bound-unbounded, bound-finite}
+use Rattle.rule.specs.AtPair.{InRange}
 
 by-bound : (P : ℕ∞ → Type 0) (x : ℕ) → (x ≡ unbounded → P ∞) → P (fin x) → P (bound x)
 by-bound P x infinite finite = go (eqb x unbounded) refl

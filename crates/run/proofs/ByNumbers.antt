@@ -12,14 +12,15 @@ use Rattle.model.specs.Nets.{NetArc, PNet, K}
 use Rattle.model.proofs.PassBelow.{pass-is}
 use Rattle.model.specs.PassBelow.{passBelow}
 use Rattle.opened.specs.declared.shape.NetShape.{NetShape}
-use Rattle.nets.specs.Nets.{bound}
+use Rattle.fields.specs.Numbers.{bound}
 use Rattle.sheets.specs.Decoded.{netOf, netArc}
 use Rattle.opened.specs.Shape.{ArcIs}
-use Rattle.fire.specs.declared.rule.AtPair.{AtPair}
-use Rattle.fire.specs.Parts.{Unstopped, Meets, Free}
+use Rattle.rule.specs.declared.AtPair.{AtPair}
+use Rattle.rule.specs.AtPair.{Unstopped}
+use Rattle.firing.specs.AtMode.{Meets, Free}
 use Rattle.run.specs.Parts.{numberOf}
-use Rattle.fire.proofs.FourTests.{clash}
-use Rattle.fire.proofs.Meets.{meets-as}
+use Rattle.rule.proofs.FourTests.{clash}
+use Rattle.firing.proofs.Meets.{meets-as}
 
 -- the number of an arc that was read is that of the arc of the net
 pub number-is : {s : List ℕ} {net : NetShape} {k : ℕ} {a : Arc} (x : ℕ) {r : ℕ} → ArcIs s net k a → bound x ≡ K (netOf s) (a .pair .0)

@@ -20,9 +20,8 @@ use Rattle.model.proofs.Refusals.{answer-refused, answer-none}
 use Rattle.sheets.specs.Listed.{modeAt, modesFrom}
 use Rattle.sheets.proofs.Lists.{modes-from-length, modes-from-at}
 use Rattle.run.specs.declared.Ran.{Ran}
-use Rattle.fire.specs.Calls.{written}
+use Rattle.firing.specs.Leaving.{written, Leaves}
 use Rattle.run.specs.Calls.{ranOf}
-use Rattle.fire.specs.Parts.{Leaves}
 use Rattle.run.specs.Parts.{Reports}
 
 abbrev ended : ℕ → List ℕ → Outcome

@@ -1,11 +1,11 @@
 // A certificate once both sheets are accepted: 17 for the claim, the run from the first marking, 18.
 use crate::walk::walk_sheet;
 use fire::start::write_start;
+use heads::head::refused;
 use model::Answer;
 use model::Fault;
 use model::Pair;
 use model::Thing;
-use nets::head::refused;
 use opened::shape::NetShape;
 ghost use mathlib.Core.Path.{_≡_};
 ghost use mathlib.Core.Option.{none};
@@ -14,7 +14,7 @@ ghost use lib.ListN.{length};
 ghost use Rattle.model.specs.First.{first};
 ghost use Rattle.model.specs.Refusals.{answer};
 ghost use Rattle.model.specs.Runs.{certificateRefusal};
-ghost use Rattle.sheets.specs.Movements.{movementsRefusal};
+ghost use Rattle.lists.specs.Movements.{movementsRefusal};
 ghost use Rattle.sheets.specs.Decoded.{netOf, movementsOf};
 ghost use Rattle.opened.specs.Shape.{Open};
 ghost use Rattle.run.specs.Parts.{elsewhere, endsAt};

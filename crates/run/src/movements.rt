@@ -3,6 +3,7 @@ use crate::Ran;
 use crate::numbers::arc_numbers;
 use crate::numbers::fire_within;
 use fire::advance::mode_answer;
+use lists::movements::movement_count;
 use model::Answer;
 use model::Mode;
 use model::Thing;
@@ -11,7 +12,6 @@ use opened::listed::movements_at;
 use opened::shape::NetShape;
 use opened::starts::arcs_of;
 use opened::starts::starts;
-use sheets::movements::movement_count;
 ghost use mathlib.Core.Path.{_≡_};
 ghost use mathlib.Core.Option.{none};
 ghost use Rattle.model.specs.declared.Thing.the-variants.{Movements};
@@ -19,10 +19,10 @@ ghost use Rattle.model.specs.Markings.{Marking};
 ghost use Rattle.model.specs.Firing.{modeRefusal, fired};
 ghost use Rattle.model.specs.Runs.{run};
 ghost use Rattle.sheets.specs.Decoded.{netOf, movementsOf};
-ghost use Rattle.sheets.specs.Movements.{movementsRefusal};
+ghost use Rattle.lists.specs.Movements.{movementsRefusal};
 ghost use Rattle.opened.specs.Shape.{Open};
 ghost use Rattle.sheets.specs.Listed.{modesFrom, ModesStand};
-ghost use Rattle.fire.specs.Parts.{Leaves};
+ghost use Rattle.firing.specs.Leaving.{Leaves};
 ghost use Rattle.run.specs.Parts.{Tables, Reports};
 
 // One movement, tested by the numbers of its mode's arcs.

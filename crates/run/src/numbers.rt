@@ -1,7 +1,7 @@
 // One number for each arc of a net, made once for a run: a count passes all four tests when it is at least Pre and below that number.
-use fire::arcs::meet;
-use fire::mode::find_refusal;
-use fire::mode::write_arcs;
+use firing::arcs::meet;
+use firing::mode::find_refusal;
+use firing::mode::write_arcs;
 use model::Answer;
 use model::Arc;
 use model::Thing;
@@ -17,10 +17,12 @@ ghost use Rattle.model.specs.declared.Thing.the-variants.{Movements};
 ghost use Rattle.model.specs.Markings.{Marking};
 ghost use Rattle.model.specs.Firing.{fired};
 ghost use Rattle.model.specs.PassBelow.{passBelow};
-ghost use Rattle.nets.specs.Nets.{bound};
+ghost use Rattle.fields.specs.Numbers.{bound};
 ghost use Rattle.sheets.specs.Decoded.{netOf, netArc};
 ghost use Rattle.opened.specs.Shape.{Open};
-ghost use Rattle.fire.specs.Parts.{InRange, Free, AtMode, OfMode, refusalOf, Decides, Leaves};
+ghost use Rattle.rule.specs.AtPair.{InRange};
+ghost use Rattle.firing.specs.AtMode.{Free, AtMode, OfMode, refusalOf, Decides};
+ghost use Rattle.firing.specs.Leaving.{Leaves};
 ghost use Rattle.run.specs.Parts.{numberOf, NumbersAre};
 
 fn least(a: u32, b: u32) -> u32

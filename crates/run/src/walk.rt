@@ -1,19 +1,19 @@
 // The list of a certificate: mode by mode like a run, by the table of starts alone, since only a run may hold its larger table on the stack.
 use crate::Ran;
 use fire::advance::advance;
+use lists::movements::movement_count;
 use model::Answer;
 use model::Thing;
 use opened::listed::mode_at;
 use opened::listed::movements_at;
 use opened::shape::NetShape;
 use opened::starts::starts;
-use sheets::movements::movement_count;
 ghost use mathlib.Core.Path.{_≡_};
 ghost use mathlib.Core.Option.{none};
 ghost use Rattle.model.specs.Markings.{Marking};
 ghost use Rattle.model.specs.Runs.{run};
 ghost use Rattle.sheets.specs.Decoded.{netOf, movementsOf};
-ghost use Rattle.sheets.specs.Movements.{movementsRefusal};
+ghost use Rattle.lists.specs.Movements.{movementsRefusal};
 ghost use Rattle.sheets.specs.Listed.{modesFrom, ModesStand};
 ghost use Rattle.opened.specs.Shape.{Open};
 ghost use Rattle.opened.specs.Starts.{StartsAre};

@@ -11,12 +11,13 @@ use Rattle.model.specs.Numbers.{ℕ∞, fin, ∞}
 use Rattle.model.specs.Nets.{K, count}
 use Rattle.model.specs.WellFormed.{InRange, Blank, ArcOf, Rises, Counted}
 use Rattle.model.proofs.Numbers.{above-false}
-use Rattle.nets.specs.Layout.{totalOf, counts, pairCount, modeCount, arcCount, arcsAt, arcAt}
-use Rattle.nets.specs.Nets.{bound, outside, risesTo, isBlank}
+use Rattle.heads.specs.Layout.{totalOf, counts, pairCount, modeCount, arcCount, arcsAt, arcAt}
+use Rattle.fields.specs.Numbers.{bound, outside}
+use Rattle.nets.specs.Nets.{risesTo, isBlank}
 use Rattle.sheets.specs.Decoded.{netArcAt, netOf}
 use Rattle.sheets.specs.Accepted.{AcceptedNet}
-use Rattle.nets.proofs.RunningTotals.{RunningRead}
-use Rattle.nets.proofs.BoundNumbers.{unbounded-only}
+use Rattle.fields.proofs.RunningTotals.{RunningRead}
+use Rattle.fields.proofs.BoundNumbers.{unbounded-only}
 use Rattle.nets.proofs.Valid.{ArcRead, counts-hold, colours-hold, modes-hold, capacity-holds, start-holds, arcs-within, arc-holds}
 use Rattle.sheets.proofs.Meaning.{counts-length, counts-at, colours-are, modes-of-are, pairs-are, modes-are, capacities-length, capacity-at, start-length, start-at, arcs-length, arc-at}
 

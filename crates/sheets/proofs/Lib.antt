@@ -1,4 +1,3 @@
-pub mod Signs
 pub mod Meaning
 pub mod Accepted
 pub mod Lists

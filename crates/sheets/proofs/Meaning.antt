@@ -6,9 +6,9 @@ use lib.ListN.{length, getD}
 use Rattle.model.specs.Numbers.{∞}
 use Rattle.model.specs.Nets.{pairs, modes, K, count, arcNo}
 use Rattle.model.proofs.Tables.{table-length, table-at}
-use Rattle.nets.specs.Bytes.{u16At, u32At}
-use Rattle.nets.specs.Layout.{countAt, counts, coloursAt, placeCount, transitionCount, modesAt, pairCount, modeCount, pairsAt, pairAt, arcCount, arcsAt, arcAt, capacityAt, startAt}
-use Rattle.nets.specs.Nets.{bound}
+use Rattle.heads.specs.Bytes.{u16At, u32At}
+use Rattle.heads.specs.Layout.{countAt, counts, coloursAt, placeCount, transitionCount, modesAt, pairCount, modeCount, pairsAt, pairAt, arcCount, arcsAt, arcAt, capacityAt, startAt}
+use Rattle.fields.specs.Numbers.{bound}
 use Rattle.sheets.specs.Decoded.{netArcAt, netOf}
 
 module _ (s : List ℕ) where

@@ -20,13 +20,15 @@ use Rattle.model.specs.RefusalTables.{row, Reads}
 use Rattle.model.proofs.First.{then-assoc}
 use Rattle.model.proofs.Decisions.{Decided, by-less, by-at-most, by-equal, by-above, by-not, by-or, by-and, by-other}
 use Rattle.model.proofs.RefusalTables.{reads-row, reads-then, reads-each, reads-either}
-use Rattle.nets.specs.Bytes.{u16At, u32At}
-use Rattle.nets.specs.Layout.{bodyLength, sheetEnd, weightCountAt, version, countAt, totalOf, pairAt, arcAt, arcCountAt, arcsAfter, placeCount, transitionCount, coloursAt, modesAt, pairCount, pairsAt, modeCount, movementCount, movementAt, weightCount, weightAt}
-use Rattle.nets.specs.Checks.{headRefusal, missing, leftOver, countRefusal}
+use Rattle.heads.specs.Bytes.{u16At, u32At}
+use Rattle.heads.specs.Layout.{bodyLength, sheetEnd, weightCountAt, version, countAt, totalOf, pairAt, arcAt, arcCountAt, arcsAfter, placeCount, transitionCount, coloursAt, modesAt, pairCount, pairsAt, modeCount, movementCount, movementAt, weightCount, weightAt}
+use Rattle.heads.specs.Checks.{headRefusal, missing, leftOver, countRefusal}
 use Rattle.model.specs.Refusals.{wrong}
-use Rattle.sheets.specs.Movements.{mostMovements, movementFields, movementsRefusal}
-use Rattle.sheets.specs.Weights.{signed, weightRefusal, weightFields, weightsRefusal}
-use Rattle.nets.specs.Nets.{unbounded, bound, outside, runningRefusal, capacityRefusal, startRefusal, pairRefusal, risesTo, notRising, isBlank, arcNumbersRefusal, arcNamesRefusal, arcRefusal, arcFields, eachCount, countFields, pairAndArcFields, netFields, netRefusal}
+use Rattle.lists.specs.Movements.{mostMovements, movementFields, movementsRefusal}
+use Rattle.lists.specs.Weights.{signed, weightRefusal, weightFields, weightsRefusal}
+use Rattle.fields.specs.Numbers.{unbounded, bound, outside}
+use Rattle.fields.specs.Fields.{runningRefusal, capacityRefusal, startRefusal, pairRefusal, eachCount, countFields}
+use Rattle.nets.specs.Nets.{risesTo, notRising, isBlank, arcNumbersRefusal, arcNamesRefusal, arcRefusal, arcFields, pairAndArcFields, netFields, netRefusal}
 use Rattle.sheets.specs.RefusalTables.{headTable, pastEnd, leftAfter, countTable, movementTable, WeightOutside, weightTable, runningTable, pairTable, Higher, arcNamesTable, arcNumbersTable, arcTable, netTable, SheetTables}
 
 -- a row that stands in the chain as it stands in the table

@@ -5,17 +5,11 @@ use mathlib.Core.List.{List}
 use Rattle.model.specs.declared.Answer.{Answer}
 use Rattle.model.specs.Refusals.{answer}
 use Rattle.nets.specs.Nets.{netRefusal}
-use Rattle.sheets.specs.Weights.{weightsRefusal}
-use Rattle.sheets.specs.Movements.{movementsRefusal}
+use Rattle.lists.specs.Weights.{weightsRefusal}
+use Rattle.lists.specs.Movements.{movementsRefusal}
 use Rattle.sheets.specs.Whole.{wholeNet, wholeWeights, wholeMovements, rest}
 
 module _ (s : List ℕ) where
-  abbrev pub ReadMovementsAllows : Answer → Type 0
-  ReadMovementsAllows told = told ≡ answer (movementsRefusal s)
-
-  abbrev pub ReadWeightsAllows : ℕ → Answer → Type 0
-  ReadWeightsAllows pairs told = told ≡ answer (weightsRefusal pairs s)
-
   -- "A sheet reader .. hands back the part of the caller's bytes after the sheet ..; on a refusal it hands back the whole run."
   abbrev pub AfterNetAllows : List ℕ → Type 0
   AfterNetAllows part = part ≡ rest (answer (netRefusal s)) s

@@ -6,10 +6,10 @@ use Rattle.model.specs.declared.Arc.{Arc}
 use Rattle.model.specs.declared.Mode.{Mode}
 use Rattle.model.specs.Lists.{table}
 use Rattle.model.specs.Nets.{NetArc, PNet, pairNo, modeNo}
-use Rattle.nets.specs.Bytes.{u16At, u32At}
-use Rattle.nets.specs.Layout.{counts, coloursAt, placeCount, transitionCount, modesAt, pairCount, pairsAt, pairAt, arcCount, arcsAt, arcAt, capacityAt, startAt, arcModeAt, arcPairAt, preAt, postAt, inhibitorAt, movementAt, movementCount, weightCount, weightAt}
-use Rattle.sheets.specs.Weights.{signed}
-use Rattle.nets.specs.Nets.{bound}
+use Rattle.heads.specs.Bytes.{u16At, u32At}
+use Rattle.heads.specs.Layout.{counts, coloursAt, placeCount, transitionCount, modesAt, pairCount, pairsAt, pairAt, arcCount, arcsAt, arcAt, capacityAt, startAt, arcModeAt, arcPairAt, preAt, postAt, inhibitorAt, movementAt, movementCount, weightCount, weightAt}
+use Rattle.lists.specs.Weights.{signed}
+use Rattle.fields.specs.Numbers.{bound}
 
 -- the arc that stands at `at`
 unfoldable pub netArcAt : List ℕ → ℕ → NetArc

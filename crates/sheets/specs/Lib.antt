@@ -1,5 +1,3 @@
-pub mod Movements
-pub mod Weights
 pub mod Whole
 pub mod Decoded
 pub mod Accepted

@@ -6,8 +6,8 @@ use lib.ListN.{length}
 use Rattle.model.specs.declared.Mode.{Mode}
 use Rattle.model.specs.Nets.{modeNo}
 use Rattle.model.specs.Lists.{table}
-use Rattle.nets.specs.Bytes.{u16At}
-use Rattle.nets.specs.Layout.{countAt}
+use Rattle.heads.specs.Bytes.{u16At}
+use Rattle.heads.specs.Layout.{countAt}
 
 -- "Mode numbers, 2 bytes each", from `start` on: the k-th, the first n, and room for n
 unfoldable pub modeAt : List ℕ → ℕ → ℕ → Mode

@@ -11,12 +11,13 @@ use Rattle.model.specs.declared.Thing.the-variants.{Net, Weights, Movements}
 use Rattle.model.specs.declared.Fault.the-variants.{CutShort, WrongVersion, WrongLength, CountOutside, NumberOutside, NotThereAt, NotRising, Blank, StartAboveCapacity, NotOneEach}
 use Rattle.model.specs.Numbers.{Above, limit}
 use Rattle.model.specs.RefusalTables.{Table, row, _then_, each, Reads}
-use Rattle.nets.specs.Bytes.{u16At, u32At}
-use Rattle.nets.specs.Layout.{bodyLength, sheetEnd, version, countAt, totalOf, pairAt, capacityAt, startAt, arcAt, arcSize, arcModeAt, arcPairAt, preAt, postAt, inhibitorAt, placesAt, transitionsAt, coloursAt, arcsAfter, placeCount, transitionCount, modesAt, pairCount, modeCount, pairsAt, arcCountAt, movementsAt, movementCount, weightCountAt, weightCount, weightAt}
+use Rattle.heads.specs.Bytes.{u16At, u32At}
+use Rattle.heads.specs.Layout.{bodyLength, sheetEnd, version, countAt, totalOf, pairAt, capacityAt, startAt, arcAt, arcSize, arcModeAt, arcPairAt, preAt, postAt, inhibitorAt, placesAt, transitionsAt, coloursAt, arcsAfter, placeCount, transitionCount, modesAt, pairCount, modeCount, pairsAt, arcCountAt, movementsAt, movementCount, weightCountAt, weightCount, weightAt}
 use Rattle.model.specs.Refusals.{wrong}
-use Rattle.sheets.specs.Movements.{mostMovements, movementsRefusal}
-use Rattle.sheets.specs.Weights.{signed, weightsRefusal}
-use Rattle.nets.specs.Nets.{unbounded, bound, netRefusal}
+use Rattle.lists.specs.Movements.{mostMovements, movementsRefusal}
+use Rattle.lists.specs.Weights.{signed, weightsRefusal}
+use Rattle.fields.specs.Numbers.{unbounded, bound}
+use Rattle.nets.specs.Nets.{netRefusal}
 
 module _ (thing : Thing) (s : List ℕ) where
   -- "1, then L = 0, then 2"

@@ -11,11 +11,11 @@ use Rattle.model.specs.declared.Refusal.{Refusal}
 use Rattle.model.specs.declared.Answer.{Answer}
 use Rattle.model.specs.declared.Answer.the-variants.{Accepted, Refused}
 use Rattle.model.specs.First.{_▸_, onlyIf}
-use Rattle.nets.specs.Layout.{sheetEnd}
+use Rattle.heads.specs.Layout.{sheetEnd}
 use Rattle.model.specs.Refusals.{wrong}
 use Rattle.nets.specs.Nets.{netRefusal}
-use Rattle.sheets.specs.Weights.{weightsRefusal}
-use Rattle.sheets.specs.Movements.{movementsRefusal}
+use Rattle.lists.specs.Weights.{weightsRefusal}
+use Rattle.lists.specs.Movements.{movementsRefusal}
 
 -- "A call that takes one sheet as an argument refuses left-over bytes by 3."
 unfoldable pub bytesAfter : Thing → List ℕ → Option Refusal

@@ -1,15 +1,15 @@
 // Bytes after a sheet: refused where a call takes one sheet as an argument, handed back where a reader is called on a run of bytes.
-use crate::movements::read_movements;
-use crate::weights::read_weights;
+use heads::head::refused;
+use heads::head::sheet_end;
+use lists::movements::read_movements;
+use lists::weights::read_weights;
 use model::Answer;
 use model::Fault;
 use model::Thing;
-use nets::head::refused;
-use nets::head::sheet_end;
 use nets::net::read_net;
 ghost use mathlib.Core.Path.{_≡_};
 ghost use Rattle.model.specs.Refusals.{answer};
-ghost use Rattle.nets.specs.Held.{Headed};
+ghost use Rattle.heads.specs.Held.{Headed};
 ghost use Rattle.sheets.specs.Whole.{bytesAfter, rest};
 ghost use Rattle.sheets.specs.Contracts.{WholeNetAllows, WholeWeightsAllows, WholeMovementsAllows, AfterNetAllows, AfterWeightsAllows, AfterMovementsAllows};
 

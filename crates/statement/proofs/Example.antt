@@ -5,12 +5,14 @@ use Rattle.model.specs.Lists.{table}
 use Rattle.model.specs.Nets.{entryAt}
 use Rattle.model.specs.Firing.{ruleRefusal, rowRefusal, modeRefusal, fired}
 use Rattle.model.specs.Figures.{sum, figure}
-use Rattle.nets.specs.Bytes.{u16At, u32At}
-use Rattle.nets.specs.Layout.{counts, pairCount, modeCount, arcCount}
-use Rattle.nets.specs.Checks.{headRefusal, countRefusal}
-use Rattle.nets.specs.Nets.{bound, runningRefusal, capacityRefusal, startRefusal, pairRefusal, risesTo, notRising, isBlank, arcNumbersRefusal, arcNamesRefusal, arcRefusal, arcFields, eachCount, countFields, pairAndArcFields, netFields, netRefusal}
-use Rattle.sheets.specs.Weights.{signed, weightRefusal, weightFields, weightsRefusal}
-use Rattle.sheets.specs.Movements.{movementFields, movementsRefusal}
+use Rattle.heads.specs.Bytes.{u16At, u32At}
+use Rattle.heads.specs.Layout.{counts, pairCount, modeCount, arcCount}
+use Rattle.heads.specs.Checks.{headRefusal, countRefusal}
+use Rattle.fields.specs.Numbers.{bound}
+use Rattle.fields.specs.Fields.{runningRefusal, capacityRefusal, startRefusal, pairRefusal, eachCount, countFields}
+use Rattle.nets.specs.Nets.{risesTo, notRising, isBlank, arcNumbersRefusal, arcNamesRefusal, arcRefusal, arcFields, pairAndArcFields, netFields, netRefusal}
+use Rattle.lists.specs.Weights.{signed, weightRefusal, weightFields, weightsRefusal}
+use Rattle.lists.specs.Movements.{movementFields, movementsRefusal}
 use Rattle.sheets.specs.Whole.{bytesAfter, wholeMovements, rest}
 use Rattle.sheets.specs.Decoded.{netArcAt, netOf, weightsOf, movementsOf}
 use Rattle.text.specs.Decimals.{decimalWithin, decimal, signedDecimal}

@@ -22,12 +22,11 @@ use Rattle.model.proofs.Firing.{accepted-there, accepted-enough}
 use Rattle.model.proofs.Markings.{marking-kept}
 use Rattle.model.proofs.Refusals.{answer-refused, answer-none}
 use Rattle.opened.specs.declared.shape.NetShape.{NetShape}
-use Rattle.nets.specs.Layout.{movementCount}
+use Rattle.heads.specs.Layout.{movementCount}
 use Rattle.sheets.specs.Decoded.{netOf, weightsOf, movementsOf}
 use Rattle.sheets.proofs.Lists.{movements-length, movements-within}
 use Rattle.opened.proofs.Shapes.{sizes}
-use Rattle.fire.specs.Calls.{written}
-use Rattle.fire.specs.Parts.{Leaves}
+use Rattle.firing.specs.Leaving.{written, Leaves}
 use Rattle.text.specs.declared.Put.{Put}
 use Rattle.lines.specs.Lines.{acceptedLine, refusedLine, endLine}
 use Rattle.statement.specs.Parts.{Read}

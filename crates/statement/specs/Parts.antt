@@ -4,8 +4,8 @@ use mathlib.Core.Path.{_≡_}
 use mathlib.Core.List.{List}
 use mathlib.Core.Option.{none}
 use Rattle.opened.specs.declared.shape.NetShape.{NetShape}
-use Rattle.sheets.specs.Movements.{movementsRefusal}
-use Rattle.sheets.specs.Weights.{weightsRefusal}
+use Rattle.lists.specs.Movements.{movementsRefusal}
+use Rattle.lists.specs.Weights.{weightsRefusal}
 use Rattle.opened.specs.Shape.{Open}
 
 -- three sheets that were accepted

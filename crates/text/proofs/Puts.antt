@@ -91,10 +91,6 @@ module _ (out : List ℕ) (at : ℕ) (bytes : List ℕ) where
   pub all-copied : (i : ℕ) → at + length bytes ≤ length out → i ≤ length bytes → length bytes ≤ i → paste out at bytes i ≡ putInto out at bytes
   all-copied i h l g = let e : i ≡ length bytes = omega arith in rw (e, take-length, into-within h)
 
--- what was put at the front stands there
-pub taken-back : (out bytes : List ℕ) → length bytes ≤ length out → take (length bytes) (putInto out 0 bytes) ≡ bytes
-taken-back out bytes h = rw (into-within out 0 bytes (omega arith)) (take-at bytes (drop (0 + length bytes) out) (length bytes) refl)
-
 drop-past : (xs ys : List ℕ) (n k : ℕ) → length xs ≡ n → drop (n + k) (xs ++ ys) ≡ drop k ys
 drop-past xs ys n k e = rw (← e) (drop-append-add xs ys k)
 

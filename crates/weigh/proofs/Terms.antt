@@ -16,7 +16,7 @@ use Rattle.model.specs.Figures.{sum, weight, change}
 use Rattle.model.proofs.Integers.{size-add}
 use Rattle.model.proofs.Figures.{sum-more, size-sum, gain, change-by-arcs}
 use Rattle.opened.specs.declared.shape.NetShape.{NetShape}
-use Rattle.sheets.specs.Weights.{weightsRefusal}
+use Rattle.lists.specs.Weights.{weightsRefusal}
 use Rattle.sheets.specs.Decoded.{netOf, weightsOf}
 use Rattle.opened.specs.Shape.{Open}
 use Rattle.opened.specs.Starts.{ModeArcs}

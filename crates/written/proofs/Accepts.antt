@@ -12,13 +12,14 @@ use Rattle.model.specs.declared.Thing.the-variants.{Net}
 use Rattle.model.specs.First.{_▸_}
 use Rattle.model.specs.Numbers.{limit}
 use Rattle.model.proofs.First.{none-then, below-or}
-use Rattle.nets.specs.Bytes.{u16At, u32At}
-use Rattle.nets.specs.Layout.{bodyLength, sheetEnd, version, totalOf, capacityAt, startAt, arcAt, arcSize, arcModeAt, arcPairAt, preAt, postAt}
-use Rattle.nets.specs.Checks.{headRefusal, countRefusal}
-use Rattle.nets.specs.Nets.{runningRefusal, capacityRefusal, startRefusal, pairRefusal, risesTo, notRising, arcNumbersRefusal, arcNamesRefusal, arcRefusal}
-use Rattle.nets.specs.Held.{Headed}
-use Rattle.nets.proofs.RunningTotals.{CountRead, RunningRead}
-use Rattle.nets.proofs.PairFields.{CapacityRead, StartRead}
+use Rattle.heads.specs.Bytes.{u16At, u32At}
+use Rattle.heads.specs.Layout.{bodyLength, sheetEnd, version, totalOf, capacityAt, startAt, arcAt, arcSize, arcModeAt, arcPairAt, preAt, postAt}
+use Rattle.heads.specs.Checks.{headRefusal, countRefusal}
+use Rattle.fields.specs.Fields.{runningRefusal, capacityRefusal, startRefusal, pairRefusal}
+use Rattle.nets.specs.Nets.{risesTo, notRising, arcNumbersRefusal, arcNamesRefusal, arcRefusal}
+use Rattle.heads.specs.Held.{Headed}
+use Rattle.fields.proofs.RunningTotals.{CountRead, RunningRead}
+use Rattle.fields.proofs.PairFields.{CapacityRead, StartRead}
 use Rattle.nets.proofs.Valid.{ArcRead}
 
 module _ (s : List ℕ) where

@@ -6,7 +6,7 @@ use mathlib.Core.Logic.{⊎-elim}
 use lib.ListN.{length, List·getD-eq-default}
 use native.Mathlib.Omega.{arith}
 use Rattle.model.proofs.First.{below-or}
-use Rattle.nets.specs.Bytes.{byteAt, u16At, u32At}
+use Rattle.heads.specs.Bytes.{byteAt, u16At, u32At}
 use Rattle.written.specs.Written.{bytes16, bytes32, headBytes}
 use Rattle.written.proofs.Stands.{Stands, stands-both, stands-left, stands-right}
 

@@ -17,13 +17,15 @@ use Rattle.model.specs.WellFormed.{InRange, Blank, ArcOf, Rises, Counted, WellF
 use Rattle.model.proofs.Both.{and-both}
 use Rattle.model.proofs.First.{none-then, first-all}
 use Rattle.model.proofs.Numbers.{false-above}
-use Rattle.nets.specs.Bytes.{u16At, u32At}
-use Rattle.nets.specs.Layout.{sheetEnd, version, countAt, counts, totalOf, placesAt, transitionsAt, coloursAt, placeCount, transitionCount, modesAt, modeCount, pairCount, pairsAt, pairAt, arcCountAt, arcCount, arcsAt, arcAt, capacityAt, startAt, arcPairAt, inhibitorAt}
-use Rattle.nets.specs.Nets.{bound, outside, runningRefusal, risesTo, isBlank, eachCount, countFields, pairRefusal, arcFields, pairAndArcFields, netFields, netRefusal}
-use Rattle.nets.specs.Held.{Headed}
+use Rattle.heads.specs.Bytes.{u16At, u32At}
+use Rattle.heads.specs.Layout.{sheetEnd, version, countAt, counts, totalOf, placesAt, transitionsAt, coloursAt, placeCount, transitionCount, modesAt, modeCount, pairCount, pairsAt, pairAt, arcCountAt, arcCount, arcsAt, arcAt, capacityAt, startAt, arcPairAt, inhibitorAt}
+use Rattle.fields.specs.Numbers.{bound, outside}
+use Rattle.fields.specs.Fields.{runningRefusal, eachCount, countFields, pairRefusal}
+use Rattle.nets.specs.Nets.{risesTo, isBlank, arcFields, pairAndArcFields, netFields, netRefusal}
+use Rattle.heads.specs.Held.{Headed}
 use Rattle.sheets.specs.Decoded.{netArcAt, netOf}
-use Rattle.nets.proofs.Bounds.{bound-unbounded}
-use Rattle.nets.proofs.RunningTotals.{total-more}
+use Rattle.fields.proofs.Bounds.{bound-unbounded}
+use Rattle.fields.proofs.RunningTotals.{total-more}
 use Rattle.nets.proofs.Valid.{ArcRead}
 use Rattle.sheets.proofs.Meaning.{counts-length, counts-at, pairs-are, modes-are, capacity-at, start-at, arcs-length, arc-at}
 use Rattle.written.proofs.Accepts.{head-accepts, count-accepts, running-accepts, pair-accepts, arc-accepts}

@@ -8,9 +8,9 @@ use Rattle.model.specs.Numbers.{∞}
 use Rattle.model.specs.Nets.{PNet, total, pairs, K, count, arcNo}
 use Rattle.model.specs.WellFormed.{WellFormed, Counted}
 use Rattle.model.specs.Lists.{table}
-use Rattle.nets.specs.Bytes.{u32At}
-use Rattle.nets.specs.Layout.{bodyLength, version, counts, coloursAt, placeCount, transitionCount, modesAt, pairCount, pairsAt, pairAt, arcCountAt, arcCount, arcsAt, arcAt, capacityAt, startAt}
-use Rattle.nets.specs.Nets.{bound}
+use Rattle.heads.specs.Bytes.{u32At}
+use Rattle.heads.specs.Layout.{bodyLength, version, counts, coloursAt, placeCount, transitionCount, modesAt, pairCount, pairsAt, pairAt, arcCountAt, arcCount, arcsAt, arcAt, capacityAt, startAt}
+use Rattle.fields.specs.Numbers.{bound}
 use Rattle.sheets.specs.Decoded.{netArcAt, netOf}
 use Rattle.written.specs.Written.{bytes16, bytes32, pairBytes, arcBytes, pairsBytes, headBytes, fieldsOf, lengthOf, sheetOf}
 use Rattle.written.proofs.Stands.{Stands, InTurn, stands-left, stands-right, moved, in-turn}

@@ -5,8 +5,8 @@ use mathlib.Core.List.{List, [], _∷_, flatten, flatMap}
 use lib.ListN.{length}
 use native.Mathlib.Omega.{arith}
 use Rattle.model.specs.Nets.{pairs, K, count}
-use Rattle.nets.specs.Bytes.{byteAt, u16At}
-use Rattle.nets.specs.Layout.{bodyLength, version, counts, placesAt, transitionsAt, coloursAt, placeCount, transitionCount, modesAt, pairsAt, pairAt, arcCountAt, arcCount, arcsAt, arcAt}
+use Rattle.heads.specs.Bytes.{byteAt, u16At}
+use Rattle.heads.specs.Layout.{bodyLength, version, counts, placesAt, transitionsAt, coloursAt, placeCount, transitionCount, modesAt, pairsAt, pairAt, arcCountAt, arcCount, arcsAt, arcAt}
 use Rattle.sheets.specs.Decoded.{netOf}
 use Rattle.written.specs.Written.{bytes16, bytes32, pairBytes, arcBytes, pairsBytes, headBytes, fieldsOf, lengthOf, sheetOf}
 use Rattle.written.proofs.Stands.{Stands, stands-both, moved, none-stand, next-stands}

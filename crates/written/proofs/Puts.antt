@@ -1,18 +1,16 @@
 -- The laws of puts: parts that are stored one after the other, and what stays as it was.
 use Prim.Native.Nat.{ℕ, suc, _+_, _-_, _/_, _%_, _≤_, _<_}
 use mathlib.Core.Path.{_≡_, refl, sym, _∙_, ap}
-use mathlib.Core.List.{List, [], _∷_, _++_, flatten}
+use mathlib.Core.List.{List, [], _∷_, _++_}
 use mathlib.Core.Logic.{_⊎_, inl, inr, ⊎-elim}
 use lib.ListN.{length, take, drop, set, length-append, length-set}
-use lib.Seq.{sets, length-sets, sets-eq, set-comm, getD-set-other}
+use lib.Seq.{sets, sets-eq, set-comm, getD-set-other}
 use native.Mathlib.Omega.{arith}
 use native.Mathlib.Numerals.{add-one}
-use Rattle.model.specs.Nets.{PNet}
 use Rattle.model.specs.Lists.{joined}
-use Rattle.nets.specs.Bytes.{byteAt}
-use Rattle.written.specs.Written.{bytes16, headBytes, fieldsOf, lengthOf, sheetOf}
+use Rattle.heads.specs.Bytes.{byteAt}
+use Rattle.written.specs.Written.{bytes16}
 use Rattle.written.specs.Puts.{Written, Put}
-use Rattle.written.proofs.SheetLength.{sheet-length}
 
 sets-append : (l : List ℕ) (at : ℕ) (xs ys : List ℕ) → sets l at (xs ++ ys) ≡ sets (sets l at xs) (at + length xs) ys
 sets-append l at [] ys = let e : at + 0 ≡ at = omega arith in rw e
@@ -51,9 +49,6 @@ module _ {l m : List ℕ} where
       record { is = v .is ∙ ap (λ r. sets r at xs) (w .is) ∙ sets-sets l at k xs ys (omega arith) ∙ ap (λ i. sets (sets l at xs) i ys) e ∙ sym (sets-append l at xs ys) }
 
   module _ {xs : List ℕ} {at : ℕ} (w : Written l at xs m) where
-    pub written-length : length m ≡ length l
-    written-length = ap length (w .is) ∙ length-sets l at xs
-
     pub spliced : at + length xs ≤ length l → m ≡ take at l ++ xs ++ drop (at + length xs) l
     spliced h = w .is ∙ sets-eq xs l at h
 
@@ -89,17 +84,6 @@ more-put f i p q = rw add-one (puts p q)
 -- the size of a put is the length of what was put
 pub put-length : {l m xs : List ℕ} {at size after : ℕ} → Put l at size xs m after → Put l at (length xs) xs m after
 put-length p = rw (p .sized) p
-
--- a whole sheet: its head, and its fields in turn
-pub sheet-put : {l m n : List ℕ} {k after a size : ℕ} (net : PNet)
-    → size ≡ length (sheetOf net)
-    → Put l 0 5 (headBytes (size - 4)) m k
-    → Put m k a (flatten (fieldsOf net)) n after
-    → Put l 0 size (sheetOf net) n after
-unfolding sheetOf
-sheet-put {size = size} net e p q =
-    let f : size - 4 ≡ lengthOf net = omega (arith, sheet-length net) in
-    rw e (put-length (puts (rw f at p) q))
 
 pub one : (l : List ℕ) (at x : ℕ) → Put l at 1 (x ∷ []) (set l at x) (at + 1)
 one l at x = record { written = record { is = refl }; sized = refl; kept = length-set l at x; next = refl }

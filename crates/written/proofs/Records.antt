@@ -10,13 +10,13 @@ use borrow.Author.Tests.{eqb-true}
 use Rattle.model.specs.Numbers.{ℕ∞, fin, ∞, limit}
 use Rattle.model.specs.Nets.{NetArc, PNet, pairs, modes}
 use Rattle.model.specs.WellFormed.{InRange, ArcOf}
-use Rattle.nets.specs.Bytes.{byteAt, u32At}
-use Rattle.nets.specs.Layout.{capacityAt, startAt, arcModeAt, arcPairAt, preAt, postAt, inhibitorAt}
-use Rattle.nets.specs.Nets.{unbounded, bound}
+use Rattle.heads.specs.Bytes.{byteAt, u32At}
+use Rattle.heads.specs.Layout.{capacityAt, startAt, arcModeAt, arcPairAt, preAt, postAt, inhibitorAt}
+use Rattle.fields.specs.Numbers.{unbounded, bound}
 use Rattle.sheets.specs.Decoded.{netArcAt}
 use Rattle.written.specs.Written.{bytes16, bytes32, boundNumber, pairBytes, arcBytes}
 use Rattle.written.proofs.Stands.{Stands, stands-both, stands-left, stands-right, moved, in-turn, none-stand, next-stands}
-use Rattle.nets.proofs.Bounds.{bound-unbounded, bound-finite}
+use Rattle.fields.proofs.Bounds.{bound-unbounded, bound-finite}
 use Rattle.written.proofs.BigEndian.{length32, read16, read32, stand16, stand32}
 
 bound-number : (k : ℕ∞) → InRange k → bound (boundNumber k) ≡ k

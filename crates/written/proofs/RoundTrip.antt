@@ -12,14 +12,14 @@ use Rattle.model.specs.Nets.{PNet}
 use Rattle.model.specs.Refusals.{answer}
 use Rattle.model.specs.WellFormed.{WellFormed}
 use Rattle.model.proofs.First.{left-none, right-none, none-then, only-if-none}
-use Rattle.nets.specs.Layout.{sheetEnd, version, arcsAt, arcCount, arcAt, arcSize}
-use Rattle.nets.specs.Checks.{headRefusal}
+use Rattle.heads.specs.Layout.{sheetEnd, version, arcsAt, arcCount, arcAt, arcSize}
+use Rattle.heads.specs.Checks.{headRefusal}
 use Rattle.nets.specs.Nets.{arcFields, pairAndArcFields, netFields, netRefusal}
 use Rattle.sheets.specs.Whole.{bytesAfter, wholeNet, rest}
 use Rattle.sheets.specs.Decoded.{netOf}
 use Rattle.written.specs.Written.{sheetOf}
 use Rattle.written.specs.Promises.{WrittenThenRead, ReadThenWritten}
-use Rattle.nets.proofs.Heads.{head-holds}
+use Rattle.heads.proofs.Heads.{head-holds}
 use Rattle.nets.proofs.Valid.{arc-count-holds, arc-holds}
 use Rattle.written.proofs.Stands.{Stands, stands-left, stands-self, stands-whole}
 use Rattle.written.proofs.BigEndian.{every-byte}

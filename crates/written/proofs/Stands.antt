@@ -7,7 +7,7 @@ use lib.ListN.{length, length-append, List·getD-append}
 use lib.Seq.{getD-append-add, ext-getD}
 use native.Mathlib.Omega.{arith}
 use Rattle.model.proofs.First.{below-or}
-use Rattle.nets.specs.Bytes.{byteAt}
+use Rattle.heads.specs.Bytes.{byteAt}
 
 pub record Stands (s : List ℕ) (at : ℕ) (bytes : List ℕ) : Type 0 where
   pub each : (j k : ℕ) → j < length bytes → k ≡ at + j → byteAt s k ≡ byteAt bytes j

@@ -7,9 +7,9 @@ use lib.ListN.{length}
 use Rattle.model.specs.Nets.{PNet}
 use Rattle.model.specs.Refusals.{answer}
 use Rattle.model.specs.WellFormed.{WellFormed}
-use Rattle.nets.specs.Bytes.{byteAt}
+use Rattle.heads.specs.Bytes.{byteAt}
 use Rattle.model.specs.WorkedExamples.{ownExample}
-use Rattle.nets.specs.Layout.{sheetEnd}
+use Rattle.heads.specs.Layout.{sheetEnd}
 use Rattle.nets.specs.Nets.{netRefusal}
 use Rattle.sheets.specs.Whole.{wholeNet, rest}
 use Rattle.sheets.specs.Decoded.{netOf}

@@ -5,7 +5,7 @@ use mathlib.Core.Path.{_≡_}
 use mathlib.Core.List.{List}
 use lib.ListN.{length}
 use lib.Seq.{sets}
-use Rattle.nets.specs.Layout.{countAt, pairAt, arcAt, coloursAt, arcsAfter}
+use Rattle.heads.specs.Layout.{countAt, pairAt, arcAt, coloursAt, arcsAfter}
 
 -- (the library's `sets` stores them one by one)
 pub record Written (before : List ℕ) (at : ℕ) (bytes now : List ℕ) : Type 0 where

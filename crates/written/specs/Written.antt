@@ -5,7 +5,7 @@ use lib.ListN.{length}
 use Rattle.model.specs.Numbers.{ℕ∞, fin, ∞}
 use Rattle.model.specs.Nets.{NetArc, PNet, pairs, K, count}
 use Rattle.model.specs.Lists.{joined}
-use Rattle.nets.specs.Nets.{unbounded}
+use Rattle.fields.specs.Numbers.{unbounded}
 
 -- "all big-endian": a number in two bytes, and in four
 unfoldable pub bytes16 : ℕ → List ℕ

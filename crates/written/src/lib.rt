@@ -3,7 +3,7 @@ use model::Arc;
 ghost use mathlib.Core.Path.{_≡_};
 ghost use Prim.Native.Nat.{_+_, _-_, _<_, _≤_};
 ghost use lib.ListN.{length};
-ghost use Rattle.nets.specs.Nets.{bound};
+ghost use Rattle.fields.specs.Numbers.{bound};
 ghost use Rattle.written.specs.Written.{bytes16, bytes32, headBytes, pairBytes, arcBytes};
 ghost use Rattle.sheets.specs.Decoded.{netArc};
 ghost use Rattle.written.specs.Puts.{Put, sheetSize};

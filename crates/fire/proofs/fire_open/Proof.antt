@@ -1,7 +1,7 @@
 -- The marking, 6, or what firing the mode's arcs gives.
 use borrow.Author.Needs.{needs}
-use Rattle.fire.proofs.ByMode.{at-mode}
-use Rattle.fire.proofs.Leaving.{leaves-stops, leaves-goes-on}
+use Rattle.firing.proofs.ByMode.{at-mode}
+use Rattle.firing.proofs.Leaving.{leaves-stops, leaves-goes-on}
 use Rattle.fire.proofs.Opened.{mode-refusal}
 use Rattle.fire.proofs.fire_open.Statement.{statement}
 use Rattle.fire.proofs.fire_open.Tie as tie

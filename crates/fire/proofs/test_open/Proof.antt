@@ -1,7 +1,7 @@
 -- The marking, 6, or what the mode's row gives.
 use borrow.Author.Needs.{needs}
 use Rattle.model.proofs.Refusals.{answer-stops, answer-goes-on}
-use Rattle.fire.proofs.ByMode.{at-mode}
+use Rattle.firing.proofs.ByMode.{at-mode}
 use Rattle.fire.proofs.Opened.{mode-refusal}
 use Rattle.fire.proofs.test_open.Statement.{statement}
 use Rattle.fire.proofs.test_open.Tie as tie

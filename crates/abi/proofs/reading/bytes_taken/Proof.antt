@@ -4,7 +4,7 @@ use Prim.Native.Nat.{_-_}
 use mathlib.Core.Path.{_≡_}
 use native.Mathlib.Omega.{arith}
 use lib.ListN.{length, drop, length-drop}
-use Rattle.nets.specs.Layout.{sheetEnd}
+use Rattle.heads.specs.Layout.{sheetEnd}
 use Rattle.sheets.specs.Whole.{rest}
 use Rattle.abi.proofs.reading.bytes_taken.Statement.{statement}
 use Rattle.abi.proofs.reading.bytes_taken.Tie as tie

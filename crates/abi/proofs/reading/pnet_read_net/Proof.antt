@@ -1,12 +1,12 @@
 -- A sheet that is accepted has its head.
 use borrow.Author.Needs.{needs}
 use Rattle.model.proofs.Refusals.{answer-none}
-use Rattle.nets.proofs.Heads.{net-head}
+use Rattle.nets.proofs.Valid.{headed}
 use Rattle.abi.proofs.reading.pnet_read_net.Statement.{statement}
 use Rattle.abi.proofs.reading.pnet_read_net.Tie as tie
 
 bytes-taken-requires : tie.Need-bytes-taken-requires
-bytes-taken-requires c κs = λ e. net-head _ (answer-none _ (c .read-net .ensures) e)
+bytes-taken-requires c κs = λ e. headed _ (answer-none _ (c .read-net .ensures) e)
 
 returns : tie.Need-returns
 returns c = rw (c .before .read-net .ensures) at (c .bytes-taken .ensures)

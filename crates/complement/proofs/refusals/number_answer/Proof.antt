@@ -2,7 +2,7 @@
 use borrow.Author.Needs.{needs}
 use mathlib.Core.Path.{_∙_}
 use Rattle.model.proofs.Refusals.{answer-last-passes, answer-last-fails}
-use Rattle.complement.proofs.Read.{small, too-large-is}
+use Rattle.sections.proofs.Read.{small, too-large-is}
 use Rattle.complement.proofs.refusals.number_answer.Statement.{statement}
 use Rattle.complement.proofs.refusals.number_answer.Tie as tie
 

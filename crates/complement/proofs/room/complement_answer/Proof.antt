@@ -15,7 +15,7 @@ room-answer-requires c κs =
 returns : tie.Need-returns
 returns c =
     let pre = c .before .before .before .before .before .before .pre in
-    in-order (pre .0) (pre .1 .0) _ (c .before .before .before .before .inhibitors-answer .ensures) (c .before .before .before .numbers-answer .ensures) (c .before .before .room-answer .ensures) (c .before .then .ensures)
+    in-order (pre .0) (pre .1 .0) _ (c .before .before .before .before .arcs-answer .ensures) (c .before .before .before .arcs-answer2 .ensures) (c .before .before .room-answer .ensures) (c .before .then .ensures)
     (c .then2 .ensures)
 
 pub complement-answer-spec : {M : Type 1} → statement M

@@ -2,8 +2,8 @@
 use borrow.Author.Needs.{needs}
 use native.Mathlib.Omega.{arith}
 use Rattle.opened.proofs.Shapes.{sizes}
-use Rattle.complement.proofs.Below.{entry-few, entries-rise, pair-count}
-use Rattle.complement.proofs.PlaceHalves.{place-count}
+use Rattle.halves.proofs.Below.{entry-few, entries-rise, pair-count}
+use Rattle.sections.proofs.PlaceHalves.{place-count}
 use Rattle.complement.proofs.sheet.complement_sizes.Statement.{statement}
 use Rattle.complement.proofs.sheet.complement_sizes.Tie as tie
 

@@ -4,7 +4,7 @@ use mathlib.Core.Path.{ap}
 use native.Mathlib.Omega.{arith}
 use Rattle.written.specs.Written.{bytes16}
 use Rattle.written.proofs.Puts.{put-length}
-use Rattle.complement.proofs.Puts.{puts-as, count-fits, room-first, room-next, puts-both}
+use Rattle.halves.proofs.Puts.{puts-as, count-fits, room-first, room-next, puts-both}
 use Rattle.complement.proofs.sheet.put_counted_arcs.Statement.{statement}
 use Rattle.complement.proofs.sheet.put_counted_arcs.Tie as tie
 

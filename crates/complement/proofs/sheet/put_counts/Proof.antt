@@ -6,7 +6,7 @@ use Rattle.written.specs.Written.{bytes16, headBytes}
 use Rattle.written.proofs.Puts.{put-length}
 use Rattle.opened.proofs.Shapes.{sizes}
 use Rattle.complement.proofs.SheetParts.{transitions-are, length-is}
-use Rattle.complement.proofs.Puts.{puts-as, head-fits, count-fits, room-first, room-next, puts-both}
+use Rattle.halves.proofs.Puts.{puts-as, head-fits, count-fits, room-first, room-next, puts-both}
 use Rattle.complement.proofs.sheet.put_counts.Statement.{statement}
 use Rattle.complement.proofs.sheet.put_counts.Tie as tie
 

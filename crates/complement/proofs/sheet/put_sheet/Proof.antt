@@ -2,7 +2,7 @@
 use borrow.Author.Needs.{needs}
 use mathlib.Core.Path.{sym}
 use Rattle.complement.proofs.SheetParts.{sheet-parts}
-use Rattle.complement.proofs.Puts.{room-as, puts-as, room-first, room-next, puts-both}
+use Rattle.halves.proofs.Puts.{room-as, puts-as, room-first, room-next, puts-both}
 use Rattle.complement.proofs.sheet.put_sheet.Statement.{statement}
 use Rattle.complement.proofs.sheet.put_sheet.Tie as tie
 

@@ -3,7 +3,7 @@ use borrow.Author.Needs.{needs}
 use native.Mathlib.Omega.{arith}
 use Rattle.model.proofs.Refusals.{answer-none, answer-stops, answer-goes-on}
 use Rattle.nets.specs.Nets.{arcFields}
-use Rattle.nets.proofs.RunningTotals.{count-holds}
+use Rattle.fields.proofs.RunningTotals.{count-holds}
 use Rattle.nets.proofs.arcs.arc_fields.Statement.{statement}
 use Rattle.nets.proofs.arcs.arc_fields.Tie as tie
 

@@ -3,7 +3,7 @@ use borrow.Author.Needs.{needs}
 use borrow.Author.Tests.{eq-eqb, ne-eqb}
 use Prim.Native.Nat.{_+_}
 use native.Mathlib.Omega.{arith}
-use Rattle.nets.specs.Bytes.{u32At}
+use Rattle.heads.specs.Bytes.{u32At}
 use Rattle.nets.specs.Nets.{isBlank}
 use Rattle.nets.proofs.arcs.is_blank.Statement.{statement}
 use Rattle.nets.proofs.arcs.is_blank.Tie as tie

@@ -4,7 +4,7 @@ use borrow.Author.Tests.{lt-ltb, le-ltb}
 use Prim.Native.Nat.{_+_}
 use native.Mathlib.Omega.{arith}
 use Rattle.model.proofs.Refusals.{answer-passes, answer-fails, answer-stops, answer-goes-on}
-use Rattle.nets.specs.Layout.{sheetEnd, arcAt}
+use Rattle.heads.specs.Layout.{sheetEnd, arcAt}
 use Rattle.nets.specs.Nets.{arcRefusal}
 use Rattle.nets.proofs.arcs.read_arc.Statement.{statement}
 use Rattle.nets.proofs.arcs.read_arc.Tie as tie

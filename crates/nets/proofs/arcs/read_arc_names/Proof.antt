@@ -5,8 +5,8 @@ use Prim.Native.Nat.{_+_}
 use mathlib.Core.Path.{sym, _∙_}
 use native.Mathlib.Omega.{arith}
 use Rattle.model.proofs.Refusals.{answer-passes, answer-fails, answer-last-passes, answer-last-fails}
-use Rattle.nets.specs.Bytes.{u16At}
-use Rattle.nets.specs.Layout.{arcAt}
+use Rattle.heads.specs.Bytes.{u16At}
+use Rattle.heads.specs.Layout.{arcAt}
 use Rattle.nets.specs.Nets.{arcNamesRefusal}
 use Rattle.nets.proofs.arcs.read_arc_names.Statement.{statement}
 use Rattle.nets.proofs.arcs.read_arc_names.Tie as tie

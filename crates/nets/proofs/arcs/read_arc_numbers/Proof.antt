@@ -5,8 +5,9 @@ use Prim.Native.Nat.{_+_}
 use mathlib.Core.Path.{sym, _∙_, ap}
 use native.Mathlib.Omega.{arith}
 use Rattle.model.proofs.Refusals.{answer-passes, answer-fails, answer-last-passes, answer-last-fails}
-use Rattle.nets.specs.Bytes.{u32At}
-use Rattle.nets.specs.Nets.{bound, outside, arcNumbersRefusal}
+use Rattle.heads.specs.Bytes.{u32At}
+use Rattle.fields.specs.Numbers.{bound, outside}
+use Rattle.nets.specs.Nets.{arcNumbersRefusal}
 use Rattle.nets.proofs.arcs.read_arc_numbers.Statement.{statement}
 use Rattle.nets.proofs.arcs.read_arc_numbers.Tie as tie
 

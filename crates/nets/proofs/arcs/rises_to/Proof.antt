@@ -2,7 +2,7 @@
 use borrow.Author.Needs.{needs}
 use borrow.Author.Tests.{lt-ltb, le-ltb, eq-eqb, ne-eqb}
 use native.Mathlib.Omega.{arith}
-use Rattle.nets.specs.Bytes.{u16At}
+use Rattle.heads.specs.Bytes.{u16At}
 use Rattle.nets.specs.Nets.{risesTo}
 use Rattle.nets.proofs.arcs.rises_to.Statement.{statement}
 use Rattle.nets.proofs.arcs.rises_to.Tie as tie

@@ -1,6 +1,6 @@
 -- The total of the modes.
 use borrow.Author.Needs.{needs}
-use Rattle.nets.specs.Layout.{modeCount}
+use Rattle.heads.specs.Layout.{modeCount}
 use Rattle.nets.proofs.net.mode_count.Statement.{statement}
 use Rattle.nets.proofs.net.mode_count.Tie as tie
 

@@ -2,7 +2,7 @@
 use borrow.Author.Needs.{needs}
 use Rattle.model.proofs.Refusals.{answer-none, answer-stops, answer-goes-on}
 use Rattle.nets.specs.Nets.{netFields}
-use Rattle.nets.proofs.RunningTotals.{counted}
+use Rattle.fields.proofs.RunningTotals.{counted}
 use Rattle.nets.proofs.net.net_fields.Statement.{statement}
 use Rattle.nets.proofs.net.net_fields.Tie as tie
 

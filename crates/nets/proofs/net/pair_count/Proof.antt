@@ -1,6 +1,6 @@
 -- The total of the colours.
 use borrow.Author.Needs.{needs}
-use Rattle.nets.specs.Layout.{pairCount}
+use Rattle.heads.specs.Layout.{pairCount}
 use Rattle.nets.proofs.net.pair_count.Statement.{statement}
 use Rattle.nets.proofs.net.pair_count.Tie as tie
 

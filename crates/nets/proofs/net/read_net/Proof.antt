@@ -2,7 +2,7 @@
 use borrow.Author.Needs.{needs}
 use Rattle.model.proofs.Refusals.{answer-none, answer-stops, answer-goes-on}
 use Rattle.nets.specs.Nets.{netRefusal}
-use Rattle.nets.proofs.Heads.{head-holds}
+use Rattle.heads.proofs.Heads.{head-holds}
 use Rattle.nets.proofs.net.read_net.Statement.{statement}
 use Rattle.nets.proofs.net.read_net.Tie as tie
 

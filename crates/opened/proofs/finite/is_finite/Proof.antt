@@ -1,5 +1,5 @@
 -- The largest number of 4 bytes is the one that is not finite.
-use Rattle.nets.proofs.Bounds.{bound-unbounded, bound-finite}
+use Rattle.fields.proofs.Bounds.{bound-unbounded, bound-finite}
 use Rattle.opened.proofs.finite.is_finite.Statement.{statement}
 use Rattle.opened.proofs.finite.is_finite.Tie as tie
 

@@ -5,9 +5,9 @@ use native.Mathlib.Omega.{arith}
 use mir.Syntax.{w32}
 use mir.Val.{toZ, ofZ}
 use mir.Facts.{toZ-ofZ}
-use Rattle.nets.specs.Bytes.{u32At}
-use Rattle.nets.specs.Layout.{weightAt}
-use Rattle.sheets.specs.Weights.{signed}
+use Rattle.heads.specs.Bytes.{u32At}
+use Rattle.heads.specs.Layout.{weightAt}
+use Rattle.lists.specs.Weights.{signed}
 use Rattle.sheets.proofs.Lists.{weight-there, weight-is, weight-within}
 use Rattle.opened.proofs.listed.weight.Statement.{statement}
 use Rattle.opened.proofs.listed.weight.Tie as tie

@@ -1,6 +1,6 @@
 -- The counts of an accepted sheet hold, and its arc count is in it.
 use native.Mathlib.Omega.{arith}
-use Rattle.nets.specs.Layout.{arcCount}
+use Rattle.heads.specs.Layout.{arcCount}
 use Rattle.opened.specs.Shape.{shapeOf}
 use Rattle.nets.proofs.Valid.{headed, counts-hold, arc-count-holds}
 use Rattle.opened.proofs.shape.shape_of.Statement.{statement}

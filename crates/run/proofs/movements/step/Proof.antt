@@ -1,6 +1,6 @@
 -- 6, or what firing the mode's arcs gives.
 use borrow.Author.Needs.{needs}
-use Rattle.fire.proofs.Leaving.{leaves-stops, leaves-goes-on}
+use Rattle.firing.proofs.Leaving.{leaves-stops, leaves-goes-on}
 use Rattle.fire.proofs.Opened.{mode-refusal, is-there}
 use Rattle.run.proofs.movements.step.Statement.{statement}
 use Rattle.run.proofs.movements.step.Tie as tie

@@ -5,8 +5,8 @@ use borrow.Author.Tests.{not-true, not-false}
 use Prim.Native.Nat.{ℕ, _+_, _≤_, _<_, _-_}
 use native.Mathlib.Omega.{arith}
 use Rattle.sheets.specs.Decoded.{netOf}
-use Rattle.fire.specs.Parts.{Free}
-use Rattle.fire.proofs.ByMode.{one-not-free, all-free}
+use Rattle.firing.specs.AtMode.{Free}
+use Rattle.firing.proofs.ByMode.{one-not-free, all-free}
 use Rattle.run.proofs.numbers.arcs_within.Statement.{statement}
 use Rattle.run.proofs.numbers.arcs_within.Tie as tie
 

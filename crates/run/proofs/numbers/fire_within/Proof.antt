@@ -1,7 +1,7 @@
 -- Refused, and nothing is written; or each count below its number, and the mode has fired.
 use borrow.Author.Needs.{needs}
 use borrow.Author.Tests.{not-true, not-false}
-use Rattle.fire.proofs.ByMode.{decides-not, decides-so}
+use Rattle.firing.proofs.ByMode.{decides-not, decides-so}
 use Rattle.run.proofs.numbers.fire_within.Statement.{statement}
 use Rattle.run.proofs.numbers.fire_within.Tie as tie
 

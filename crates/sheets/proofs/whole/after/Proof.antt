@@ -4,7 +4,7 @@ use Prim.Native.Nat.{_-_}
 use native.Mathlib.Omega.{arith}
 use lib.ListN.{length, drop, length-drop}
 use lib.Seq.{take-all}
-use Rattle.nets.specs.Layout.{sheetEnd}
+use Rattle.heads.specs.Layout.{sheetEnd}
 use Rattle.sheets.specs.Whole.{rest}
 use Rattle.sheets.proofs.whole.after.Statement.{statement}
 use Rattle.sheets.proofs.whole.after.Tie as tie

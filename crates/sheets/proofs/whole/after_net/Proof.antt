@@ -1,12 +1,12 @@
 -- The part after the sheet, by its answer.
 use borrow.Author.Needs.{needs}
 use Rattle.model.proofs.Refusals.{answer-none}
-use Rattle.nets.proofs.Heads.{net-head}
+use Rattle.nets.proofs.Valid.{headed}
 use Rattle.sheets.proofs.whole.after_net.Statement.{statement}
 use Rattle.sheets.proofs.whole.after_net.Tie as tie
 
 after-requires : tie.Need-after-requires
-after-requires c κs = λ e. net-head _ (answer-none _ (c .read-net .ensures) e)
+after-requires c κs = λ e. headed _ (answer-none _ (c .read-net .ensures) e)
 
 returns : tie.Need-returns
 returns c = rw (c .before .read-net .ensures) at (c .after .ensures)

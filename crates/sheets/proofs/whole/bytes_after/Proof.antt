@@ -4,7 +4,7 @@ use borrow.Author.Tests.{lt-ltb, le-ltb}
 use lib.ListN.{length}
 use native.Mathlib.Omega.{arith}
 use Rattle.model.proofs.Refusals.{answer-last-passes, answer-last-fails}
-use Rattle.nets.specs.Layout.{sheetEnd}
+use Rattle.heads.specs.Layout.{sheetEnd}
 use Rattle.sheets.specs.Whole.{bytesAfter}
 use Rattle.sheets.proofs.whole.bytes_after.Statement.{statement}
 use Rattle.sheets.proofs.whole.bytes_after.Tie as tie

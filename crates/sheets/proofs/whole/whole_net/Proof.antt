@@ -2,7 +2,7 @@
 use borrow.Author.Needs.{needs}
 use Rattle.model.proofs.Refusals.{answer-none, answer-stops, answer-goes-on}
 use Rattle.sheets.specs.Whole.{wholeNet}
-use Rattle.nets.proofs.Heads.{net-head}
+use Rattle.nets.proofs.Valid.{headed}
 use Rattle.sheets.proofs.whole.whole_net.Statement.{statement}
 use Rattle.sheets.proofs.whole.whole_net.Tie as tie
 
@@ -11,7 +11,7 @@ unfolding wholeNet
 returns c = answer-stops _ _ (c .before .before .read-net .ensures) (c .enum-told .given .1)
 
 bytes-after-requires : tie.Need-bytes-after-requires
-bytes-after-requires c κs = net-head _ (answer-none _ (c .before .before .read-net .ensures) (c .enum-told2 .given .1))
+bytes-after-requires c κs = headed _ (answer-none _ (c .before .before .read-net .ensures) (c .enum-told2 .given .1))
 
 returns-2 : tie.Need-returns-2
 unfolding wholeNet

@@ -1,7 +1,7 @@
 -- The net sheet, or what stands in the part after it.
 use borrow.Author.Needs.{needs}
 use Rattle.model.proofs.Refusals.{answer-none}
-use Rattle.nets.proofs.Heads.{net-head}
+use Rattle.nets.proofs.Valid.{headed}
 use Rattle.statement.specs.Replay.{sheetsText}
 use Rattle.statement.proofs.Texts.{bad-told, text-told}
 use Rattle.statement.proofs.input.put_sheets.Statement.{statement}
@@ -17,7 +17,7 @@ shape-of-requires : tie.Need-shape-of-requires
 shape-of-requires c κs = answer-none _ (c .before .before .read-net .ensures) (c .enum-told .given .1)
 
 after-requires : tie.Need-after-requires
-after-requires c κs = λ e. net-head _ (answer-none _ (c .before .before .before .read-net .ensures) e)
+after-requires c κs = λ e. headed _ (answer-none _ (c .before .before .before .read-net .ensures) e)
 
 put-weight-sheet-requires : tie.Need-put-weight-sheet-requires
 put-weight-sheet-requires c κs =

@@ -1,0 +1,193 @@
+// What a call tells C, as structs by value: document 01's number, thing and position, and the value, 0 where a refused call has none.
+use complement::Complemented;
+use dead::Deadness;
+use dead::FirstDead;
+use model::Answer;
+use model::Fault;
+use model::Mode;
+use model::Pair;
+use model::Refusal;
+use model::Thing;
+use statement::Stated;
+use told::line_of;
+use told::thing_of;
+use weigh::Figured;
+ghost use mathlib.Core.Path.{_≡_};
+ghost use mathlib.Core.Option.{none};
+ghost use Rattle.model.specs.declared.Thing.the-variants.{Net};
+ghost use Rattle.model.specs.declared.Fault.the-variants.{NoRoom};
+ghost use Rattle.model.specs.declared.Answer.the-variants.{Refused};
+ghost use Rattle.complement.specs.Complemented.{told as complementTold};
+ghost use Rattle.dead.specs.FirstDead.{told as firstDeadTold};
+ghost use Rattle.dead.specs.IsDead.{told as deadnessTold};
+ghost use Rattle.weigh.specs.Calls.{told as figuredTold};
+ghost use Rattle.answers.specs.Told.{answered, counted, textTold, weighed, decided, naming, named};
+
+#[repr(C)]
+pub struct Answered {
+    pub number: u64,
+    pub thing: u64,
+    pub position: u64,
+}
+
+// How many bytes or movements.
+#[repr(C)]
+pub struct Counted {
+    pub answer: Answered,
+    pub value: u64,
+}
+
+// Kilograms.
+#[repr(C)]
+pub struct Weighed {
+    pub answer: Answered,
+    pub value: i64,
+}
+
+// Yes or no.
+#[repr(C)]
+pub struct Decided {
+    pub answer: Answered,
+    pub value: bool,
+}
+
+// A mode and a pair, where there is one.
+#[repr(C)]
+pub struct Named {
+    pub answer: Answered,
+    pub found: bool,
+    pub mode: Mode,
+    pub pair: Pair,
+}
+
+pub fn accepted() -> Answered
+    ensures { λ r. ⌜ r ≡ answered Answer.Accepted ⌝ }
+{
+    Answered {
+        number: 0,
+        thing: 0,
+        position: 0,
+    }
+}
+
+pub fn refused(refusal: Refusal) -> Answered
+    ensures { λ r. ⌜ r ≡ answered (Refused refusal) ⌝ }
+{
+    let fault = refusal.fault;
+    let line = line_of(fault);
+    Answered {
+        number: line.number,
+        thing: thing_of(refusal),
+        position: line.position,
+    }
+}
+
+pub fn tell(answer: Answer) -> Answered
+    ensures { λ r. ⌜ r ≡ answered answer ⌝ }
+{
+    match answer {
+        Answer::Accepted => accepted(),
+        Answer::Refused(refusal) => refused(refusal),
+    }
+}
+
+pub fn tell_length(complemented: Complemented) -> Counted
+    ensures { λ r. ⌜ r ≡ counted (complementTold complemented) ⌝ }
+{
+    match complemented {
+        Complemented::Length(length) => Counted {
+            answer: accepted(),
+            value: length as u64,
+        },
+        Complemented::Refused(refusal) => Counted {
+            answer: refused(refusal),
+            value: 0,
+        },
+    }
+}
+
+// 10: "or the output slice is shorter than it".
+fn no_room() -> Answered
+    ensures { λ r. ⌜ r ≡ answered (Refused (record { thing = Net; fault = NoRoom })) ⌝ }
+{
+    refused(Refusal {
+        thing: Thing::Net,
+        fault: Fault::NoRoom,
+    })
+}
+
+pub fn tell_text(stated: Stated) -> Counted
+    ensures { λ r. ⌜ r ≡ counted (textTold stated) ⌝ }
+{
+    match stated {
+        Stated::Written(length) => Counted {
+            answer: accepted(),
+            value: length as u64,
+        },
+        Stated::NoRoom => Counted {
+            answer: no_room(),
+            value: 0,
+        },
+    }
+}
+
+pub fn tell_kilograms(figured: Figured) -> Weighed
+    ensures { λ r. ⌜ r ≡ weighed (figuredTold figured) ⌝ }
+{
+    match figured {
+        Figured::Is(value) => Weighed {
+            answer: accepted(),
+            value,
+        },
+        Figured::Refused(refusal) => Weighed {
+            answer: refused(refusal),
+            value: 0,
+        },
+    }
+}
+
+pub fn tell_deadness(deadness: Deadness) -> Decided
+    ensures { λ r. ⌜ r ≡ decided (deadnessTold deadness) ⌝ }
+{
+    match deadness {
+        Deadness::Dead => Decided {
+            answer: accepted(),
+            value: true,
+        },
+        Deadness::Alive => Decided {
+            answer: accepted(),
+            value: false,
+        },
+        Deadness::Refused(refusal) => Decided {
+            answer: refused(refusal),
+            value: false,
+        },
+    }
+}
+
+// No mode and no pair: numbers 0, which say nothing.
+fn nothing_found(answer: Answered) -> Named
+    ensures { λ r. ⌜ r ≡ naming answer none ⌝ }
+{
+    Named {
+        answer,
+        found: false,
+        mode: Mode(0),
+        pair: Pair(0),
+    }
+}
+
+pub fn tell_first_dead(first: FirstDead) -> Named
+    ensures { λ r. ⌜ r ≡ named (firstDeadTold first) ⌝ }
+{
+    match first {
+        FirstDead::At(mode, pair) => Named {
+            answer: accepted(),
+            found: true,
+            mode,
+            pair,
+        },
+        FirstDead::None => nothing_found(accepted()),
+        FirstDead::Refused(refusal) => nothing_found(refused(refusal)),
+    }
+}

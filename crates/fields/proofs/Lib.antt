@@ -1,0 +1,4 @@
+pub mod RunningTotals
+pub mod Bounds
+pub mod BoundNumbers
+pub mod PairFields

@@ -1,0 +1,30 @@
+-- The arc, K and the count stand where the net has them.
+use borrow.Author.Needs.{needs}
+use native.Mathlib.Omega.{arith}
+use Rattle.opened.proofs.Shapes.{sizes}
+use Rattle.firing.proofs.arcs.meet.Statement.{statement}
+use Rattle.firing.proofs.arcs.meet.Tie as tie
+
+shared-slice-read-t11 : tie.Need-shared-slice-read-t11
+shared-slice-read-t11 c =
+    let pre = c .before .before .before .before .before .before .before .pre in
+    omega (arith, sizes (pre .0) .pairs)
+
+returns : tie.Need-returns
+returns c =
+    let read = c .before .before in
+    let arc = read .before .before .arc .ensures in
+    let pre = read .before .before .before .before .before .pre in
+    let inside = rw (sizes (pre .0) .pairs) at (arc .pair) in
+    record {
+      arc = arc .is;
+      inside = inside;
+      capacity = read .capacity .ensures;
+      count = search needs;
+      counted = record { arc = search needs; count = pre .1 .0 .inRange _ inside };
+    }
+
+pub meet-spec : {M : Type 1} → statement M
+meet-spec =
+    tie.close
+    (tie.spec (λ c κs. search needs) (λ c κs. search needs) (λ c. search needs) (λ c. search needs) shared-slice-read-t11 returns)

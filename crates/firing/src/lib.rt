@@ -1,0 +1,3 @@
+// One mode at a marking, by its own arcs alone.
+pub mod arcs;
+pub mod mode;

@@ -1,0 +1,4 @@
+pub mod Entries
+pub mod Below
+pub mod Puts
+pub mod PairHalves

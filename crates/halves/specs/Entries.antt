@@ -1,0 +1,23 @@
+-- What one arc becomes: at its own pair, and at the complement pair.
+-- A reader of the promises may skip this file.
+use Prim.Native.Nat.{ℕ, _≤_}
+use Rattle.model.specs.declared.Pair.{Pair}
+use Rattle.model.specs.declared.Arc.{Arc}
+use Rattle.model.specs.Numbers.{ℕ∞, limit}
+use Rattle.model.specs.Nets.{NetArc}
+use Rattle.model.specs.WellFormed.{InRange}
+use Rattle.model.specs.Complement.{original, complementEntry}
+use Rattle.fields.specs.Numbers.{bound}
+
+-- an arc that was read, and the capacity of its pair
+pub record Small (a : Arc) (k : ℕ) : Type 0 where
+  pub pre : a .pre ≤ limit
+  pub post : a .post ≤ limit
+  pub capacity : InRange (bound k)
+
+-- what an arc leaves at its own pair, and puts at the complement pair
+abbrev pub originalOf : NetArc → NetArc
+originalOf a = record { mode = a .mode; pair = a .pair; entry = original (a .entry) }
+
+abbrev pub complementAt : Pair → ℕ∞ → NetArc → NetArc
+complementAt pair k a = record { mode = a .mode; pair = pair; entry = complementEntry k (a .entry) }

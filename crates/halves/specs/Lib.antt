@@ -1,0 +1,4 @@
+pub mod Entries
+pub mod Bounded
+pub mod Puts
+pub mod Pairs

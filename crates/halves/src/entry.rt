@@ -1,0 +1,91 @@
+// One arc of the complement: what an arc leaves at its own pair, and what it puts at the complement pair.
+use model::Arc;
+use model::Pair;
+use opened::finite::is_finite;
+ghost use mathlib.Core.Path.{_≡_};
+ghost use Prim.Native.Nat.{max};
+ghost use Rattle.model.specs.Complement.{reserve, blank, tooLarge};
+ghost use Rattle.fields.specs.Numbers.{bound};
+ghost use Rattle.sheets.specs.Decoded.{netArc};
+ghost use Rattle.halves.specs.Entries.{Small, originalOf, complementAt};
+
+// "K less I, or 0 where I ≥ K or unbounded": the number that means unbounded is the largest of 32 bits.
+fn reserved(capacity: u32, inhibitor: u32) -> u32
+    ensures { λ r. ⌜ r ≡ reserve capacity (bound inhibitor) ⌝ }
+{
+    if capacity <= inhibitor {
+        return 0;
+    }
+    capacity - inhibitor
+}
+
+fn larger(a: u32, b: u32) -> u32
+    ensures { λ r. ⌜ r ≡ max a b ⌝ }
+{
+    if a <= b {
+        return b;
+    }
+    a
+}
+
+// "All K and I become unbounded. Original Pre, Post and first marking stay."
+pub fn original_arc(arc: Arc) -> Arc
+    ensures { λ r. ⌜ netArc r ≡ originalOf (netArc arc) ⌝ }
+{
+    let mode = arc.mode;
+    let pair = arc.pair;
+    Arc {
+        mode,
+        pair,
+        pre: arc.pre,
+        post: arc.post,
+        inhibitor: 0xffff_ffff,
+    }
+}
+
+// "Pre: the larger of Post and (K less I ..)"; "Post: that number plus the original Pre less the original Post". Nothing where K is unbounded.
+pub fn complement_arc(arc: Arc, capacity: u32, pair: Pair) -> Arc
+    requires { ⌜ Small arc capacity ⌝ }
+    ensures { λ r. ⌜ netArc r ≡ complementAt pair (bound capacity) (netArc arc) ⌝ }
+{
+    let mode = arc.mode;
+    if !is_finite(capacity) {
+        return Arc {
+            mode,
+            pair,
+            pre: 0,
+            post: 0,
+            inhibitor: 0xffff_ffff,
+        };
+    }
+    let pre = larger(arc.post, reserved(capacity, arc.inhibitor));
+    Arc {
+        mode,
+        pair,
+        pre,
+        post: pre + arc.pre - arc.post,
+        inhibitor: 0xffff_ffff,
+    }
+}
+
+pub fn is_blank(arc: Arc) -> bool
+    ensures { λ r. ⌜ r ≡ blank (netArc arc .entry) ⌝ }
+{
+    if arc.pre != 0 {
+        return false;
+    }
+    if arc.post != 0 {
+        return false;
+    }
+    !is_finite(arc.inhibitor)
+}
+
+// "a complement number above 1,000,000"
+pub fn too_large(arc: Arc) -> bool
+    ensures { λ r. ⌜ r ≡ tooLarge (netArc arc .entry) ⌝ }
+{
+    if 1_000_000 < arc.pre {
+        return true;
+    }
+    1_000_000 < arc.post
+}

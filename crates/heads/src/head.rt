@@ -1,0 +1,58 @@
+// The head of every sheet: its length L and its version (document 01, "Order in a sheet: 1, then L = 0, then 2").
+use crate::bytes::u32_at;
+use crate::bytes::wide64;
+use model::Answer;
+use model::Fault;
+use model::Refusal;
+use model::Thing;
+ghost use mathlib.Core.Path.{_≡_};
+ghost use Prim.Native.Nat.{_+_, _<_, _≤_};
+ghost use lib.ListN.{length};
+ghost use Rattle.model.specs.Refusals.{answer, wrong};
+ghost use Rattle.heads.specs.Layout.{sheetEnd};
+ghost use Rattle.heads.specs.Checks.{headRefusal, leftOver};
+ghost use Rattle.heads.specs.Held.{Headed};
+
+pub fn refused(thing: Thing, fault: Fault) -> Answer
+    ensures { λ r. ⌜ r ≡ Answer.Refused (wrong thing fault) ⌝ }
+{
+    Answer::Refused(Refusal { thing, fault })
+}
+
+// The first byte after the sheet: a number without wrap.
+pub fn sheet_end(s: &[u8]) -> usize
+    requires { ⌜ 4 ≤ length (now s) ⌝ }
+    ensures { λ r. ⌜ r ≡ sheetEnd (now (s .entry)) ⌝ }
+{
+    4 + wide64(u32_at(s, 0))
+}
+
+pub fn read_head(s: &[u8], thing: Thing) -> Answer
+    ensures { λ r. ⌜ r ≡ answer (headRefusal thing (now (s .entry))) ⌝ }
+{
+    if s.len() < 4 {
+        return refused(thing, Fault::CutShort);
+    }
+    let end = sheet_end(s);
+    if s.len() < end {
+        return refused(thing, Fault::CutShort);
+    }
+    if end == 4 {
+        return refused(thing, Fault::WrongLength(0));
+    }
+    if s[4] != 1 {
+        return refused(thing, Fault::WrongVersion(4));
+    }
+    Answer::Accepted
+}
+
+// Bytes of the sheet after the last field, which ends at `at`.
+pub fn left_over(s: &[u8], thing: Thing, at: usize) -> Answer
+    requires { ⌜ Headed (now s) ⌝ }
+    ensures { λ r. ⌜ r ≡ answer (leftOver thing (now (s .entry)) at) ⌝ }
+{
+    if at < sheet_end(s) {
+        return refused(thing, Fault::WrongLength(at));
+    }
+    Answer::Accepted
+}

@@ -1,0 +1,4 @@
+pub mod Movements
+pub mod Weights
+pub mod Contracts
+pub mod Promises

@@ -1,0 +1,3 @@
+// Weight sheets and movement sheets: a weight for each pair, a list of modes.
+pub mod movements;
+pub mod weights;

@@ -1,0 +1,23 @@
+-- The four tests at one arc: one that stops the mode, or none.
+use Prim.Native.Nat.{ℕ}
+use mathlib.Core.Path.{_≡_, refl, sym, _∙_}
+use mathlib.Core.Bool.{true, false}
+use mathlib.Core.Logic.{_↔_}
+use native.Mathlib.Omega.{arith}
+use Rattle.model.specs.declared.Why.{Why}
+use Rattle.model.specs.declared.Why.the-variants.{Lacking, OverCapacity, Inhibited, OverLimit}
+use Rattle.model.specs.Numbers.{ℕ∞}
+use Rattle.model.specs.Rows.{Entry}
+use Rattle.model.specs.Firing.{stops}
+use Rattle.rule.specs.AtPair.{Unstopped}
+
+pub clash : {A : Type 0} → true ≡ false → A
+clash e = let z : _≡_ {A = ℕ} 0 1 = cc in absurd (omega arith)
+
+module _ (e : Entry) (k : ℕ∞) (m : ℕ) where
+  pub one-stops : (why : Why) → stops why e k m ≡ true → (false ≡ true) ↔ Unstopped e k m
+  one-stops why h = (λ z. clash (sym z), λ free. clash (sym h ∙ free why))
+
+  pub none-stops : stops Lacking e k m ≡ false → stops OverCapacity e k m ≡ false → stops Inhibited e k m ≡ false → stops OverLimit e k m ≡ false
+      → (true ≡ true) ↔ Unstopped e k m
+  none-stops a b c d = (λ _. elim [ Lacking ↦ a | OverCapacity ↦ b | Inhibited ↦ c | OverLimit ↦ d ], λ _. refl)

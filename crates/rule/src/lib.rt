@@ -1,0 +1,74 @@
+// What a mode meets at one of its pairs: refusals 11 to 14, and the count after firing.
+use fields::numbers::above_bound;
+use model::Arc;
+use model::Why;
+ghost use mathlib.Core.Path.{_≡_};
+ghost use mathlib.Core.Bool.{true};
+ghost use mathlib.Core.Logic.{_↔_};
+ghost use Prim.Native.Nat.{_+_, _≤_};
+ghost use Rattle.model.specs.Numbers.{limit};
+ghost use Rattle.model.specs.Firing.{after, stops};
+ghost use Rattle.fields.specs.Numbers.{bound};
+ghost use Rattle.sheets.specs.Decoded.{netArc};
+ghost use Rattle.rule.specs.AtPair.{InRange, Counted, Unstopped};
+
+// An arc, K of its pair as the sheet writes it, and the count there.
+pub struct AtPair {
+    pub arc: Arc,
+    pub capacity: u32,
+    pub count: u32,
+}
+
+// "Firing gives M - Pre + Post."
+pub fn moved(arc: Arc, count: u32) -> u32
+    requires { ⌜ InRange arc ⌝ }
+    requires { ⌜ count ≤ limit ⌝ }
+    ensures { λ r. ⌜ r ≡ after (netArc arc .entry) count ⌝ }
+{
+    if count < arc.pre {
+        return arc.post;
+    }
+    count - arc.pre + arc.post
+}
+
+// "Pre is not taken off before the capacity test."
+fn with_post(arc: Arc, count: u32) -> u32
+    requires { ⌜ InRange arc ⌝ }
+    requires { ⌜ count ≤ limit ⌝ }
+    ensures { λ r. ⌜ r ≡ count + arc .post ⌝ }
+{
+    count + arc.post
+}
+
+pub fn is_stopped(why: Why, at: AtPair) -> bool
+    requires { ⌜ Counted at ⌝ }
+    ensures { λ r. ⌜ r ≡ stops why (netArc (at .arc) .entry) (bound (at .capacity)) (at .count) ⌝ }
+{
+    let arc = at.arc;
+    match why {
+        Why::Lacking => at.count < arc.pre,
+        Why::OverCapacity => above_bound(with_post(arc, at.count), at.capacity),
+        Why::Inhibited => above_bound(at.count, arc.inhibitor),
+        Why::OverLimit => 1_000_000 < moved(arc, at.count),
+    }
+}
+
+// All four tests.
+pub fn is_free(at: AtPair) -> bool
+    requires { ⌜ Counted at ⌝ }
+    ensures { λ r. ⌜ (r ≡ true) ↔ Unstopped (netArc (at .arc) .entry) (bound (at .capacity)) (at .count) ⌝ }
+{
+    if is_stopped(Why::Lacking, at) {
+        return false;
+    }
+    if is_stopped(Why::OverCapacity, at) {
+        return false;
+    }
+    if is_stopped(Why::Inhibited, at) {
+        return false;
+    }
+    if is_stopped(Why::OverLimit, at) {
+        return false;
+    }
+    true
+}

@@ -1,0 +1,131 @@
+-- The places of the complement, place by place.
+use Prim.Native.Nat.{ℕ, zero, suc, _+_, _-_, _≤_, _<_}
+use mathlib.Core.Path.{_≡_, refl, sym, _∙_, ap, ap₂}
+use mathlib.Core.List.{List, [], _∷_, _++_, append-assoc, append-nil, flatMap}
+use lib.ListN.{length, getD, take, length-append}
+use native.Mathlib.Omega.{arith}
+use native.Mathlib.Nat.{not-suc-le-zero}
+use borrow.Author.Tests.{lt-ltb}
+use Rattle.model.specs.Rows.{Capacities}
+use Rattle.model.specs.Nets.{PNet, total, pairs, K, firstPair}
+use Rattle.model.specs.WellFormed.{WellFormed}
+use Rattle.model.specs.Complement.{boundedBelow, newPlaces, complement}
+use Rattle.model.specs.Lists.{joined}
+use Rattle.model.proofs.Joined.{joined-ext}
+use Rattle.model.proofs.Bounded.{below-none, below-split}
+use Rattle.opened.specs.declared.shape.NetShape.{NetShape}
+use Rattle.sheets.specs.Decoded.{netOf}
+use Rattle.opened.specs.Shape.{Open}
+use Rattle.written.specs.Written.{bytes16}
+use Rattle.opened.proofs.Shapes.{sizes}
+use Rattle.written.proofs.Sections.{section-append, section-one, section-joined, section-list}
+use Rattle.halves.specs.declared.half.Half.{Half}
+use Rattle.halves.specs.declared.half.Half.the-variants.{Original, Complement}
+use Rattle.sections.specs.Places.{coloursIn, placeIf, halfPlace, placeBytes}
+
+-- where the pairs of the next place start
+total-next : (cs : List ℕ) (i : ℕ) → i < length cs → total (take (suc i) cs) ≡ total (take i cs) + getD cs i 0
+total-next [] i h = absurd (not-suc-le-zero h)
+total-next (c ∷ cs) zero h = omega arith
+total-next (c ∷ cs) (suc i) h = omega (arith, total-next cs i (omega arith))
+
+total-within : (cs : List ℕ) (i : ℕ) → total (take i cs) ≤ total cs
+total-within [] zero = omega arith
+total-within [] (suc i) = omega arith
+total-within (c ∷ cs) zero = omega arith
+total-within (c ∷ cs) (suc i) = omega (arith, total-within cs i)
+
+joined-front : {A : Type 0} (n : ℕ) (f : ℕ → List A) → joined (suc n) f ≡ f 0 ++ joined n (λ i. f (suc i))
+unfolding joined
+joined-front zero f = sym (append-nil (f 0))
+joined-front (suc n) f = rw (joined-front n f, append-assoc)
+
+-- "as many colours as it has finite pairs"
+abbrev newPlace : Capacities → List ℕ → ℕ → List ℕ
+newPlace K cs i = placeIf (boundedBelow K (total (take (suc i) cs)) - boundedBelow K (total (take i cs)))
+
+new-places : (K : Capacities) (cs : List ℕ) → newPlaces K cs ≡ joined (length cs) (newPlace K cs)
+unfolding newPlaces joined
+new-places K [] = refl
+new-places K (c ∷ cs) =
+    let first : boundedBelow K (c + 0) - boundedBelow K 0 ≡ boundedBelow K c = let e : c + 0 ≡ c = omega arith in rw (e, below-none K) (omega arith) in
+    ap₂ (λ xs ys. xs ++ ys) (ap placeIf (sym first))
+    (new-places (λ p. K (c + p)) cs ∙ joined-ext (length cs) _ (λ i. newPlace K (c ∷ cs) (suc i)) same)
+    ∙ sym (joined-front (length cs) (newPlace K (c ∷ cs)))
+  where
+    same : (i : ℕ) → i < length cs → newPlace (λ p. K (c + p)) cs i ≡ newPlace K (c ∷ cs) (suc i)
+    same i h =
+        let first = total (take i cs) in
+        let end = total (take (suc i) cs) in
+        let e : boundedBelow (λ p. K (c + p)) end - boundedBelow (λ p. K (c + p)) first ≡ boundedBelow K (c + end) - boundedBelow K (c + first) =
+        omega (arith, below-split K c end, below-split K c first) in
+        ap placeIf e
+
+-- a place without colours is none
+pub no-place : {colours : ℕ} → colours ≡ 0 → [] ≡ placeIf colours
+no-place e = rw e
+
+pub one-place : {colours : ℕ} → (colours ≡ 0 → ⊥) → colours ∷ [] ≡ placeIf colours
+one-place {colours} h = rw (lt-ltb 0 colours (omega arith))
+
+pub no-place-bytes : {colours : ℕ} → colours ≡ 0 → [] ≡ flatMap bytes16 (placeIf colours)
+unfolding flatMap
+no-place-bytes e = ap (flatMap bytes16) (no-place e)
+
+pub one-place-bytes : {colours : ℕ} → (colours ≡ 0 → ⊥) → bytes16 colours ≡ flatMap bytes16 (placeIf colours)
+one-place-bytes {colours} h = sym (section-one bytes16 colours) ∙ ap (flatMap bytes16) (one-place h)
+
+module _ (net : PNet) where
+  pub half-place : (half : Half) (i : ℕ) {first end colours : ℕ} → first ≡ firstPair net i → end ≡ firstPair net (suc i)
+      → colours ≡ coloursIn net half first end → placeIf colours ≡ halfPlace net half i
+  half-place half i e f g = rw (g, e, f)
+
+  first-next : (i : ℕ) → i < length (net .colours) → firstPair net (suc i) ≡ firstPair net i + getD (net .colours) i 0
+  first-next i h = total-next (net .colours) i h
+
+  first-within : (i : ℕ) → firstPair net i ≤ pairs net
+  first-within i = total-within (net .colours) i
+
+  places-count : length (complement net .colours) ≡ length (net .colours) + length (joined (length (net .colours)) (halfPlace net Complement))
+  unfolding complement
+  places-count = length-append (net .colours) _ ∙ rw (new-places (K net) (net .colours))
+
+  original-place : WellFormed net → (i : ℕ) → i < length (net .colours) → placeBytes net Original i ≡ bytes16 (getD (net .colours) i 0)
+  original-place wf i h =
+      let e : firstPair net (suc i) - firstPair net i ≡ getD (net .colours) i 0 = omega (arith, first-next i h) in
+      rw (e, lt-ltb 0 (getD (net .colours) i 0) (wf .places .each i h .0)) (section-one bytes16 (getD (net .colours) i 0))
+
+  pub places-halves : WellFormed net
+      → flatMap bytes16 (complement net .colours)
+      ≡ joined (length (net .colours)) (placeBytes net Original) ++ joined (length (net .colours)) (placeBytes net Complement)
+  unfolding complement
+  places-halves wf =
+      let n = length (net .colours) in
+      section-append bytes16 (net .colours) (newPlaces (K net) (net .colours))
+      ∙ ap₂ (λ xs ys. xs ++ ys)
+      (section-list bytes16 0 (net .colours) ∙ sym (joined-ext n (placeBytes net Original) _ (original-place wf)))
+      (ap (flatMap bytes16) (new-places (K net) (net .colours)) ∙ section-joined bytes16 n (halfPlace net Complement))
+
+-- the modes of a transition
+abbrev pub transitionBytes : PNet → ℕ → List ℕ
+transitionBytes net i = bytes16 (getD (net .modesOf) i 0)
+
+-- The same of an open net.
+module _ {s : List ℕ} {net : NetShape} (o : Open s net) where
+  pub place-parts : flatMap bytes16 (complement (netOf s) .colours)
+      ≡ joined (net .places) (placeBytes (netOf s) Original) ++ joined (net .places) (placeBytes (netOf s) Complement)
+  place-parts = rw (sizes o .places) (places-halves (netOf s) (sizes o .wellFormed))
+
+  pub place-count : length (complement (netOf s) .colours) ≡ net .places + length (joined (net .places) (halfPlace (netOf s) Complement))
+  place-count = rw (sizes o .places) (places-count (netOf s))
+
+  -- the pairs of a place come after those of the places before it
+  pub next-first : (place : ℕ) {first colours : ℕ} → place < net .places → first ≡ firstPair (netOf s) place → colours ≡ getD (netOf s .colours) place 0
+      → (first + colours ≡ firstPair (netOf s) (suc place)) × (first + colours ≤ net .pairs)
+  next-first place h e f =
+      let next = first-next (netOf s) place (rw (← sizes o .places) h) in
+      (omega arith, omega (arith, sizes o .pairs, first-within (netOf s) (suc place)))
+
+  pub mode-parts : flatMap bytes16 (complement (netOf s) .modesOf) ≡ joined (net .transitions) (transitionBytes (netOf s))
+  unfolding complement
+  mode-parts = rw (sizes o .transitions) (section-list bytes16 0 (netOf s .modesOf))

@@ -1,0 +1,44 @@
+-- An arc of an open net as it was read, with the capacity of its pair.
+use Prim.Native.Nat.{ℕ, _+_}
+use mathlib.Core.Path.{_≡_, sym, _∙_, ap, ap₂}
+use mathlib.Core.Bool.{Bool, not, _&&_}
+use mathlib.Core.List.{List}
+use lib.ListN.{getD}
+use native.Mathlib.Omega.{arith}
+use Rattle.model.specs.declared.Pair.{Pair}
+use Rattle.model.specs.declared.Arc.{Arc}
+use Rattle.model.specs.Nets.{pairs, pairNo, K, arcNo}
+use Rattle.model.specs.Complement.{finite, complementPair, complementEntry, inhibitsUnbounded, tooLarge}
+use Rattle.opened.specs.declared.shape.NetShape.{NetShape}
+use Rattle.fields.specs.Numbers.{bound}
+use Rattle.sheets.specs.Decoded.{netOf, netArc}
+use Rattle.opened.specs.Shape.{Open, ArcIs}
+use Rattle.opened.proofs.Shapes.{sizes}
+use Rattle.halves.specs.declared.half.Half.the-variants.{Complement}
+use Rattle.halves.specs.Bounded.{BelowAre}
+use Rattle.halves.specs.Entries.{Small, complementAt}
+use Rattle.sections.specs.Arcs.{halfArc}
+use Rattle.halves.proofs.Below.{entry-is}
+
+module _ {s : List ℕ} {net : NetShape} {k : ℕ} {a : Arc} (read : ArcIs s net k a) where
+  pub small : Open s net → (c : ℕ) → bound c ≡ K (netOf s) (a .pair .0) → Small a c
+  small o c e =
+      record { pre = read .pre; post = read .post; capacity = rw e (sizes o .wellFormed .capacityInRange (a .pair .0) (rw (← sizes o .pairs) (read .pair))) }
+
+  -- what 15 and 16 test at it
+  pub inhibits-is : {i u : Bool} → finite (bound (a .inhibitor)) ≡ i → not (finite (K (netOf s) (a .pair .0))) ≡ u
+      → inhibitsUnbounded (netOf s) (arcNo (netOf s .arcs) k) ≡ (i && u)
+  inhibits-is e f = rw (← read .is, e, f)
+
+  pub too-large-is : (d : Arc) {p : Pair} {t : Bool} (c : ℕ) → bound c ≡ K (netOf s) (a .pair .0) → netArc d ≡ complementAt p (bound c) (netArc a)
+      → t ≡ tooLarge (netArc d .entry)
+      → tooLarge (complementEntry (K (netOf s) (arcNo (netOf s .arcs) k .pair .0)) (arcNo (netOf s .arcs) k .entry)) ≡ t
+  too-large-is d c e f g = rw (← read .is, ← e) (ap (λ x. tooLarge (x .entry)) (sym f) ∙ sym g)
+
+  -- what it becomes on the complement pair
+  pub complement-is : Open s net → {below : List ℕ} → BelowAre (netOf s) below → (c : ℕ) (q : Pair) → bound c ≡ K (netOf s) (a .pair .0)
+      → q .0 ≡ net .pairs + getD below (a .pair .0) 0 → complementAt q (bound c) (netArc a) ≡ halfArc (netOf s) Complement k
+  complement-is o are c q e f =
+      let number : q .0 ≡ complementPair (pairs (netOf s)) (K (netOf s)) (a .pair .0) =
+      omega (arith, sizes o .pairs, entry-is o are (a .pair .0) (omega (arith, read .pair))) in
+      rw (← read .is) (ap₂ (λ q k. complementAt q k (netArc a)) (ap pairNo number) e)

@@ -1,0 +1,22 @@
+-- A blank arc is left out.
+use borrow.Author.Needs.{needs}
+use mathlib.Core.Path.{sym, ap}
+use lib.ListN.{length}
+use Rattle.sheets.specs.Decoded.{netArc}
+use Rattle.sections.proofs.Kept.{kept-none, kept-one}
+use Rattle.sections.proofs.arcs.count_kept.Statement.{statement}
+use Rattle.sections.proofs.arcs.count_kept.Tie as tie
+
+returns : tie.Need-returns
+returns c = (ap length (sym (kept-none (netArc (c .before .before .args .arc)) (c .before .is-blank .ensures) (c .if1 .taken))), search needs)
+
+returns-2 : tie.Need-returns-2
+returns-2 c = (ap length (sym (kept-one (netArc (c .before .before .args .arc)) (c .before .is-blank .ensures) (c .if1 .left))), search needs)
+
+pub count-kept-spec : {M : Type 1} → statement M
+count-kept-spec =
+    tie.close
+    (tie.spec
+    (λ c κs. search needs)
+    returns
+    returns-2)

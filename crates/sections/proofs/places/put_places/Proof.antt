@@ -1,0 +1,25 @@
+-- The original half, then the new one.
+use borrow.Author.Needs.{needs}
+use mathlib.Core.Path.{sym}
+use Rattle.sections.proofs.PlaceHalves.{place-parts}
+use Rattle.halves.proofs.Puts.{room-as, puts-as, room-first, room-next, puts-both}
+use Rattle.sections.proofs.places.put_places.Statement.{statement}
+use Rattle.sections.proofs.places.put_places.Tie as tie
+
+put-half-places-requires : tie.Need-put-half-places-requires
+put-half-places-requires c κs = let pre = c .before .before .before .pre in (pre .0, (pre .1 .0, room-first _ _ (room-as (place-parts (pre .0)) (pre .1 .1))))
+
+put-half-places-requires-2 : tie.Need-put-half-places-requires-2
+put-half-places-requires-2 c κs = let pre = c .before .before .before .before .before .before .before .pre in (pre .0, (pre .1 .0, room-next _ _ (room-as (place-parts (pre .0)) (pre .1 .1)) (c .before .before .before .put-half-places .ensures)))
+
+returns : tie.Need-returns
+returns c = puts-as (sym (place-parts (c .before .before .before .before .before .before .before .before .before .before .pre .0))) (puts-both (c .before .before .before .before .before .before .put-half-places .ensures) (c .before .before .put-half-places2 .ensures))
+
+pub put-places-spec : {M : Type 1} → statement M
+put-places-spec =
+    tie.close
+    (tie.spec
+    put-half-places-requires
+    put-half-places-requires-2
+    (λ c. search needs)
+    returns)

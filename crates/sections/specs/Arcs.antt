@@ -1,0 +1,39 @@
+-- The arcs of a complement, arc by arc: what the shared parts of this crate speak of.
+-- A reader of the promises may skip this file.
+use Prim.Native.Nat.{ℕ, _+_}
+use mathlib.Core.List.{List, flatMap}
+use Rattle.model.specs.Nets.{NetArc, PNet, pairs, pairNo, modeNo, K, arcNo, row}
+use Rattle.model.specs.Complement.{complementPair, complementRow, written, allPairs}
+use Rattle.model.specs.Lists.{joined}
+use Rattle.written.specs.Written.{arcBytes}
+use Rattle.halves.specs.declared.half.Half.{Half}
+use Rattle.halves.specs.declared.half.Half.the-variants.{Original, Complement}
+use Rattle.halves.specs.Entries.{originalOf, complementAt}
+
+-- "Blank arcs are left out."
+abbrev pub kept : NetArc → List NetArc
+kept a = written (a .mode) (a .pair .0) (a .entry)
+
+abbrev pub keptBytes : NetArc → List ℕ
+keptBytes a = flatMap arcBytes (kept a)
+
+module _ (net : PNet) where
+  -- a half of what an arc of the net becomes
+  abbrev pub halfOf : Half → NetArc → NetArc
+  halfOf Original a = originalOf a
+  halfOf Complement a = complementAt (pairNo (complementPair (pairs net) (K net) (a .pair .0))) (K net (a .pair .0)) a
+
+  -- the same of the k-th arc
+  abbrev pub halfArc : Half → ℕ → NetArc
+  halfArc half k = halfOf half (arcNo (net .arcs) k)
+
+  -- of the arcs from `start` on, one after the other
+  abbrev pub halfBytes : Half → ℕ → ℕ → List ℕ
+  halfBytes half start i = keptBytes (halfArc half (start + i))
+
+  -- the complement's arcs of one mode
+  unfoldable pub rowArcs : ℕ → List NetArc
+  rowArcs t = joined (allPairs net) (λ p. written (modeNo t) p (complementRow (pairs net) (K net) (row net (modeNo t)) p))
+
+  abbrev pub rowBytes : ℕ → List ℕ
+  rowBytes t = flatMap arcBytes (rowArcs t)
