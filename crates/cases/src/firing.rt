@@ -31,31 +31,6 @@ pub(crate) struct Stop {
     pub complement_pair: u64,
 }
 
-pub(crate) fn to(first: u32, second: u32, third: u32) -> Given {
-    let counts = Counts(first, second, third);
-    Given::To(counts)
-}
-
-// 11 at the same pair in both.
-pub(crate) fn lacks(pair: u64) -> Given {
-    let stop = Stop {
-        number: 11,
-        pair,
-        complement_pair: pair,
-    };
-    Given::Stop(stop)
-}
-
-// 13 at the pair, 11 at its complement.
-pub(crate) fn inhibited(pair: u64, complement_pair: u64) -> Given {
-    let stop = Stop {
-        number: 13,
-        pair,
-        complement_pair,
-    };
-    Given::Stop(stop)
-}
-
 // What testing and firing gave.
 struct Found {
     tested: Line,

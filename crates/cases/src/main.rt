@@ -8,6 +8,7 @@ mod example_sheets;
 mod firing;
 mod illustrations;
 mod left_aboard;
+mod rows;
 mod simple;
 mod sums;
 mod tally;

@@ -1,6 +1,6 @@
 -- What the private functions and the shared parts of this crate speak of, beyond the calls.
 -- A reader of the promises may skip this file.
-use Prim.Native.Nat.{ℕ, _<_}
+use Prim.Native.Nat.{ℕ, _≤_, _<_}
 use mathlib.Core.Path.{_≡_}
 use mathlib.Core.Bool.{not}
 use mathlib.Core.List.{List}
@@ -30,13 +30,14 @@ numberOf net k =
     passBelow (a .entry) (K net (a .pair .0))
 
 pub record NumbersAre (net : PNet) (numbers : List ℕ) : Type 0 where
+  pub long : length (net .arcs) ≤ length numbers
   pub each : (k : ℕ) → k < length (net .arcs) → getD numbers k 0 ≡ numberOf net k
 
--- an open net with both tables of a run
+-- an open net with both tables of a run, that of numbers empty where there is none
 pub record Tables (s : List ℕ) (net : NetShape) (starts numbers : List ℕ) : Type 0 where
   pub opened : Open s net
   pub startsAre : StartsAre (netOf s .arcs) starts
-  pub numbersAre : NumbersAre (netOf s) numbers
+  pub numbersAre : 0 < length numbers → NumbersAre (netOf s) numbers
 
 -- a run with this outcome: what it tells, and what it leaves in the marking
 pub record Reports (o : Outcome) (told : Ran) (left : List ℕ) : Type 0 where

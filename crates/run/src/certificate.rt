@@ -1,5 +1,5 @@
 // A certificate once both sheets are accepted: 17 for the claim, the run from the first marking, 18.
-use crate::walk::walk_sheet;
+use crate::movements::run_listed;
 use fire::start::write_start;
 use heads::head::refused;
 use model::Answer;
@@ -45,7 +45,7 @@ fn compare(last: &[u32], claim: &[u32], pairs: usize) -> Answer
     Answer::Accepted
 }
 
-// The run from the first marking, in counts of the call's own.
+// The run from the first marking, in counts of the call's own; with no table of numbers, which would not fit a certificate's stack.
 fn end_answer(
     s: &[u8],
     net: NetShape,
@@ -59,7 +59,8 @@ fn end_answer(
     ensures { λ r. ⌜ r ≡ answer (endsAt (netOf (now (s .entry))) (movementsOf (now (movements .entry))) (now (claim .entry))) ⌝ }
 {
     write_start(s, net, counts);
-    let ran = walk_sheet(s, net, movements, counts);
+    let none = [0u32; 0];
+    let ran = run_listed(s, net, &none, movements, counts);
     let answer = ran.answer;
     if let Answer::Refused(_) = answer {
         return answer;

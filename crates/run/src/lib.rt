@@ -22,7 +22,6 @@ ghost use Rattle.run.specs.Contracts.{RunAllows, CertifyAllows};
 mod certificate;
 pub mod movements;
 pub mod numbers;
-mod walk;
 
 // How many movements of a run were accepted, and the answer to the first that was not.
 pub struct Ran {

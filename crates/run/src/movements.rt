@@ -2,6 +2,7 @@
 use crate::Ran;
 use crate::numbers::arc_numbers;
 use crate::numbers::fire_within;
+use fire::advance::advance;
 use fire::advance::mode_answer;
 use lists::movements::movement_count;
 use model::Answer;
@@ -14,6 +15,8 @@ use opened::starts::arcs_of;
 use opened::starts::starts;
 ghost use mathlib.Core.Path.{_≡_};
 ghost use mathlib.Core.Option.{none};
+ghost use Prim.Native.Nat.{_<_};
+ghost use lib.ListN.{length};
 ghost use Rattle.model.specs.declared.Thing.the-variants.{Movements};
 ghost use Rattle.model.specs.Markings.{Marking};
 ghost use Rattle.model.specs.Firing.{modeRefusal, fired};
@@ -23,14 +26,14 @@ ghost use Rattle.lists.specs.Movements.{movementsRefusal};
 ghost use Rattle.opened.specs.Shape.{Open};
 ghost use Rattle.sheets.specs.Listed.{modesFrom, ModesStand};
 ghost use Rattle.firing.specs.Leaving.{Leaves};
-ghost use Rattle.run.specs.Parts.{Tables, Reports};
+ghost use Rattle.run.specs.Parts.{NumbersAre, Tables, Reports};
 
-// One movement, tested by the numbers of its mode's arcs.
+// One movement, tested by the numbers of its mode's arcs; by all four tests where that table is empty, since only a run may hold it on the stack.
 fn step(
     s: &[u8],
     net: NetShape,
     starts: &[u16; 257],
-    numbers: &[u32; 2048],
+    numbers: &[u32],
     mode: Mode,
     marking: &mut [u32],
 ) -> Answer
@@ -38,6 +41,9 @@ fn step(
     requires { ⌜ Marking (netOf (now s)) (now marking) ⌝ }
     ensures { λ r. ⌜ Leaves (modeRefusal Movements (netOf (now (s .entry))) mode (now (marking .entry))) (fired (netOf (now (s .entry))) mode (now (marking .entry))) (now (marking .entry)) r (now (marking .exit)) ⌝ }
 {
+    if numbers.len() == 0 {
+        return advance(s, net, starts, Thing::Movements, mode, marking);
+    }
     let there = mode_answer(net, Thing::Movements, mode);
     if let Answer::Refused(_) = there {
         return there;
@@ -51,7 +57,7 @@ pub fn run_modes(
     s: &[u8],
     net: NetShape,
     starts: &[u16; 257],
-    numbers: &[u32; 2048],
+    numbers: &[u32],
     movements: &[u8],
     start: usize,
     count: usize,
@@ -86,24 +92,41 @@ pub fn run_modes(
     }
 }
 
-// The whole list of a movement sheet that was accepted, with both tables made once.
+// The list of a movement sheet that was accepted, with the table of starts made once and that of numbers lent.
+pub(crate) fn run_listed(
+    s: &[u8],
+    net: NetShape,
+    numbers: &[u32],
+    movements: &[u8],
+    marking: &mut [u32],
+) -> Ran
+    requires { ⌜ Open (now s) net ⌝ }
+    requires { ⌜ (0 < length (now numbers) → NumbersAre (netOf (now s)) (now numbers)) ⌝ }
+    requires { ⌜ movementsRefusal (now movements) ≡ none ⌝ }
+    requires { ⌜ Marking (netOf (now s)) (now marking) ⌝ }
+    ensures { λ r. ⌜ Reports (run (netOf (now (s .entry))) (movementsOf (now (movements .entry))) (now (marking .entry))) r (now (marking .exit)) ⌝ }
+{
+    let starts = starts(s, net);
+    let count = movement_count(movements);
+    run_modes(
+        s,
+        net,
+        &starts,
+        numbers,
+        movements,
+        movements_at(),
+        count,
+        marking,
+    )
+}
+
+// The same with both tables made once.
 pub(crate) fn run_sheet(s: &[u8], net: NetShape, movements: &[u8], marking: &mut [u32]) -> Ran
     requires { ⌜ Open (now s) net ⌝ }
     requires { ⌜ movementsRefusal (now movements) ≡ none ⌝ }
     requires { ⌜ Marking (netOf (now s)) (now marking) ⌝ }
     ensures { λ r. ⌜ Reports (run (netOf (now (s .entry))) (movementsOf (now (movements .entry))) (now (marking .entry))) r (now (marking .exit)) ⌝ }
 {
-    let starts = starts(s, net);
     let numbers = arc_numbers(s, net);
-    let count = movement_count(movements);
-    run_modes(
-        s,
-        net,
-        &starts,
-        &numbers,
-        movements,
-        movements_at(),
-        count,
-        marking,
-    )
+    run_listed(s, net, &numbers, movements, marking)
 }

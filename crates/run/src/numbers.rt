@@ -70,7 +70,7 @@ pub fn arc_numbers(s: &[u8], net: NetShape) -> [u32; 2048]
     numbers
 }
 
-fn arc_within(s: &[u8], net: NetShape, numbers: &[u32; 2048], k: usize, marking: &[u32]) -> bool
+fn arc_within(s: &[u8], net: NetShape, numbers: &[u32], k: usize, marking: &[u32]) -> bool
     requires { ⌜ Open (now s) net ⌝ }
     requires { ⌜ NumbersAre (netOf (now s)) (now numbers) ⌝ }
     requires { ⌜ Marking (netOf (now s)) (now marking) ⌝ }
@@ -85,13 +85,7 @@ fn arc_within(s: &[u8], net: NetShape, numbers: &[u32; 2048], k: usize, marking:
 }
 
 // One pass over the arcs of a mode, each tested by its number.
-fn arcs_within(
-    s: &[u8],
-    net: NetShape,
-    numbers: &[u32; 2048],
-    arcs: Segment,
-    marking: &[u32],
-) -> bool
+fn arcs_within(s: &[u8], net: NetShape, numbers: &[u32], arcs: Segment, marking: &[u32]) -> bool
     requires { ⌜ NumbersAre (netOf (now s)) (now numbers) ⌝ }
     requires { ⌜ AtMode (now s) net arcs (now marking) ⌝ }
     ensures { λ r. ⌜ OfMode (now (s .entry)) arcs (λ t. Decides r (netOf (now (s .entry))) (now (marking .entry)) t) ⌝ }
@@ -112,7 +106,7 @@ fn arcs_within(
 pub(crate) fn fire_within(
     s: &[u8],
     net: NetShape,
-    numbers: &[u32; 2048],
+    numbers: &[u32],
     arcs: Segment,
     marking: &mut [u32],
 ) -> Answer

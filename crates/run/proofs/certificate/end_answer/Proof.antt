@@ -1,29 +1,30 @@
 -- The first marking is accepted; the run stops, or the marking that it left is compared.
 use borrow.Author.Needs.{needs}
 use mathlib.Core.Path.{_∙_}
+use native.Mathlib.Omega.{arith}
 use Rattle.opened.proofs.Shapes.{sizes}
 use Rattle.run.proofs.Certifying.{ends-stopped, ends-compared}
 use Rattle.run.proofs.certificate.end_answer.Statement.{statement}
 use Rattle.run.proofs.certificate.end_answer.Tie as tie
 
-walk-sheet-requires : tie.Need-walk-sheet-requires
-walk-sheet-requires c κs =
-    let wrote = c .before .before .before in
+run-listed-requires : tie.Need-run-listed-requires
+run-listed-requires c κs =
+    let wrote = c .before .before .before .before in
     let start = wrote .before .before .before .before .before .before in
-    (start .pre .0, (start .pre .1 .0, rw (wrote .write-start .ensures) (sizes (start .pre .0) .wellFormed .start)))
+    (start .pre .0, (λ l. absurd (omega arith), (start .pre .1 .0, rw (wrote .write-start .ensures) (sizes (start .pre .0) .wellFormed .start))))
 
 returns : tie.Need-returns
 returns c =
     let ran = c .before .before .before .before in
-    let wrote = ran .before .before .before .before in
-    ends-stopped _ _ _ (wrote .write-start .ensures) (ran .walk-sheet .ensures) (c .enum-told .given .1)
+    let wrote = ran .before .before .before .before .before in
+    ends-stopped _ _ _ (wrote .write-start .ensures) (ran .run-listed .ensures) (c .enum-told .given .1)
 
 compare-requires : tie.Need-compare-requires
 compare-requires c κs =
     let ran = c .before .before .before .before .before in
-    let wrote = ran .before .before .before .before in
+    let wrote = ran .before .before .before .before .before in
     let start = wrote .before .before .before .before .before .before in (
-      ran .walk-sheet .kept .1 .1 .1 .0 ∙ wrote .write-start .kept .1 .1 .0 ∙ start .pre .1 .1 .1,
+      ran .run-listed .kept .1 .1 .1 .1 .0 ∙ wrote .write-start .kept .1 .1 .0 ∙ start .pre .1 .1 .1,
       start .pre .1 .1 .0,
       sizes (start .pre .0) .pairsWithin,
     )
@@ -32,9 +33,9 @@ returns-2 : tie.Need-returns-2
 returns-2 c =
     let told = c .before .before in
     let ran = told .before .before .before .before in
-    let wrote = ran .before .before .before .before in
+    let wrote = ran .before .before .before .before .before in
     let start = wrote .before .before .before .before .before .before in
-    ends-compared _ _ _ (wrote .write-start .ensures) (ran .walk-sheet .ensures) (told .enum-told2 .given .1)
+    ends-compared _ _ _ (wrote .write-start .ensures) (ran .run-listed .ensures) (told .enum-told2 .given .1)
     (rw (sizes (start .pre .0) .pairs) at (c .compare .ensures))
 
 pub end-answer-spec : {M : Type 1} → statement M
@@ -42,7 +43,8 @@ end-answer-spec =
     tie.close
     (tie.spec
     (λ c κs. search needs)
-    walk-sheet-requires
+    (λ c. search needs)
+    run-listed-requires
     (λ c. search needs)
     (λ c. search needs)
     returns

@@ -15,7 +15,7 @@ abbrev μ-loop : tie.MeasureT-loop
 μ-loop s net starts numbers movements start count marking₀ k₀ marking k = count - k
 
 loop-holds : tie.Need-loop-holds Inv-loop μ-loop
-loop-holds c = (search needs, along-none (c .before .before .before .pre .1 .1))
+loop-holds c = (search needs, along-none (c .before .before .before .before .pre .1 .1))
 
 returns : tie.Need-returns Inv-loop μ-loop
 returns c =
@@ -33,10 +33,10 @@ same-length : tie.Need-same-length Inv-loop μ-loop
 same-length c =
     let done = c .before .before .before .before in
     let l = done .before .before .before .before in
-    done .step .kept .1 .1 .1 .1 .1 .0 ∙ l .loop .inv .1 .marking .oneEach ∙ sym (l .before .before .before .before .pre .1 .1 .oneEach)
+    done .step .kept .1 .1 .1 .1 .1 .0 ∙ l .loop .inv .1 .marking .oneEach ∙ sym (l .before .before .before .before .before .pre .1 .1 .oneEach)
 
 same-length-2 : tie.Need-same-length-2 Inv-loop μ-loop
-same-length-2 c = c .before .loop .inv .1 .marking .oneEach ∙ sym (c .before .before .before .before .before .pre .1 .1 .oneEach)
+same-length-2 c = c .before .loop .inv .1 .marking .oneEach ∙ sym (c .before .before .before .before .before .before .pre .1 .1 .oneEach)
 
 returns-2 : tie.Need-returns-2 Inv-loop μ-loop
 returns-2 c = along-ends (c .before .loop .inv .1) (c .loop-test .left)

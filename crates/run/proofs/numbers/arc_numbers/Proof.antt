@@ -35,7 +35,8 @@ loop-again c =
 returns : tie.Need-returns Inv-loop μ-loop
 returns c =
     let size = sizes (c .before .before .before .pre) .arcs in
-    record { each = λ k h. c .before .loop .inv .2 .each k (omega arith) }
+    let within = sizes (c .before .before .before .pre) .arcsWithin in
+    record { long = omega arith; each = λ k h. c .before .loop .inv .2 .each k (omega arith) }
 
 pub arc-numbers-spec : {M : Type 1} → statement M
 arc-numbers-spec =

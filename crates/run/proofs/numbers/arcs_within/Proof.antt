@@ -21,19 +21,19 @@ loop-holds c = (search needs, λ j l. absurd (omega arith))
 
 arc-within-requires : tie.Need-arc-within-requires Inv-loop μ-loop
 arc-within-requires c κs =
-    let pre = c .before .before .before .before .pre in
+    let pre = c .before .before .before .before .before .pre in
     (pre .1 .opened, (pre .0, (pre .1 .marking, omega arith)))
 
 returns : tie.Need-returns Inv-loop μ-loop
 returns c = λ t own.
     let l = c .before .before in
-    one-not-free (l .before .before .before .before .pre .1) t own (l .before .loop .i) (l .loop-test .taken) (c .before .arc-within .ensures) (not-true _ (c .if1 .taken))
+    one-not-free (l .before .before .before .before .before .pre .1) t own (l .before .loop .i) (l .loop-test .taken) (c .before .arc-within .ensures) (not-true _ (c .if1 .taken))
 
 loop-again : tie.Need-loop-again Inv-loop μ-loop
 loop-again c = (search needs, below-more _ _ (c .before .before .before .loop .inv .1) (c .before .arc-within .ensures .0 (not-false _ (c .if1 .left))))
 
 returns-2 : tie.Need-returns-2 Inv-loop μ-loop
-returns-2 c = λ t own. all-free (c .before .before .before .before .pre .1) t own (λ j l. c .before .loop .inv .1 j (omega arith))
+returns-2 c = λ t own. all-free (c .before .before .before .before .before .pre .1) t own (λ j l. c .before .loop .inv .1 j (omega arith))
 
 pub arcs-within-spec : {M : Type 1} → statement M
 arcs-within-spec =
