@@ -1,7 +1,7 @@
 // A list of movements: mode by mode, up to the first that is refused.
 use crate::Ran;
-use crate::numbers::arc_numbers;
 use crate::numbers::fire_within;
+use crate::numbers::write_numbers;
 use fire::advance::advance;
 use fire::advance::mode_answer;
 use lists::movements::movement_count;
@@ -127,6 +127,7 @@ pub(crate) fn run_sheet(s: &[u8], net: NetShape, movements: &[u8], marking: &mut
     requires { ⌜ Marking (netOf (now s)) (now marking) ⌝ }
     ensures { λ r. ⌜ Reports (run (netOf (now (s .entry))) (movementsOf (now (movements .entry))) (now (marking .entry))) r (now (marking .exit)) ⌝ }
 {
-    let numbers = arc_numbers(s, net);
+    let mut numbers = [0u32; 2048];
+    write_numbers(s, net, &mut numbers);
     run_listed(s, net, &numbers, movements, marking)
 }

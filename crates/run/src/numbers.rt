@@ -13,6 +13,7 @@ ghost use mathlib.Core.Path.{_≡_};
 ghost use mathlib.Core.Bool.{true};
 ghost use mathlib.Core.Logic.{_↔_};
 ghost use Prim.Native.Nat.{_<_, min};
+ghost use lib.ListN.{length};
 ghost use Rattle.model.specs.declared.Thing.the-variants.{Movements};
 ghost use Rattle.model.specs.Markings.{Marking};
 ghost use Rattle.model.specs.Firing.{fired};
@@ -56,18 +57,18 @@ fn arc_number(s: &[u8], net: NetShape, k: usize) -> u32
     pass_below(arc, capacity(s, net, pair))
 }
 
-pub fn arc_numbers(s: &[u8], net: NetShape) -> [u32; 2048]
+// Written into a table that is lent, so that it stands on the stack once.
+pub fn write_numbers(s: &[u8], net: NetShape, numbers: &mut [u32])
     requires { ⌜ Open (now s) net ⌝ }
-    ensures { λ r. ⌜ NumbersAre (netOf (now (s .entry))) r ⌝ }
+    requires { ⌜ length (now numbers) ≡ 2048 ⌝ }
+    ensures { λ r. ⌜ NumbersAre (netOf (now (s .entry))) (now (numbers .exit)) ⌝ }
 {
     let arcs = net.arcs;
-    let mut numbers = [0u32; 2048];
     let mut k = 0;
     while k < arcs {
         numbers[k] = arc_number(s, net, k);
         k += 1;
     }
-    numbers
 }
 
 fn arc_within(s: &[u8], net: NetShape, numbers: &[u32], k: usize, marking: &[u32]) -> bool
