@@ -7,7 +7,8 @@ use crate::works::Work;
 
 /// The instructions of each engine, in thousands.
 pub fn instructions(work: Work, part: usize) -> [f64; 2] {
-    ["engine", "swift"].map(|engine| (counted(work, engine, part, 11) - counted(work, engine, part, 1)) / 10_000.0)
+    ["engine", "swift"]
+        .map(|engine| (counted(work, engine, part, 11) - counted(work, engine, part, 1)) / 10_000.0)
 }
 
 fn counted(work: Work, engine: &str, part: usize, times: usize) -> f64 {
@@ -19,5 +20,7 @@ fn counted(work: Work, engine: &str, part: usize, times: usize) -> f64 {
         .expect("valgrind is on this machine");
     let said = String::from_utf8_lossy(&output.stderr);
     let collected = said.lines().find_map(|line| line.split_once("Collected : "));
-    collected.and_then(|(_, count)| count.trim().parse().ok()).unwrap_or_else(|| panic!("callgrind said: {said}"))
+    collected
+        .and_then(|(_, count)| count.trim().parse().ok())
+        .unwrap_or_else(|| panic!("callgrind said: {said}"))
 }

@@ -52,6 +52,9 @@ fn plain(places: usize, transitions: usize, arcs: usize, capacity: impl Fn(usize
         colours: vec![4; places],
         modes: vec![4; transitions],
         pairs: (0..pairs).map(|pair| (capacity(pair), 500_000)).collect(),
-        arcs: (0..modes).flat_map(|mode| (0..arcs).map(move |k| (mode, k))).map(|(mode, k)| arc(mode, k)).collect(),
+        arcs: (0..modes)
+            .flat_map(|mode| (0..arcs).map(move |k| (mode, k)))
+            .map(|(mode, k)| arc(mode, k))
+            .collect(),
     }
 }

@@ -53,7 +53,11 @@ fn tables(title: &str, unit: &str, measure: impl Fn(Work, usize) -> [f64; 2]) {
         row(work.name(), part, both);
         if work == Work::Run {
             // The run alone: what reading the same net takes is taken off.
-            let read = measured.iter().find(|row| (row.0, row.1) == (Work::Read, part)).expect("reading is measured").2;
+            let read = measured
+                .iter()
+                .find(|row| (row.0, row.1) == (Work::Read, part))
+                .expect("reading is measured")
+                .2;
             row("run, without reading", part, [both[0] - read[0], both[1] - read[1]]);
         }
     }

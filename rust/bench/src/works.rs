@@ -47,8 +47,12 @@ impl Work {
         match (self, engine) {
             (Work::Read, Engine::Proved) => pnet::read_net(&inputs.net).is_ok(),
             (Work::Read, Engine::Swift) => swift::read_net(&inputs.net).0.number == 0,
-            (Work::Run, Engine::Proved) => pnet::run(&inputs.net, &inputs.movements, &mut lent.marking).result.is_ok(),
-            (Work::Run, Engine::Swift) => swift::run(&inputs.net, &inputs.movements, &mut lent.marking).1.number == 0,
+            (Work::Run, Engine::Proved) => {
+                pnet::run(&inputs.net, &inputs.movements, &mut lent.marking).result.is_ok()
+            }
+            (Work::Run, Engine::Swift) => {
+                swift::run(&inputs.net, &inputs.movements, &mut lent.marking).1.number == 0
+            }
             (Work::Complement, Engine::Proved) => pnet::complement(&inputs.bounded, &mut lent.output).is_ok(),
             (Work::Complement, Engine::Swift) => swift::complement(&inputs.bounded, &mut lent.output).is_ok(),
             (Work::Statement, Engine::Proved) => pnet::statement(&inputs.input, &mut lent.output).is_ok(),

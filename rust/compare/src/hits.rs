@@ -37,7 +37,8 @@ const CALLS: [Call; 14] = [
     Change,
     IsDead,
     FirstDead,
-    Complement, Statement,
+    Complement,
+    Statement,
 ];
 
 /// An answer as number and thing.
@@ -125,7 +126,16 @@ impl Hits {
                 }
             }
         }
-        for value in ["yes", "no", "named", "none named", "text of a whole run", "text of a stopped run", "text of a bad sheet", "long"] {
+        for value in [
+            "yes",
+            "no",
+            "named",
+            "none named",
+            "text of a whole run",
+            "text of a stopped run",
+            "text of a bad sheet",
+            "long",
+        ] {
             if self.values.get(value).copied().unwrap_or(0) < ENOUGH {
                 wants.push(format!("the value '{value}' came up too rarely"));
             }

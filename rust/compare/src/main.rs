@@ -46,7 +46,8 @@ fn main() -> ExitCode {
         }
     }
     same.part = format!("seed {seed}, long inputs");
-    (0..hits::ENOUGH).for_each(|more| same.statement(&vec![random.next() as u8; 65_537 + more * more], pnet::TEXT_ROOM));
+    (0..hits::ENOUGH)
+        .for_each(|more| same.statement(&vec![random.next() as u8; 65_537 + more * more], pnet::TEXT_ROOM));
     same.part = format!("seed {seed}, the largest net cut");
     largest_cut(&mut same, &mut random);
     println!(

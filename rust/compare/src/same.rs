@@ -194,9 +194,16 @@ impl Same {
             text if text.windows(7).any(|word| word == b"refused") => "text of a stopped run",
             _ => "text of a whole run",
         });
-        let (reference, length) = if room < pnet::TEXT_ROOM { ((10, 0, 0), None) } else { ((0, 0, 0), Some(expected.len())) };
+        let (reference, length) =
+            if room < pnet::TEXT_ROOM { ((10, 0, 0), None) } else { ((0, 0, 0), Some(expected.len())) };
         expected.truncate(length.unwrap_or(0));
         expected.resize(room, 170);
-        self.hold(Call::Statement, answer, (answer, engine.ok(), &text), (reference, length, &expected), &[&input, &room]);
+        self.hold(
+            Call::Statement,
+            answer,
+            (answer, engine.ok(), &text),
+            (reference, length, &expected),
+            &[&input, &room],
+        );
     }
 }

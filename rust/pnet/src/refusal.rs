@@ -97,7 +97,10 @@ impl fmt::Display for Refusal {
                 write!(f, "the first marking at byte {at} is above the pair's capacity")
             }
             (Fault::NoRoom, _) => {
-                write!(f, "what is to be written exceeds the room for it, or a complement the limits of a sheet")
+                write!(
+                    f,
+                    "what is to be written exceeds the room for it, or a complement the limits of a sheet"
+                )
             }
             (Fault::Lacking, _) => write!(f, "pair {at} holds too few"),
             (Fault::OverCapacity, _) => write!(f, "pair {at} has no capacity for what is added"),

@@ -10,7 +10,12 @@ fn each_input_prints_its_text() {
         let input = entry.expect("an entry of tests/replay").path();
         if input.extension().is_some_and(|ending| ending == "in") {
             let expected = fs::read(input.with_extension("out")).expect("each input has its text");
-            assert_eq!(reference::replay(&fs::read(&input).expect("an input")), expected, "{}", input.display());
+            assert_eq!(
+                reference::replay(&fs::read(&input).expect("an input")),
+                expected,
+                "{}",
+                input.display()
+            );
             compared += 1;
         }
     }
