@@ -3,9 +3,6 @@ use borrow.Author.Needs.{needs}
 use Prim.Native.Nat.{_≤_, _-_}
 use Rattle.largest_figure.proofs.put_numbers.Statement.{statement}
 use Rattle.largest_figure.proofs.put_numbers.Tie as tie
-use Rattle.largest_figure.proofs.put_numbers.Reads as reads
-use Rattle.largest_figure.proofs.put_numbers.Lts as lts
-use Rattle.largest_figure.proofs.put32.Reads as put32-reads
 
 abbrev Inv-loop : tie.InvT-loop
 Inv-loop s₀ start count number k₀ s k = k ≤ count
