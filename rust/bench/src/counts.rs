@@ -3,19 +3,20 @@
 use std::env;
 use std::process::Command;
 
-use crate::works::Work;
+use crate::inputs::Size;
+use crate::works::{Figures, Work};
 
 /// The instructions of each engine, in thousands.
-pub fn instructions(work: Work, part: usize) -> [f64; 2] {
-    ["engine", "swift"]
-        .map(|engine| (counted(work, engine, part, 11) - counted(work, engine, part, 1)) / 10_000.0)
+pub fn instructions(work: Work, size: Size) -> Figures {
+    work.each(|engine| (counted(work, engine, size, 11) - counted(work, engine, size, 1)) / 10_000.0)
 }
 
-fn counted(work: Work, engine: &str, part: usize, times: usize) -> f64 {
+fn counted(work: Work, engine: &str, size: Size, times: usize) -> f64 {
+    let [part, arcs, times] = [size.part, size.arcs, times].map(|number| number.to_string());
     let output = Command::new("valgrind")
         .args(["--tool=callgrind", "--callgrind-out-file=/dev/null"])
         .arg(env::current_exe().expect("this program has a path"))
-        .args(["once", work.name(), engine, &part.to_string(), &times.to_string()])
+        .args(["once", work.name, engine, &part, &arcs, &times])
         .output()
         .expect("valgrind is on this machine");
     let said = String::from_utf8_lossy(&output.stderr);

@@ -2,14 +2,50 @@
 
 use reference::build::{OPEN, PlainArc, PlainNet, movements, weights};
 
+/// How large the inputs are.
+#[derive(Clone, Copy, PartialEq, Eq)]
+pub struct Size {
+    /// So many times fewer pairs, modes and movements.
+    pub part: usize,
+    /// Arcs of each mode.
+    pub arcs: usize,
+}
+
+impl Size {
+    /// Modes of 8 arcs.
+    pub const fn part(part: usize) -> Size {
+        Size { part, arcs: 8 }
+    }
+
+    /// The largest net of modes of so many arcs.
+    pub const fn arcs(arcs: usize) -> Size {
+        Size { part: 1, arcs }
+    }
+
+    /// As the tables name it.
+    pub fn name(self) -> String {
+        match self.part {
+            1 => "full".to_string(),
+            part => format!("1/{part}"),
+        }
+    }
+}
+
 /// What the works read.
 pub struct Inputs {
     /// The largest net: 256 pairs, 256 modes of 8 arcs each; 35,083 bytes.
     pub net: Vec<u8>,
+    /// How many pairs it has.
+    pub pairs: usize,
+    /// Its last mode.
+    pub last: u16,
     /// 8,192 movements, all of them accepted.
     pub movements: Vec<u8>,
     /// Where they start.
     pub marking: Vec<u32>,
+    /// Where they end.
+    pub claim: Vec<u32>,
+    pub weights: Vec<u8>,
     /// A net of 128 bounded pairs and 256 modes of 4 arcs each, whose complement is a largest net.
     pub bounded: Vec<u8>,
     /// `replay`'s input: the net, its weights, the movements.
@@ -17,22 +53,29 @@ pub struct Inputs {
 }
 
 impl Inputs {
-    /// A full-size input, or one with so many times fewer pairs, modes and movements.
-    pub fn of(part: usize) -> Inputs {
-        let (places, transitions) = (64 / part, 64 / part);
-        let net = plain(places, transitions, 8, |pair| [OPEN, 1_000_000][pair % 2]);
+    pub fn of(Size { part, arcs }: Size) -> Inputs {
+        // 2,048 arcs at most.
+        let (places, transitions) = (64 / part, 64.min(512 / arcs) / part);
+        let net = plain(places, transitions, arcs, |pair| [OPEN, 1_000_000][pair % 2]);
         let bounded = plain(places / 2, transitions, 4, |_| 1_000_000);
         let (pairs, modes) = (net.pairs.len(), 4 * transitions);
         // A walk over all modes in no simple order.
         let list: Vec<u16> = (0..8_192 / part).map(|k| (k * 167 % 251 % modes) as u16).collect();
         let kilograms: Vec<i32> = (0..pairs as i32).map(|pair| 250 * (pair % 9) - 500).collect();
-        let (sheet, list) = (net.sheet(), movements(&list));
+        let (sheet, movements, weights) = (net.sheet(), movements(&list), weights(&kilograms));
+        let marking: Vec<u32> = net.pairs.iter().map(|pair| pair.1).collect();
+        let mut claim = marking.clone();
+        assert_eq!(swift::run(&sheet, &movements, &mut claim), (list.len() as u64, swift::Answer::ACCEPTED));
         Inputs {
-            marking: net.pairs.iter().map(|pair| pair.1).collect(),
+            pairs,
+            last: modes as u16 - 1,
+            marking,
+            claim,
             bounded: bounded.sheet(),
-            input: [&sheet[..], &weights(&kilograms), &list].concat(),
+            input: [&sheet[..], &weights, &movements].concat(),
             net: sheet,
-            movements: list,
+            weights,
+            movements,
         }
     }
 }

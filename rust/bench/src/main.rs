@@ -1,10 +1,11 @@
-//! How fast the proved engine is beside `swift`: the same input, the same process, both optimised for plain x86-64.
+//! How fast the proved engine is beside Rust on the same input, in one process, all optimised for plain x86-64: `twopass` runs by the
+//! engine's own method, `swift` by whatever is fastest.
 //!
 //!     bench                  times and instruction counts, as the tables of docs/BENCHMARKS.md
 //!     bench times            the times alone
-//!     bench once WORK ENGINE PART TIMES    one piece of work so many times, for callgrind
+//!     bench once WORK ENGINE PART ARCS TIMES    one piece of work so many times, for callgrind
 //!
-//! Times are the least of many repetitions, the two engines in turn. Everything is warm: sheets, marking and output slice are used again
+//! Times are the least of many repetitions, the engines in turn. Everything is warm: sheets, marking and output slice are used again
 //! and are not cleared between repetitions; a marking is set back before each run, outside the time.
 
 mod counts;
@@ -13,7 +14,11 @@ mod works;
 
 use std::env;
 
-use works::{Engine, PARTS, WORKS, Work};
+use inputs::{Inputs, Size};
+use works::{Figures, OTHERS, READ, RUN, SIZED, Work};
+
+/// What a table measures of a work at a size.
+type Measure = fn(Work, Size) -> Figures;
 
 fn main() {
     let words: Vec<String> = env::args().skip(1).collect();
@@ -24,46 +29,70 @@ fn main() {
             tables("Instructions, in thousands", "k", counts::instructions);
         }
         ["times"] => tables("Microseconds, the least", "µs", times),
-        ["once", work, engine, part, times] => {
+        ["once", work, engine, part, arcs, times] => {
             let number = |word: &str| word.parse::<usize>().expect("a number");
-            let work = WORKS.into_iter().find(|known| known.name() == work).expect("a known work");
-            let engine = if engine == "engine" { Engine::Proved } else { Engine::Swift };
-            works::repeat(work, engine, &inputs::Inputs::of(number(part)), number(times));
+            let size = Size { part: number(part), arcs: number(arcs) };
+            works::repeat(works::named(work), engine, &Inputs::of(size), number(times));
         }
-        _ => panic!("bench [times | once WORK ENGINE PART TIMES]"),
+        _ => panic!("bench [times | once WORK ENGINE PART ARCS TIMES]"),
     }
 }
 
 /// The least time of each engine, in microseconds.
-fn times(work: Work, part: usize) -> [f64; 2] {
-    works::least(work, &inputs::Inputs::of(part))
+fn times(work: Work, size: Size) -> Figures {
+    works::least(work, &Inputs::of(size))
 }
 
-/// A table: each work at each size, both engines and their ratio.
-fn tables(title: &str, unit: &str, measure: impl Fn(Work, usize) -> [f64; 2]) {
+fn tables(title: &str, unit: &str, measure: Measure) {
     println!("\n### {title}\n");
-    println!("| Work | Size | engine, {unit} | swift, {unit} | ratio |\n|---|---|---|---|---|");
-    let mut measured = Vec::new();
-    for work in WORKS {
-        for part in PARTS {
-            measured.push((work, part, measure(work, part)));
+    head("Size", unit);
+    for work in SIZED {
+        for part in [1, 4, 16] {
+            let size = Size::part(part);
+            rows(work, size, &size.name(), measure);
         }
     }
-    for &(work, part, both) in &measured {
-        row(work.name(), part, both);
-        if work == Work::Run {
-            // The run alone: what reading the same net takes is taken off.
-            let read = measured
-                .iter()
-                .find(|row| (row.0, row.1) == (Work::Read, part))
-                .expect("reading is measured")
-                .2;
-            row("run, without reading", part, [both[0] - read[0], both[1] - read[1]]);
-        }
+    for work in OTHERS {
+        rows(work, Size::part(1), "full", measure);
+    }
+    println!("\nRuns of 8,192 movements, by the arcs of a mode:\n");
+    head("Arcs", unit);
+    for arcs in [1, 2, 4, 8, 16] {
+        rows(RUN, Size::arcs(arcs), &arcs.to_string(), measure);
     }
 }
 
-fn row(name: &str, part: usize, [engine, swift]: [f64; 2]) {
-    let size = if part == 1 { "full".to_string() } else { format!("1/{part}") };
-    println!("| {name} | {size} | {engine:.1} | {swift:.1} | {:.2} |", engine / swift);
+fn head(column: &str, unit: &str) {
+    println!(
+        "| Work | {column} | engine, {unit} | twopass, {unit} | swift, {unit} | of twopass | of swift |"
+    );
+    println!("|---|---|---|---|---|---|---|");
+}
+
+/// A work's row; a run has a second one, without what reading the net takes.
+fn rows(work: Work, size: Size, named: &str, measure: Measure) {
+    let figures = measure(work, size);
+    row(work.name, named, figures);
+    if work.name == RUN.name {
+        let [engine, _, swift] = measure(READ, size);
+        // `twopass` reads by `swift`.
+        let alone = figures.iter().zip([engine, swift, swift]).map(|(all, read)| Some((*all)? - read?));
+        row("run, without reading", named, alone.collect::<Vec<_>>().try_into().expect("three"));
+    }
+}
+
+fn row(name: &str, named: &str, [engine, twopass, swift]: Figures) {
+    let figure = |figure: Option<f64>| figure.map_or(String::new(), |figure| format!("{figure:.1}"));
+    let ratio = |other: Option<f64>| match (engine, other) {
+        (Some(engine), Some(other)) => format!("{:.2}", engine / other),
+        _ => String::new(),
+    };
+    println!(
+        "| {name} | {named} | {} | {} | {} | {} | {} |",
+        figure(engine),
+        figure(twopass),
+        figure(swift),
+        ratio(twopass),
+        ratio(swift)
+    );
 }

@@ -1,29 +1,17 @@
-//! The pieces of work that are measured, on either engine.
+//! The pieces of work that are measured, and who does them.
 
 use std::hint::black_box;
 use std::time::Instant;
 
+use pnet::Mode;
+
 use crate::inputs::Inputs;
 
-/// A piece of work.
-#[derive(Clone, Copy, PartialEq, Eq)]
-pub enum Work {
-    Read,
-    Run,
-    Complement,
-    Statement,
-}
+/// Who does the work: the proved engine through its wrapper, a run by the same method in Rust, and a program written for speed.
+pub const ENGINES: [&str; 3] = ["engine", "twopass", "swift"];
 
-pub const WORKS: [Work; 4] = [Work::Read, Work::Run, Work::Complement, Work::Statement];
-
-/// The sizes: full, a quarter, a sixteenth.
-pub const PARTS: [usize; 3] = [1, 4, 16];
-
-#[derive(Clone, Copy, PartialEq, Eq)]
-pub enum Engine {
-    Proved,
-    Swift,
-}
+/// A figure of each engine that does the work.
+pub type Figures = [Option<f64>; 3];
 
 /// What is written: used again from repetition to repetition.
 struct Lent {
@@ -31,34 +19,70 @@ struct Lent {
     output: Vec<u8>,
 }
 
-impl Work {
-    pub fn name(self) -> &'static str {
-        match self {
-            Work::Read => "read",
-            Work::Run => "run",
-            Work::Complement => "complement",
-            Work::Statement => "statement",
-        }
-    }
+/// One repetition: whether all was accepted, or the time says nothing.
+type Once = fn(&Inputs, &mut Lent) -> bool;
 
-    /// The work once; each must be accepted whole, or the time says nothing.
-    fn once(self, engine: Engine, inputs: &Inputs, lent: &mut Lent) -> bool {
-        let inputs = black_box(inputs);
-        match (self, engine) {
-            (Work::Read, Engine::Proved) => pnet::read_net(&inputs.net).is_ok(),
-            (Work::Read, Engine::Swift) => swift::read_net(&inputs.net).0.number == 0,
-            (Work::Run, Engine::Proved) => {
-                pnet::run(&inputs.net, &inputs.movements, &mut lent.marking).result.is_ok()
-            }
-            (Work::Run, Engine::Swift) => {
-                swift::run(&inputs.net, &inputs.movements, &mut lent.marking).1.number == 0
-            }
-            (Work::Complement, Engine::Proved) => pnet::complement(&inputs.bounded, &mut lent.output).is_ok(),
-            (Work::Complement, Engine::Swift) => swift::complement(&inputs.bounded, &mut lent.output).is_ok(),
-            (Work::Statement, Engine::Proved) => pnet::statement(&inputs.input, &mut lent.output).is_ok(),
-            (Work::Statement, Engine::Swift) => !swift::replay(&inputs.input).is_empty(),
-        }
-    }
+/// A call, by each engine that has it.
+#[derive(Clone, Copy)]
+pub struct Work {
+    pub name: &'static str,
+    by: [Option<Once>; 3],
+}
+
+/// A call that the engine alone has.
+const fn own(name: &'static str, once: Once) -> Work {
+    Work { name, by: [Some(once), None, None] }
+}
+
+/// A call that `swift` has too.
+const fn beside(name: &'static str, once: Once, swift: Once) -> Work {
+    Work { name, by: [Some(once), None, Some(swift)] }
+}
+
+pub const READ: Work =
+    beside("read", |i, _| pnet::read_net(&i.net).is_ok(), |i, _| swift::read_net(&i.net).0.number == 0);
+
+pub const RUN: Work = Work {
+    name: "run",
+    by: [
+        Some(|i, l| pnet::run(&i.net, &i.movements, &mut l.marking).result.is_ok()),
+        Some(|i, l| twopass::run(&i.net, &i.movements, &mut l.marking).1.number == 0),
+        Some(|i, l| swift::run(&i.net, &i.movements, &mut l.marking).1.number == 0),
+    ],
+};
+
+pub const COMPLEMENT: Work = beside(
+    "complement",
+    |i, l| pnet::complement(&i.bounded, &mut l.output).is_ok(),
+    |i, l| swift::complement(&i.bounded, &mut l.output).is_ok(),
+);
+
+pub const STATEMENT: Work = beside(
+    "statement",
+    |i, l| pnet::statement(&i.input, &mut l.output).is_ok(),
+    |i, _| !swift::replay(&i.input).is_empty(),
+);
+
+/// The works that are measured at every size.
+pub const SIZED: [Work; 4] = [READ, RUN, COMPLEMENT, STATEMENT];
+
+/// The other calls, at full size; a call with a mode is given the last.
+pub const OTHERS: [Work; 10] = [
+    own("read_weights", |i, _| pnet::read_weights(&i.weights, i.pairs).is_ok()),
+    own("read_movements", |i, _| pnet::read_movements(&i.movements).is_ok()),
+    own("begin", |i, l| pnet::begin(&i.net, &mut l.marking).is_ok()),
+    own("test", |i, l| pnet::test(&i.net, &l.marking, Mode(i.last)).is_ok()),
+    own("fire", |i, l| pnet::fire(&i.net, &mut l.marking, Mode(i.last)).is_ok()),
+    own("certify", |i, _| pnet::certify(&i.net, &i.movements, &i.claim).is_ok()),
+    own("figure", |i, l| pnet::figure(&i.net, &i.weights, &l.marking).is_ok()),
+    own("change", |i, _| pnet::change(&i.net, &i.weights, Mode(i.last)).is_ok()),
+    own("is_dead", |i, _| pnet::is_dead(&i.net, Mode(i.last)) == Ok(false)),
+    own("first_dead", |i, _| pnet::first_dead(&i.net) == Ok(None)),
+];
+
+/// The work of this name.
+pub fn named(name: &str) -> Work {
+    SIZED.into_iter().chain(OTHERS).find(|work| work.name == name).expect("a known work")
 }
 
 fn lent(inputs: &Inputs) -> Lent {
@@ -66,25 +90,39 @@ fn lent(inputs: &Inputs) -> Lent {
 }
 
 /// The work so many times.
-pub fn repeat(work: Work, engine: Engine, inputs: &Inputs, times: usize) {
+pub fn repeat(work: Work, engine: &str, inputs: &Inputs, times: usize) {
     let mut lent = lent(inputs);
+    let by = ENGINES.iter().position(|known| *known == engine).expect("a known engine");
+    let once = work.by[by].expect("this engine does the work");
     for _ in 0..times {
         lent.marking.copy_from_slice(&inputs.marking);
-        assert!(work.once(engine, inputs, &mut lent), "{} is refused", work.name());
+        assert!(once(black_box(inputs), &mut lent), "{} is refused", work.name);
     }
 }
 
 /// The least time of each engine over many repetitions, in microseconds.
-pub fn least(work: Work, inputs: &Inputs) -> [f64; 2] {
-    let (mut least, mut lent) = ([f64::MAX; 2], lent(inputs));
-    for _ in 0..2_000 {
-        for (engine, least) in [Engine::Proved, Engine::Swift].into_iter().zip(&mut least) {
+pub fn least(work: Work, inputs: &Inputs) -> Figures {
+    let (mut least, mut lent) = (work.by.map(|once| once.map(|_| f64::MAX)), lent(inputs));
+    for _ in 0..1_000 {
+        for (once, least) in work.by.into_iter().zip(&mut least) {
+            let (Some(once), Some(least)) = (once, least) else { continue };
             lent.marking.copy_from_slice(&inputs.marking);
             let start = Instant::now();
-            let accepted = black_box(work.once(engine, inputs, &mut lent));
+            let accepted = black_box(once(black_box(inputs), &mut lent));
             *least = least.min(1e6 * start.elapsed().as_secs_f64());
-            assert!(accepted, "{} is refused", work.name());
+            assert!(accepted, "{} is refused", work.name);
         }
     }
     least
+}
+
+impl Work {
+    /// A figure of each engine that does the work.
+    pub fn each(self, figure: impl Fn(&str) -> f64) -> Figures {
+        let mut figures = [None; 3];
+        for ((into, engine), once) in figures.iter_mut().zip(ENGINES).zip(self.by) {
+            *into = once.map(|_| figure(engine));
+        }
+        figures
+    }
 }

@@ -8,7 +8,9 @@ use crate::sheet::{open, two};
 pub struct Layout<'a> {
     /// How many bytes the sheet takes, 4 + L.
     pub length: usize,
+    /// How many pairs the net has.
     pub pairs: usize,
+    /// How many modes it has.
     pub modes: usize,
     /// Colours of each place, 2 bytes each.
     pub colours: &'a [u8],
@@ -16,6 +18,7 @@ pub struct Layout<'a> {
     pub mode_counts: &'a [u8],
     /// K and the first marking of each pair.
     pub table: &'a [[u8; 8]],
+    /// Its arcs, 16 bytes each.
     pub arcs: &'a [[u8; 16]],
 }
 
@@ -100,12 +103,16 @@ fn table_holds(table: &[[u8; 8]]) -> bool {
 pub struct Arc {
     /// The mode times 65,536 plus the pair: "arcs rise strictly by mode, then pair".
     pub key: u32,
+    /// Pre.
     pub pre: u32,
+    /// Post.
     pub post: u32,
+    /// I, 4,294,967,295 where unbounded.
     pub inhibitor: u32,
 }
 
 impl Arc {
+    /// The arc whose bytes these are.
     #[inline(always)]
     pub fn of(bytes: &[u8; 16]) -> Arc {
         let all = u128::from_be_bytes(*bytes);
@@ -113,6 +120,7 @@ impl Arc {
         Arc { key, pre, post: (all >> 32) as u32, inhibitor: all as u32 }
     }
 
+    /// The mode.
     #[inline(always)]
     pub fn mode(self) -> usize {
         (self.key >> 16) as usize

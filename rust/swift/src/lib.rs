@@ -22,8 +22,16 @@ mod weights;
 #[path = "../../reference/tests/support/generator.rs"]
 mod generator;
 
-pub use answer::Answer;
+pub use answer::{Answer, LARGEST};
 pub use complement::complement;
 pub use layout::read_net;
 pub use replay::replay;
 pub use run::run;
+
+/// Sheets as they are read here, for a program that runs them by another method.
+pub mod sheets {
+    pub use crate::fault::of_movement as refused_movement;
+    pub use crate::kernel::capacities;
+    pub use crate::layout::{Arc, Layout};
+    pub use crate::run::arguments;
+}

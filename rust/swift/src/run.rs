@@ -31,10 +31,10 @@ pub fn run_from(layout: &Layout, list: &[[u8; 2]], marking: &mut [u32; 256]) -> 
 }
 
 /// A net and a list that were accepted.
-type Arguments<'a> = (Layout<'a>, &'a [[u8; 2]]);
+pub type Arguments<'a> = (Layout<'a>, &'a [[u8; 2]]);
 
 /// "Net, weights, movements, then the marking (17, then pair by pair 5 before 9)."
-fn arguments<'a>(net: &'a [u8], movements: &'a [u8], marking: &[u32]) -> Result<Arguments<'a>, Answer> {
+pub fn arguments<'a>(net: &'a [u8], movements: &'a [u8], marking: &[u32]) -> Result<Arguments<'a>, Answer> {
     let layout = whole_net(net)?;
     let list = whole_list(movements)?;
     if marking.len() != layout.pairs {

@@ -1,0 +1,97 @@
+//! A run by the engine's own method, as well as Rust can say it: a mode's arcs are decoded when the net is
+//! read, and each movement tests them all in one pass before a second pass writes their pairs, and no other.
+//! Nothing is half written, so nothing is ever taken back. The sheets are read by `swift`.
+
+use swift::sheets::{Arc, Layout, arguments, capacities, refused_movement};
+use swift::{Answer, LARGEST};
+
+/// What an arc asks of the count at its pair, and what it adds to it.
+#[derive(Clone, Copy)]
+struct Visit {
+    pre: u32,
+    /// Enabled below this count: one more than the least of K less Post, I and 1,000,000 less Post plus Pre;
+    /// 0 where Post is above K.
+    below: u32,
+    /// Post less Pre, without a wrap where the arc is enabled.
+    gain: u32,
+    pair: u8,
+}
+
+/// A net's arcs, mode by mode.
+struct Visits {
+    arcs: Vec<Visit>,
+    /// Where each mode's arcs begin and end.
+    spans: [(u16, u16); 256],
+}
+
+impl Visit {
+    #[inline(always)]
+    fn of(arc: Arc, capacities: &[u32; 256]) -> Visit {
+        let Arc { pre, post, inhibitor, .. } = arc;
+        let capacity = capacities[arc.pair()];
+        let room = if capacity == u32::MAX { u32::MAX } else { (capacity + 1).saturating_sub(post) };
+        let below = room.min(inhibitor.saturating_add(1)).min(LARGEST + pre + 1 - post);
+        Visit { pre, below, gain: post.wrapping_sub(pre), pair: arc.pair() as u8 }
+    }
+
+    #[inline(always)]
+    fn allows(&self, marking: &[u32; 256]) -> bool {
+        let count = marking[usize::from(self.pair)];
+        (self.pre <= count) & (count < self.below)
+    }
+}
+
+/// Arcs rise by mode, so that each mode's stand together.
+fn visits_of(layout: &Layout) -> Visits {
+    let capacities = capacities(layout);
+    let mut arcs = Vec::with_capacity(layout.arcs.len());
+    let mut spans = [(0, 0); 256];
+    for bytes in layout.arcs {
+        let arc = Arc::of(bytes);
+        let span = &mut spans[arc.mode() & 255];
+        if span.1 == 0 {
+            span.0 = arcs.len() as u16;
+        }
+        arcs.push(Visit::of(arc, &capacities));
+        span.1 = arcs.len() as u16;
+    }
+    Visits { arcs, spans }
+}
+
+/// Runs a list of movements from the counts found in the marking: how many were accepted, and the answer.
+pub fn run(net: &[u8], movements: &[u8], marking: &mut [u32]) -> (u64, Answer) {
+    let (layout, list) = match arguments(net, movements, marking) {
+        Ok(arguments) => arguments,
+        Err(answer) => return (0, answer),
+    };
+    let mut counts = [0; 256];
+    counts[..marking.len()].copy_from_slice(marking);
+    let accepted = run_list(&layout, list, &mut counts);
+    marking.copy_from_slice(&counts[..marking.len()]);
+    let answer = match list.get(accepted) {
+        Some(mode) => refused_movement(&layout, &counts, usize::from(u16::from_be_bytes(*mode))),
+        None => Answer::ACCEPTED,
+    };
+    (accepted as u64, answer)
+}
+
+/// Runs the list until a movement is refused: how many were accepted. The marking is what those gave.
+fn run_list(layout: &Layout, list: &[[u8; 2]], marking: &mut [u32; 256]) -> usize {
+    let Visits { arcs, spans } = visits_of(layout);
+    for (accepted, movement) in list.iter().enumerate() {
+        let mode = usize::from(u16::from_be_bytes(*movement));
+        if mode >= layout.modes {
+            return accepted;
+        }
+        let (from, to) = spans[mode & 255];
+        let own = &arcs[usize::from(from)..usize::from(to)];
+        if !own.iter().all(|arc| arc.allows(marking)) {
+            return accepted;
+        }
+        for arc in own {
+            let count = &mut marking[usize::from(arc.pair)];
+            *count = count.wrapping_add(arc.gain);
+        }
+    }
+    list.len()
+}
