@@ -3,7 +3,7 @@ import pathlib, sys
 
 here = pathlib.Path(__file__).parent
 sys.path.insert(0, str(here.parent.parent / "examples"))
-from sheets import UNBOUNDED, movements, net, weights
+from sheets import UNBOUNDED, encode_weights, movements, net, weights
 
 AWAY = (UNBOUNDED, 0)
 
@@ -35,7 +35,7 @@ case("over_limit", one_pair(UNBOUNDED, 999999, (0, 1, UNBOUNDED), [0, 0]), "star
 # a bad sheet of each thing; bytes after the third sheet; nothing
 case("bad_net", LANDING[:4] + b"\x02" + LANDING[5:] + WEIGHTS + FOUR, "bad 0 2 4\n")
 case("bad_weights", LANDING + weights([250, 0, 0]) + FOUR, "bad 1 17 5\n")
-case("weight_too_large", LANDING + weights([250, 1000001]) + FOUR, "bad 1 5 11\n")
+case("weight_too_large", LANDING + encode_weights([250, 1000001]) + FOUR, "bad 1 5 11\n")
 case("bad_movements", LANDING + WEIGHTS + b"\x00\x00\x00\x04\x01\x00\x00\x00", "bad 2 3 7\n")
 case("missing_movements", LANDING + WEIGHTS, "bad 2 1 0\n")
 case("bytes_after", LANDING + WEIGHTS + FOUR + b"\x00", "bad 2 3 13\n")

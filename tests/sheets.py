@@ -1,0 +1,105 @@
+#!/usr/bin/env python3
+"""What examples/sheets.py says of each wrong input, word for word; and that each example's make.py writes the sheets that stand beside it."""
+import pathlib, subprocess, sys, tempfile
+
+sys.dont_write_bytecode = True
+top = pathlib.Path(__file__).resolve().parent.parent
+sys.path.insert(0, str(top / "examples"))
+from sheets import LIMIT, UNBOUNDED, Named, Wrong, movements, net, weights, write
+
+PLACES = Named(("store", ["pump", "drum"]), ("aboard", ["pump", "drum"]))
+MOVES = Named(("load", ["pump", "drum"]))
+PAIRS = [(UNBOUNDED, 2), (UNBOUNDED, 5), (3, 1), (4, 4)]
+ARCS = [(0, 0, 1, 0, UNBOUNDED), (0, 2, 0, 1, 2), (1, 1, 1, 0, UNBOUNDED), (1, 3, 0, 1, UNBOUNDED)]
+
+
+def with_pairs(at, numbers):
+    return lambda: net(PLACES, MOVES, PAIRS[:at] + [numbers] + PAIRS[at + 1 :], ARCS)
+
+
+def with_arc(*arc):
+    return lambda: net(PLACES, MOVES, PAIRS, [*ARCS, arc])
+
+
+def plain(colours=(2, 2), modes=(2,), pairs=PAIRS, arcs=ARCS):
+    return lambda: net(list(colours), list(modes), pairs, arcs)
+
+
+# each wrong input, and what is said of it
+WRONG = {
+    "no place": (plain([], pairs=[]), "0 places: a net has 1 to 64"),
+    "65 places": (plain([1] * 65, pairs=[(1, 0)] * 65), "65 places: a net has 1 to 64"),
+    "65 transitions": (plain(modes=[1] * 65), "65 transitions: a net has 0 to 64"),
+    "a place without colours": (lambda: net(Named(("store", []), ("aboard", ["pump"])), [], [(1, 0)], []), "place 0 (store) has 0 colours: each has 1 to 64"),
+    "65 colours": (plain([2, 65]), "place 1 has 65 colours: each has 1 to 64"),
+    "65 modes of a transition": (plain(modes=[65]), "transition 0 has 65 modes: each has 1 to 64"),
+    "half a colour": (plain([2, 2.5]), "place 1: its count of colours is 2.5, which is no whole number"),
+    "257 pairs": (plain([64, 64, 64, 64, 1], pairs=[(1, 0)] * 257), "257 pairs in all: a net has at most 256"),
+    "257 modes": (plain(modes=[64, 64, 64, 64, 1]), "257 modes in all: a net has at most 256"),
+    "one pair too few": (lambda: net(PLACES, MOVES, PAIRS[:3], ARCS), "3 capacities for 4 pairs: pair 3 (aboard, drum) has none"),
+    "one pair too few, no names": (plain(pairs=PAIRS[:3]), "3 capacities for 4 pairs: pair 3 (place 1, colour 1) has none"),
+    "two pairs too many": (lambda: net(PLACES, MOVES, PAIRS + PAIRS[:2], ARCS), "6 capacities for 4 pairs: 2 too many"),
+    "K alone": (with_pairs(2, (3,)), "pair 2 (aboard, pump): (3,) stands where (K, first marking) is due"),
+    "a number for a pair": (with_pairs(2, 3), "pair 2 (aboard, pump): 3 stands where (K, first marking) is due"),
+    "K too large": (with_pairs(2, (LIMIT + 1, 0)), "pair 2 (aboard, pump): K is 1000001: it must be 0 to 1000000 or UNBOUNDED"),
+    "K below zero": (with_pairs(2, (-1, 0)), "pair 2 (aboard, pump): K is -1: it must be 0 to 1000000 or UNBOUNDED"),
+    "first marking unbounded": (with_pairs(0, (UNBOUNDED, UNBOUNDED)), "pair 0 (store, pump): the first marking is 4294967295: it must be 0 to 1000000"),
+    "first marking above K": (with_pairs(3, (4, 5)), "pair 3 (aboard, drum): the first marking, 5, is above K, 4"),
+    "first marking in words": (with_pairs(3, (4, "3")), "pair 3 (aboard, drum): the first marking is '3', which is no whole number"),
+    "2,049 arcs": (plain([64] * 4, [64] * 4, [(1, 0)] * 256, [(0, 0, 1, 0, 0)] * 2049), "2049 arcs: a net has at most 2048"),
+    "an arc of four numbers": (with_arc(0, 3, 1, 0), "arc 4 as given: (0, 3, 1, 0) stands where (mode, pair, Pre, Post, I) is due"),
+    "an arc's mode": (with_arc(2, 0, 1, 0, 0), "arc 4 as given: mode 2 is not there, 0 to 1 are"),
+    "an arc where there is no mode": (plain(modes=[]), "arc 0 as given: mode 0 is not there, none is"),
+    "an arc's pair": (with_arc(0, 4, 1, 0, 0), "arc 4 as given: pair 4 is not there, 0 to 3 are"),
+    "an arc's pair below zero": (with_arc(0, -1, 1, 0, 0), "arc 4 as given: pair -1 is not there, 0 to 3 are"),
+    "two arcs at one pair": (with_arc(1, 3, 1, 0, 0), "mode 1 (load, drum) at pair 3 (aboard, drum): two arcs, where one is allowed"),
+    "Pre too large": (with_arc(0, 3, LIMIT + 1, 0, 0), "mode 0 (load, pump) at pair 3 (aboard, drum): Pre is 1000001: it must be 0 to 1000000"),
+    "Post unbounded": (with_arc(0, 3, 0, UNBOUNDED, 0), "mode 0 (load, pump) at pair 3 (aboard, drum): Post is 4294967295: it must be 0 to 1000000"),
+    "I too large": (with_arc(0, 3, 0, 0, LIMIT + 1), "mode 0 (load, pump) at pair 3 (aboard, drum): I is 1000001: it must be 0 to 1000000 or UNBOUNDED"),
+    "a blank arc": (
+        with_arc(0, 3, 0, 0, UNBOUNDED),
+        "mode 0 (load, pump) at pair 3 (aboard, drum): Pre and Post are 0 and I is UNBOUNDED: the arc is blank, leave it out",
+    ),
+    "one weight too few": (lambda: weights([0, 0, 9], PLACES), "3 weights for 4 pairs: pair 3 (aboard, drum) has none"),
+    "one weight too many": (lambda: weights([0] * 5, PLACES), "5 weights for 4 pairs: 1 too many"),
+    "a weight too large": (lambda: weights([0, 0, 0, LIMIT + 1], PLACES), "pair 3 (aboard, drum): the weight is 1000001: it must be -1000000 to 1000000"),
+    "a weight too small": (lambda: weights([-LIMIT - 1]), "pair 0: the weight is -1000001: it must be -1000000 to 1000000"),
+    "half a kilogram": (lambda: weights([0, 0.5], [2]), "pair 1 (place 0, colour 1): the weight is 0.5, which is no whole number"),
+    "8,193 movements": (lambda: movements([0] * 8193, MOVES), "8193 movements: a list has at most 8192"),
+    "a movement's mode": (lambda: movements([0, 1, 2], MOVES), "movement 3: mode 2 is not there, 0 to 1 are"),
+    "a movement that no sheet can hold": (lambda: movements([65536]), "movement 1: mode 65536 is not there, 0 to 65535 are"),
+    "a name twice": (lambda: Named(("aboard", ["pump"]), ("aboard", ["pump"])), "aboard, pump: this name is given twice"),
+    "a name that is not there": (lambda: PLACES["aboard", "pig"], "aboard, pig: there is no such name"),
+}
+
+faults = []
+for name, (make, words) in WRONG.items():
+    try:
+        make()
+        faults.append(f"{name}: accepted, and not: {words}")
+    except Wrong as wrong:
+        if str(wrong) != words:
+            faults.append(f"{name}: {wrong}\n    and not: {words}")
+
+# what is right is made, with names or without, whatever the order of its arcs; at the limits too
+three = net(PLACES, MOVES, PAIRS, ARCS), weights([0, 0, 1200, -850], PLACES), movements([0, 1], MOVES)
+if plain(arcs=ARCS[::-1])() != three[0]:
+    faults.append("names or the order of arcs change the sheet")
+movements([0] * 8192, MOVES), weights([LIMIT, -LIMIT])
+largest = net([4] * 64, [4] * 64, [(LIMIT, LIMIT)] * 256, [(at // 8, at % 8, LIMIT, LIMIT, LIMIT) for at in range(2048)])
+if len(largest) != 35083:
+    faults.append(f"the largest net sheet has {len(largest)} bytes")
+
+with tempfile.TemporaryDirectory() as scratch:
+    write(scratch + "/new/folder", *three)
+    for example in ("document", "refit"):
+        folder = pathlib.Path(scratch) / example
+        subprocess.run([sys.executable, "-B", top / "examples" / example / "make.py", folder], check=True)
+        for name in ("net.sheet", "weights.sheet", "movements.sheet"):
+            if (folder / name).read_bytes() != (top / "examples" / example / name).read_bytes():
+                faults.append(f"examples/{example}/make.py does not write examples/{example}/{name}")
+
+for fault in faults:
+    print(fault, file=sys.stderr)
+print(f"sheets: {len(WRONG)} wrong inputs, {len(faults)} faults")
+sys.exit(1 if faults else 0)
