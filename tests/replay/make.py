@@ -1,4 +1,4 @@
-"""Writes NAME.in, an input of `replay`, and NAME.out, what document 01 says it prints: literals and formulas, worked out apart from the engine."""
+"""Writes NAME.in, an input of `replay`, and NAME.out, what docs/RULES.md says it prints: literals and formulas, worked out apart from the engine."""
 import pathlib, sys
 
 here = pathlib.Path(__file__).parent
@@ -21,7 +21,7 @@ def one_pair(capacity, first, arc, list_of_modes, weight=10):
 LANDING = net([1, 1], [1], [(5, 3), AWAY], [(0, 0, 1, 0, 4), (0, 1, 0, 1, UNBOUNDED)])
 WEIGHTS = weights([250, 0])
 FOUR = movements([0, 0, 0, 0])
-# document 01's own example
+# the small net of docs/RULES.md
 case("document", LANDING + WEIGHTS + FOUR, "start 750\n1 0 0 500\n2 0 0 250\n3 0 0 0\nrefused 4 0 11 0\nend 3 0\n")
 
 # a refusal by each of 6 and 11 to 14

@@ -1,4 +1,4 @@
-//! A net and its complement: what document 01 says of the two, for any list of movements.
+//! A net and its complement: what docs/RULES.md says of the two, for any list of movements.
 
 use reference::build::{OPEN, PlainNet, movements};
 

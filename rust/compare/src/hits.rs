@@ -59,7 +59,7 @@ const ELSEWHERE: &[Told] = &[(18, 3)];
 const NO_ROOM: &[Told] = &[(10, 0)];
 const COMPLEMENT: &[Told] = &[(15, 0), (16, 0), (10, 0)];
 
-/// Every refusal that document 01 lets a call give.
+/// Every refusal that docs/RULES.md lets a call give.
 fn refusals(call: Call) -> Vec<Told> {
     match call {
         ReadNet | FirstDead => NET.to_vec(),

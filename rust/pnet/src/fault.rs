@@ -1,6 +1,6 @@
-//! The refusals of document 01's table, by name.
+//! The refusals of docs/RULES.md, by name.
 
-/// What is wrong: the rows of document 01's table "Refusal numbers".
+/// What is wrong, and what to do about it: docs/RULES.md, "Refusals".
 #[derive(Clone, Copy, Debug, PartialEq, Eq, PartialOrd, Ord, Hash)]
 #[repr(u8)]
 pub enum Fault {
@@ -65,7 +65,7 @@ impl Fault {
         Fault::EndsElsewhere,
     ];
 
-    /// Document 01's number.
+    /// The number of docs/RULES.md.
     pub fn number(self) -> u8 {
         self as u8
     }

@@ -1,12 +1,12 @@
 //! The calls of a P-net engine (Billington, TR 222) whose every function is proved to do what the published definition says.
 //!
 //! Nets, weights and movements are lent as the bytes of their sheets, a marking as a slice of counts, one for each pair.
-//! Every call answers for any bytes and any counts: what it gives, or the first [`Refusal`] in the order of document 01.
+//! Every call answers for any bytes and any counts: what it gives, or the first [`Refusal`] in the order of docs/RULES.md.
 //! A refused call writes nothing; a run that stops leaves the marking that its accepted movements gave.
 //!
 //! # Example
 //!
-//! Document 01's own: aboard (one colour, K 5, first 3) and ashore (unbounded, first 0), and one mode that lands an item.
+//! The small net of docs/RULES.md: aboard (one colour, K 5, first 3) and ashore (unbounded, first 0), and one mode that lands an item.
 //!
 //! ```
 //! use pnet::{Fault, Mode, Pair};

@@ -3,7 +3,7 @@
 use pnet::*;
 use reference::build::{OPEN, PlainNet, arc, movements, sheet, weights};
 
-/// Document 01's own example, with other arcs and pairs.
+/// The small net of docs/RULES.md, with other arcs and pairs.
 fn net(pairs: &[(u32, u32)], arcs: &[reference::build::PlainArc]) -> Vec<u8> {
     PlainNet::plain(1, pairs, arcs).sheet()
 }

@@ -1,4 +1,4 @@
-//! "The complemented net": source document 000, figure 6.4, by the lines of document 01.
+//! The complement: source document 000, figure 6.4, by the lines of docs/RULES.md.
 
 use crate::answer::{Answer, Refusal, Thing};
 use crate::arc::{Arc, Flow};

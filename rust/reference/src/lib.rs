@@ -1,7 +1,7 @@
-//! A plain reading of document 01: reading a finite P-net, testing and firing one mode, running a
+//! A plain reading of docs/RULES.md: reading a finite P-net, testing and firing one mode, running a
 //! list of movements, checking a certificate, complementing, the figure, locally dead modes, `replay`.
 //!
-//! Each call takes sheets as bytes and gives document 01's answer, value and lent slices exactly.
+//! Each call takes sheets as bytes and gives the answer, value and lent slices of docs/RULES.md exactly.
 
 mod answer;
 mod arc;

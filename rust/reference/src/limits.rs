@@ -1,4 +1,4 @@
-//! The limits that document 01 sets under "Sheets" and "`replay`".
+//! The limits of docs/RULES.md, "Sheets" and "`replay`".
 
 /// "Numbers in net sheets and markings are 0..1,000,000."
 pub const LARGEST: u32 = 1_000_000;

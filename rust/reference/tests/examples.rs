@@ -1,4 +1,4 @@
-//! Document 01's own examples.
+//! The examples of docs/RULES.md.
 
 mod support;
 

@@ -1,4 +1,4 @@
-//! The inputs of tests/replay and what document 01 says they print.
+//! The inputs of tests/replay and what docs/RULES.md says they print.
 
 use std::{fs, path::Path};
 

@@ -1,4 +1,4 @@
-//! The first fault of a refused sheet or movement, by document 01's orders.
+//! The first fault of a refused sheet or movement, in the order of docs/RULES.md.
 
 use std::convert::Infallible;
 

@@ -4,7 +4,7 @@ use crate::answer::{Answer, LARGEST, NET};
 use crate::fault;
 use crate::sheet::{open, two};
 
-/// The parts of a net sheet that document 01 accepts.
+/// The parts of an accepted net sheet.
 pub struct Layout<'a> {
     /// How many bytes the sheet takes, 4 + L.
     pub length: usize,

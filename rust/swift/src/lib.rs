@@ -1,4 +1,4 @@
-//! Document 01's reading, running, complementing and `replay`, written for speed: a net is decoded
+//! The reading, running, complementing and `replay` of docs/RULES.md, written for speed: a net is decoded
 //! once into flat arrays, and the loops allocate nothing.
 //!
 //! A sheet is tested as a whole for yes or no; only a refused one is read again to name its fault.

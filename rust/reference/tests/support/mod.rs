@@ -1,4 +1,4 @@
-//! What the tests share: the example of document 01 and short ways to name an answer.
+//! What the tests share: the small net of docs/RULES.md and short ways to name an answer.
 #![allow(dead_code)]
 
 use reference::Answer;
@@ -6,7 +6,7 @@ use reference::build::{OPEN, PlainNet, arc, movements, weights};
 
 pub const ACCEPTED: Answer = Answer::ACCEPTED;
 
-/// The things of document 01.
+/// The things of docs/RULES.md.
 pub const NET: u8 = 0;
 pub const WEIGHTS: u8 = 1;
 pub const MOVEMENTS: u8 = 2;
