@@ -144,7 +144,7 @@ def net(colours, modes, pairs, arcs):
     for number, numbers in enumerate(pairs):
         _check_pair(all_pairs.name(number), numbers)
     _check_arcs(all_pairs, all_modes, arcs)
-    return encode_net(all_pairs.counts, all_modes.counts, pairs, sorted(arcs))
+    return encode_net(all_pairs.counts, all_modes.counts, pairs, arcs)
 
 
 def weights(kilograms, colours=None):
@@ -172,12 +172,12 @@ def sheet(fields):
 
 
 def encode_net(colours, modes, pairs, arcs):
-    """The bytes alone, with nothing checked: for tests of what the engine refuses."""
+    """The bytes alone, arcs in their order, with nothing checked: for tests of what the engine refuses."""
     fields = struct.pack(">HH", len(colours), len(modes))
     fields += b"".join(struct.pack(">H", count) for count in colours + modes)
     fields += b"".join(struct.pack(">II", *pair) for pair in pairs)
     fields += struct.pack(">H", len(arcs))
-    return sheet(fields + b"".join(struct.pack(">HHIII", *arc) for arc in arcs))
+    return sheet(fields + b"".join(struct.pack(">HHIII", *arc) for arc in sorted(arcs)))
 
 
 def encode_weights(kilograms):

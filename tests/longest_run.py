@@ -1,5 +1,5 @@
 #!/usr/bin/env python3
-"""What crates/longest_run prints, worked out from the net's description by the rule of docs/RULES.md, apart from the engine.
+"""What crates/longest_run prints, worked out from the net's description by document 01's rule, apart from the engine.
 
 Compares itself with crates/longest_run/stdout: exits 1, and prints what should stand there, if it differs."""
 import pathlib

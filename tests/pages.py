@@ -5,7 +5,8 @@ On README.md and docs/RULES.md, from the top of the page down:
 1. a block ```LANGUAGE FILE is written to FILE, which stands in target/ and is named in the line before the block;
 2. a block ```sh is run in bash from the top of the repository, but for the line `.ci/run`; where the next block is ```text, it is what is printed;
 3. the blocks ```bytes, an offset, bytes and a meaning to a line, are the sheets of examples/document, and what `replay` prints of them is the page's.
-No line of a page is longer than 800 characters.
+docs/RULES.md has a row and advice for every refusal number of model/specs/Refusals.antt, and a row for every call of include/pnet.h. No line of a page
+is longer than 800 characters.
 What the gate has proved before this runs is not proved again: `rt staticlib` does nothing where its archive is newer than crates/.
 """
 import os, pathlib, re, shutil, subprocess, sys, tempfile
@@ -94,6 +95,19 @@ def check_bytes(page):
             faults.append(f"{page}: the bytes are not those of examples/document/{name}.sheet")
 
 
+def check_complete(page):
+    text = (top / page).read_text()
+    numbers = set(map(int, re.findall(r"= says (\d+) ", (top / "crates/model/specs/Refusals.antt").read_text())))
+    rows = set(map(int, re.findall(r"^\| (\d+) \| .* \| .* \| .* \|$", text.split("## Refusals")[1].split("### What to do")[0], re.M)))
+    advice = set(map(int, re.findall(r"^- \*\*(\d+), ", text, re.M)))
+    if rows - {0} != numbers or advice != numbers:
+        faults.append(f"{page}: numbers {sorted(numbers)}, rows {sorted(rows)}, advice {sorted(advice)}")
+    calls = text.split("### Calls")[1].split("\n## ")[0]
+    for call in sorted(set(re.findall(r"\bpnet_(?!abi)(\w+)\(", (top / "include/pnet.h").read_text()))):
+        if not re.search(rf"^\|.*`{call}`.*\|.*\|.*\|$", calls, re.M):
+            faults.append(f"{page}: no row for the call {call}")
+
+
 def check_lines():
     for page in [top / "README.md", *sorted((top / "docs").rglob("*.md"))]:
         for number, line in enumerate(page.read_text().splitlines(), 1):
@@ -103,6 +117,7 @@ def check_lines():
 
 check_lines()
 check_bytes("docs/RULES.md")
+check_complete("docs/RULES.md")
 with tempfile.TemporaryDirectory() as folder:
     environment = proved_once(folder)
     for page in ("README.md", "docs/RULES.md"):

@@ -4,7 +4,7 @@
 import pathlib, sys
 
 sys.path.insert(0, str(pathlib.Path(__file__).parent.parent.parent / "examples"))
-from sheets import UNBOUNDED, encode_net, movements
+from sheets import UNBOUNDED, encode_net as net, movements
 
 ANY = UNBOUNDED
 
@@ -27,7 +27,7 @@ def show(name, comment, parts):
 
 
 def constant(name, comment, colours, modes, pairs, arcs):
-    show(name, comment, fields(encode_net(colours, modes, pairs, sorted(arcs)), len(colours), len(modes), len(pairs)))
+    show(name, comment, fields(net(colours, modes, pairs, arcs), len(colours), len(modes), len(pairs)))
 
 
 def worked(name, figures, first, arcs, first_complement, arcs_complement):

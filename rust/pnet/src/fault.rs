@@ -1,6 +1,6 @@
-//! The refusals of docs/RULES.md, by name.
+//! The refusals of document 01's table, by name.
 
-/// What is wrong, and what to do about it: docs/RULES.md, "Refusals".
+/// What is wrong: the rows of document 01's table "Refusal numbers".
 #[derive(Clone, Copy, Debug, PartialEq, Eq, PartialOrd, Ord, Hash)]
 #[repr(u8)]
 pub enum Fault {
@@ -65,7 +65,7 @@ impl Fault {
         Fault::EndsElsewhere,
     ];
 
-    /// The number of docs/RULES.md.
+    /// Document 01's number.
     pub fn number(self) -> u8 {
         self as u8
     }

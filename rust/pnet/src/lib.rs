@@ -1,7 +1,7 @@
 //! The calls of a P-net engine (Billington, TR 222) whose every function is proved to do what the published definition says.
 //!
 //! Nets, weights and movements are lent as the bytes of their sheets, a marking as a slice of counts, one for each pair.
-//! Every call answers for any bytes and any counts: what it gives, or the first [`Refusal`] in the order of docs/RULES.md.
+//! Every call answers for any bytes and any counts: what it gives, or the first [`Refusal`] in the order of document 01.
 //! A refused call writes nothing; a run that stops leaves the marking that its accepted movements gave.
 //!
 //! # Example

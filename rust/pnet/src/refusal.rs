@@ -23,7 +23,7 @@ impl Refusal {
         self.fault
     }
 
-    /// The number, 1 to 18 (docs/RULES.md, "Refusals").
+    /// Document 01's number, 1 to 18.
     pub fn number(&self) -> u8 {
         self.fault.number()
     }
@@ -33,7 +33,7 @@ impl Refusal {
         self.thing
     }
 
-    /// The position: a pair's number, the offset of a byte in its sheet, or 0.
+    /// Document 01's position: a pair's number, the offset of a byte in its sheet, or 0.
     pub fn position(&self) -> u64 {
         self.position
     }
