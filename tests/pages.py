@@ -5,7 +5,7 @@ On README.md and docs/RULES.md, from the top of the page down:
 1. a block ```LANGUAGE FILE is written to FILE, which stands in target/ and is named in the line before the block;
 2. a block ```sh is run in bash from the top of the repository, but for the line `.ci/run`; where the next block is ```text, it is what is printed;
 3. the blocks ```bytes, an offset, bytes and a meaning to a line, are the sheets of examples/document, and what `replay` prints of them is the page's.
-docs/RULES.md has a row and advice for every refusal number of model/specs/Refusals.antt, and a row for every call of include/pnet.h. No line of a page
+Every link between pages leads somewhere. docs/RULES.md has a row and advice for every refusal number of model/specs/Refusals.antt, and a row for every call of include/pnet.h. No line of a page
 is longer than 800 characters.
 What the gate has proved before this runs is not proved again: `rt staticlib` does nothing where its archive is newer than crates/.
 """
@@ -44,7 +44,7 @@ def proved_once(folder):
 
 def run(commands):
     kept = "".join(line for line in commands.splitlines(True) if line.split("#")[0].strip() != ".ci/run")
-    ran = subprocess.run(["bash", "-eu", "-c", kept], cwd=top, env=environment, capture_output=True, text=True)
+    ran = subprocess.run(["bash", "-eu", "-c", kept], cwd=top, env=environment, stdin=subprocess.DEVNULL, capture_output=True, text=True)
     counts["blocks"] += 1
     return ran.returncode, ran.stdout, ran.stderr
 
@@ -108,6 +108,20 @@ def check_complete(page):
             faults.append(f"{page}: no row for the call {call}")
 
 
+def headings(page):
+    """The headings of a page as links name them."""
+    for heading in re.findall(r"^#+ (.*)$", page.read_text(), re.M):
+        yield re.sub(r"[^\w -]", "", heading.lower()).replace(" ", "-")
+
+
+def check_links(page):
+    for link in re.findall(r"\]\(([^)]+)\)", (top / page).read_text()):
+        path, _, heading = link.partition("#")
+        target = (top / page).parent / path if path else top / page
+        if not target.is_file() or heading and heading not in headings(target):
+            faults.append(f"{page}: {link} leads nowhere")
+
+
 def check_lines():
     for page in [top / "README.md", *sorted((top / "docs").rglob("*.md"))]:
         for number, line in enumerate(page.read_text().splitlines(), 1):
@@ -121,6 +135,7 @@ check_complete("docs/RULES.md")
 with tempfile.TemporaryDirectory() as folder:
     environment = proved_once(folder)
     for page in ("README.md", "docs/RULES.md"):
+        check_links(page)
         check_commands(page)
 for fault in faults:
     print(fault, file=sys.stderr)

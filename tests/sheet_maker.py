@@ -101,5 +101,5 @@ with tempfile.TemporaryDirectory() as scratch:
 
 for fault in faults:
     print(fault, file=sys.stderr)
-print(f"sheets: {len(WRONG)} wrong inputs, {len(faults)} faults")
+print(f"sheet maker: {len(WRONG)} wrong inputs, {len(faults)} faults")
 sys.exit(1 if faults else 0)
