@@ -1,11 +1,12 @@
 #!/usr/bin/env python3
-"""What examples/sheets.py says of each wrong input, word for word; and that each example's make.py writes the sheets that stand beside it."""
-import pathlib, subprocess, sys, tempfile
+"""What examples/sheets.py says of each wrong input, word for word; that it refuses what `replay` refuses, on random nets and weights, and nothing
+else; and that each example's make.py writes the sheets that stand beside it."""
+import pathlib, random, subprocess, sys, tempfile
 
 sys.dont_write_bytecode = True
 top = pathlib.Path(__file__).resolve().parent.parent
 sys.path.insert(0, str(top / "examples"))
-from sheets import LIMIT, UNBOUNDED, Named, Wrong, movements, net, weights, write
+from sheets import LIMIT, UNBOUNDED, Named, Wrong, encode_net, encode_weights, movements, net, weights, write
 
 PLACES = Named(("store", ["pump", "drum"]), ("aboard", ["pump", "drum"]))
 MOVES = Named(("load", ["pump", "drum"]))
@@ -90,6 +91,50 @@ largest = net([4] * 64, [4] * 64, [(LIMIT, LIMIT)] * 256, [(at // 8, at % 8, LIM
 if len(largest) != 35083:
     faults.append(f"the largest net sheet has {len(largest)} bytes")
 
+
+
+def accepts(make, *given):
+    try:
+        make(*given)
+        return True
+    except Wrong:
+        return False
+
+
+def random_net(pick):
+    """A small net with each number at a limit or beside it; most have a fault or two, or none."""
+    number = lambda: pick.choice([0] * 4 + [1] * 8 + [5, LIMIT] + [LIMIT + 1] * pick.randrange(2))
+    bound = lambda: pick.choice([number(), UNBOUNDED, UNBOUNDED])
+    colours = [pick.choice([1, 1, 2, 2, 64, 0, 65] if pick.random() < 0.05 else [1, 2, 3]) for _ in range(pick.choice([1, 2, 3]))]
+    modes = [pick.choice([1, 2, 3]) for _ in range(pick.choice([0, 1, 2]))]
+    pairs = [(UNBOUNDED, pick.choice([0, 1])) if pick.random() < 0.8 else (bound(), number()) for _ in range(sum(colours))]
+    places = [(mode, pair) for mode in range(sum(modes) + (pick.random() < 0.1)) for pair in range(sum(colours) + (pick.random() < 0.1))]
+    chosen = pick.choices(places, k=2) if places and pick.random() < 0.2 else pick.sample(places, min(3, len(places)))
+    return colours, modes, pairs, [(mode, pair, number(), number(), bound()) for mode, pair in chosen]
+
+
+def compare_with_replay(rounds):
+    """The maker's yes or no beside the engine's: a sheet that it refuses is `bad`."""
+    pick = random.Random(1)
+    counts = {(fine, good): 0 for fine in (True, False) for good in (True, False)}
+    for _ in range(rounds):
+        parts = random_net(pick)
+        pairs = sum(parts[0]) + pick.choice([0] * 8 + [1])
+        kilograms = [pick.choice([0, 250, -LIMIT, LIMIT] + [LIMIT + 1, -LIMIT - 1] * (pick.random() < 0.05)) for _ in range(pairs)]
+        fine = accepts(net, *parts), accepts(weights, kilograms, parts[0])
+        ran = subprocess.run([top / "target/bin/replay"], input=encode_net(*parts) + encode_weights(kilograms) + movements([]), stdout=subprocess.PIPE)
+        text = ran.stdout.decode()
+        good = not text.startswith("bad 0"), not text.startswith("bad")
+        counts[fine] += 1
+        if fine[0] != good[0] or all(fine) != good[1]:
+            faults.append(f"replay prints {text!r}, and the sheet maker has {fine} of {parts}, {kilograms}")
+    return counts
+
+
+compared = compare_with_replay(500)
+if min(compared.values()) < 10:
+    faults.append(f"too few of a kind: {compared}")
+
 with tempfile.TemporaryDirectory() as scratch:
     write(scratch + "/new/folder", *three)
     for example in ("document", "refit"):
@@ -101,5 +146,5 @@ with tempfile.TemporaryDirectory() as scratch:
 
 for fault in faults:
     print(fault, file=sys.stderr)
-print(f"sheet maker: {len(WRONG)} wrong inputs, {len(faults)} faults")
+print(f"sheet maker: {len(WRONG)} wrong inputs, {sum(compared.values())} compared with replay, {len(faults)} faults")
 sys.exit(1 if faults else 0)
