@@ -9,12 +9,13 @@ use crate::inputs::Inputs;
 #[derive(Clone, Copy, PartialEq, Eq)]
 pub enum Work {
     Read,
+    Size,
     Run,
     Complement,
     Statement,
 }
 
-pub const WORKS: [Work; 4] = [Work::Read, Work::Run, Work::Complement, Work::Statement];
+pub const WORKS: [Work; 5] = [Work::Read, Work::Size, Work::Run, Work::Complement, Work::Statement];
 
 /// The sizes: full, a quarter, a sixteenth.
 pub const PARTS: [usize; 3] = [1, 4, 16];
@@ -35,6 +36,7 @@ impl Work {
     pub fn name(self) -> &'static str {
         match self {
             Work::Read => "read",
+            Work::Size => "size",
             Work::Run => "run",
             Work::Complement => "complement",
             Work::Statement => "statement",
@@ -47,6 +49,8 @@ impl Work {
         match (self, engine) {
             (Work::Read, Engine::Proved) => pnet::read_net(&inputs.net).is_ok(),
             (Work::Read, Engine::Swift) => swift::read_net(&inputs.net).0.number == 0,
+            (Work::Size, Engine::Proved) => pnet::size(&inputs.net).is_ok(),
+            (Work::Size, Engine::Swift) => swift::size(&inputs.net).is_ok(),
             (Work::Run, Engine::Proved) => {
                 pnet::run(&inputs.net, &inputs.movements, &mut lent.marking).result.is_ok()
             }

@@ -24,6 +24,6 @@ mod generator;
 
 pub use answer::Answer;
 pub use complement::complement;
-pub use layout::read_net;
+pub use layout::{read_net, size};
 pub use replay::replay;
 pub use run::run;
