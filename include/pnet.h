@@ -3,10 +3,11 @@
  * Each call answers for any bytes, counts and numbers, and always returns. The engine holds nothing between calls, and
  * allocates nothing. docs/RULES.md says what a net, a sheet and a movement are, field by field and rule by rule.
  *
- * Words. A pair is a place with one of its colours, a mode a transition with one of its colours: what a marking counts, and what moves. K is a
- * pair's capacity. At a mode and a pair stand Pre, what the mode takes, Post, what it gives, and the inhibitor I. A mode is enabled where, at
- * every pair, Pre is at most the count, the count and Post together are at most K, and the count is at most I; firing it takes Pre and gives Post.
- * K and I may be unbounded. L is the number in a sheet's first 4 bytes, how many follow them.
+ * Words. A pair is a place with one of its colours: a marking has a count for each. A mode is a transition with one of its colours:
+ * it is what moves. K is a pair's capacity. At a mode and a pair stand Pre, what the mode takes, Post, what it gives, and the
+ * inhibitor I. A mode is enabled where, at every pair, Pre is at most the count, the count and Post together are at most K, and the
+ * count is at most I; firing it takes Pre and gives Post. K and I may be unbounded. L, the number in the first 4 bytes of a sheet, is
+ * how many bytes follow them.
  *
  * Slices. A pointer is followed by its length in elements. Bytes and counts that are only read may overlap one another;
  * a slice that is written (no const) overlaps no other. Counts (uint32_t) are aligned. Where the length is 0, the pointer
@@ -26,8 +27,8 @@
 extern "C" {
 #endif
 
-/* The version of these structs and calls is a name: every object that includes this header refers to pnet_abi_1, which answers 1. One that was
- * compiled with another version's header does not link, and the linker names what it lacks. */
+/* The version of these structs and calls is a name: every object that includes this header refers to pnet_abi_1, which answers 1.
+ * One that was compiled with another version's header does not link, and the linker names what it lacks. */
 uint64_t pnet_abi_1(void);
 
 #if defined(__has_attribute)
@@ -41,8 +42,8 @@ uint64_t pnet_abi_1(void);
 PNET_KEPT static uint64_t (*const pnet_abi)(void) = pnet_abi_1;
 #undef PNET_KEPT
 
-/* Pairs and modes are both numbered from 0 across the whole net, place by place and transition by transition. The two are distinct types, so that
- * one is never handed over for the other. */
+/* Pairs and modes are both numbered from 0 across the whole net, place by place and transition by transition. The two are distinct
+ * types, so that one is never handed over for the other. */
 struct pnet_pair {
     uint16_t number;
 };
@@ -66,8 +67,8 @@ enum {
     PNET_TEXT_ROOM = 262144       /* bytes, for any text of replay */
 };
 
-/* An answer: its number, which thing was at fault, and where. The position of a byte, a field or an arc is the offset of its first byte, counted
- * from 0 at the first byte of its sheet; that of a pair is the pair's number.
+/* An answer: its number, which thing was at fault, and where. The position of a byte, a field or an arc is the offset of its first
+ * byte, counted from 0 at the first byte of its sheet; that of a pair is the pair's number.
  *
  *   No  Given exactly when                                                        Position
  *    0  accepted                                                                  0
@@ -146,7 +147,8 @@ struct pnet_counted pnet_read_net(const uint8_t *bytes, size_t length);
 struct pnet_counted pnet_read_weights(const uint8_t *bytes, size_t length, size_t pairs);
 struct pnet_counted pnet_read_movements(const uint8_t *bytes, size_t length);
 
-/* How large the net is: its markings have one count for each of its pairs, and its modes are those below `modes`. Writes nothing. Refuses: the net. */
+/* How large the net is: a marking has one count for each of its pairs, and its modes have the numbers below `modes`. Writes nothing.
+ * Refuses: the net. */
 struct pnet_sized pnet_size(const uint8_t *net, size_t net_length);
 
 /* Writes the net's first marking. Reads the net; of the marking only the length matters.

@@ -1,98 +1,134 @@
-//! The calls, with every slice that they are lent between pages that nothing may touch: a read or a write out of bounds ends the comparison.
+//! The calls, with every slice that they are lent between pages that nothing may touch: a read or a write out of bounds ends the comparison,
+//! and so does a write to a slice that is lent to be read.
 //!
 //! A slice is copied into a stretch of memory of its own, and what was lent to be written is copied back. It stands at the end of its
 //! stretch in one call and at the start in another, so that both of its ends come to stand at a guard, to the byte.
 #![allow(unsafe_code)]
 
 use std::cell::RefCell;
-use std::ffi::{c_int, c_void};
+use std::ffi::{c_char, c_int, c_uint, c_void};
 use std::{ptr, slice};
 
 use pnet::{Mode, Pair, Ran, Refusal, Size};
 
-/// The longest slice that is lent is `replay`'s text; whole pages.
+/// Whole pages; the longest slice that is lent is the room for `replay`'s text.
 const ROOM: usize = 1 << 19;
 
-/// Pages on both sides, so many that no offset in a slice leads past them.
+/// Whole pages on both sides, more than a number of 16 bits leads past.
 const GUARD: usize = 1 << 20;
 
 const NO_ACCESS: c_int = 0;
+const READ: c_int = 1;
 const READ_AND_WRITE: c_int = 3;
+const SHARED: c_int = 0x01;
 const PRIVATE_AND_ANONYMOUS: c_int = 0x22;
+const FIXED: c_int = 0x10;
 
 unsafe extern "C" {
-    fn mmap(
-        at: *mut c_void,
-        length: usize,
-        access: c_int,
-        kind: c_int,
-        file: c_int,
-        offset: i64,
-    ) -> *mut c_void;
-    fn mprotect(at: *mut c_void, length: usize, access: c_int) -> c_int;
+    fn memfd_create(name: *const c_char, flags: c_uint) -> c_int;
+    fn ftruncate(file: c_int, bytes: i64) -> c_int;
+    fn mmap(at: *mut c_void, bytes: usize, access: c_int, kind: c_int, file: c_int, from: i64) -> *mut u8;
 }
 
-/// So many bytes between two guards.
+/// So many bytes between two guards, as they are lent; and the same bytes where we write them, though those that are lent be only read.
 struct Stretch {
-    start: *mut u8,
+    lent: *mut u8,
+    ours: *mut u8,
+    /// Where the next slice stands: at the end, or at the start.
+    at_end: bool,
 }
 
 impl Stretch {
-    fn new() -> Stretch {
-        // SAFETY: a fresh mapping overlaps nothing, and only its middle is opened.
-        unsafe {
-            let all = mmap(ptr::null_mut(), GUARD + ROOM + GUARD, NO_ACCESS, PRIVATE_AND_ANONYMOUS, -1, 0);
-            assert!(all as isize != -1, "no memory for the slices that are lent");
-            let start = all.cast::<u8>().add(GUARD);
-            assert_eq!(
-                mprotect(start.cast(), ROOM, READ_AND_WRITE),
-                0,
-                "no memory for the slices that are lent"
-            );
-            Stretch { start }
-        }
+    fn new(access: c_int) -> Stretch {
+        // SAFETY: fresh mappings overlap nothing; the fixed one replaces the middle of one of them.
+        let (lent, ours) = unsafe {
+            let file = memfd_create(c"lent".as_ptr(), 0);
+            assert_eq!(ftruncate(file, ROOM as i64), 0, "no memory for the slices that are lent");
+            let guards = mmap(ptr::null_mut(), GUARD + ROOM + GUARD, NO_ACCESS, PRIVATE_AND_ANONYMOUS, -1, 0);
+            let lent = mmap(guards.wrapping_add(GUARD).cast(), ROOM, access, SHARED | FIXED, file, 0);
+            (lent, mmap(ptr::null_mut(), ROOM, READ_AND_WRITE, SHARED, file, 0))
+        };
+        assert!(
+            [lent, ours].iter().all(|at| at.addr() != usize::MAX),
+            "no memory for the slices that are lent"
+        );
+        Stretch { lent, ours, at_end: false }
     }
 
-    /// A copy at the end of the stretch, or at its start.
-    fn hold<T: Copy>(&mut self, content: &[T], at_end: bool) -> &mut [T] {
+    /// Where the bytes of a copy are lent.
+    fn put<T: Copy>(&mut self, content: &[T]) -> *mut T {
         let bytes = size_of_val(content);
         assert!(bytes <= ROOM, "a slice of {bytes} bytes");
-        // SAFETY: the bytes lie in the stretch, which is ours alone; both of its ends are aligned for a page, and so is T's slice.
-        unsafe {
-            let at = self.start.add(if at_end { ROOM - bytes } else { 0 }).cast::<T>();
-            ptr::copy_nonoverlapping(content.as_ptr(), at, content.len());
-            slice::from_raw_parts_mut(at, content.len())
-        }
+        let offset = if self.at_end { ROOM - bytes } else { 0 };
+        // SAFETY: the bytes lie in the stretch, and both of its ends are aligned for a page.
+        unsafe { ptr::copy_nonoverlapping(content.as_ptr().cast(), self.ours.add(offset), bytes) };
+        self.lent.wrapping_add(offset).cast()
+    }
+
+    /// A copy that is only read.
+    fn show<T: Copy>(&mut self, content: &[T]) -> &[T] {
+        // SAFETY: the bytes of the copy.
+        unsafe { slice::from_raw_parts(self.put(content), content.len()) }
+    }
+}
+
+/// The stretch of a slice that is lent to be written.
+struct Open(Stretch);
+
+impl Open {
+    /// A copy that may be written.
+    fn lend<T: Copy>(&mut self, content: &[T]) -> &mut [T] {
+        // SAFETY: the bytes of the copy, which are ours alone.
+        unsafe { slice::from_raw_parts_mut(self.0.put(content), content.len()) }
     }
 }
 
 /// A stretch for each slice that a call takes.
 struct Lent {
-    stretches: [Stretch; 3],
+    net: Stretch,
+    sheet: Stretch,
+    counts: Stretch,
+    written: Open,
     calls: u64,
 }
 
 thread_local! {
-    static LENT: RefCell<Lent> = RefCell::new(Lent { stretches: [(); 3].map(|()| Stretch::new()), calls: 0 });
+    static LENT: RefCell<Lent> = RefCell::new(Lent {
+        net: Stretch::new(READ),
+        sheet: Stretch::new(READ),
+        counts: Stretch::new(READ),
+        written: Open(Stretch::new(READ_AND_WRITE)),
+        calls: 0,
+    });
 }
 
-/// The stretches for one call, and the end at which each slice stands.
-fn lend<R>(call: impl FnOnce(&mut [Stretch; 3], bool) -> R) -> R {
+/// The stretches for one call.
+fn lend<R>(call: impl FnOnce(&mut Lent) -> R) -> R {
     LENT.with_borrow_mut(|lent| {
         lent.calls += 1;
-        // The highest bit of a multiple: in no step with the calls of a round.
-        let at_end = lent.calls.wrapping_mul(0x9E37_79B9_7F4A_7C15) >> 63 == 1;
-        call(&mut lent.stretches, at_end)
+        // The highest bits of a multiple: in no step with the calls of a round, nor with one another.
+        let ends = lent.calls.wrapping_mul(0x9E37_79B9_7F4A_7C15) >> 60;
+        let stretches = [&mut lent.net, &mut lent.sheet, &mut lent.counts, &mut lent.written.0];
+        for (k, stretch) in stretches.into_iter().enumerate() {
+            stretch.at_end = ends >> k & 1 == 1;
+        }
+        call(lent)
     })
 }
 
-/// Reads a byte just before or just after a slice that is lent, which ends the program.
-pub fn overrun(after: bool) -> u8 {
-    lend(|[bytes, ..], _| {
-        let held = bytes.hold(&[7u8; 16], after);
-        let at = if after { held.as_ptr().wrapping_add(16) } else { held.as_ptr().wrapping_sub(1) };
-        // SAFETY: none; the guard must stop it.
-        unsafe { ptr::read_volatile(at) }
+/// Reads a byte just before or just after a slice that is lent, or writes into one that is lent to be read: each ends the program.
+pub fn trespass(side: &str) {
+    lend(|lent| {
+        lent.net.at_end = side == "after";
+        let held = lent.net.show(&[7u8; 16]).as_ptr();
+        // SAFETY: none; the pages' access must stop it.
+        unsafe {
+            match side {
+                "before" => assert_ne!(ptr::read_volatile(held.wrapping_sub(1)), 7),
+                "after" => assert_ne!(ptr::read_volatile(held.wrapping_add(16)), 7),
+                _ => ptr::write_volatile(held.cast_mut(), 8),
+            }
+        }
     })
 }
 
@@ -101,8 +137,8 @@ fn reading<'a>(
     bytes: &'a [u8],
     read: impl FnOnce(&[u8]) -> Result<&[u8], Refusal>,
 ) -> Result<&'a [u8], Refusal> {
-    lend(|[sheet, ..], at_end| {
-        let held: &[u8] = sheet.hold(bytes, at_end);
+    lend(|lent| {
+        let held = lent.net.show(bytes);
         let rest = read(held)?;
         assert_eq!(
             rest.as_ptr_range().end,
@@ -126,7 +162,7 @@ pub fn read_movements(bytes: &[u8]) -> Result<&[u8], Refusal> {
 }
 
 pub fn size(net: &[u8]) -> Result<Size, Refusal> {
-    lend(|[sheet, ..], at_end| pnet::size(sheet.hold(net, at_end)))
+    lend(|lent| pnet::size(lent.net.show(net)))
 }
 
 pub fn first_marking(net: &[u8]) -> Result<Vec<u32>, Refusal> {
@@ -137,9 +173,9 @@ pub fn first_marking(net: &[u8]) -> Result<Vec<u32>, Refusal> {
 
 /// A call that writes a slice over a net.
 fn writing<T: Copy, R>(net: &[u8], written: &mut [T], call: impl FnOnce(&[u8], &mut [T]) -> R) -> R {
-    lend(|[sheet, slice, _], at_end| {
-        let held = slice.hold(written, at_end);
-        let answer = call(sheet.hold(net, at_end), held);
+    lend(|lent| {
+        let held = lent.written.lend(written);
+        let answer = call(lent.net.show(net), held);
         written.copy_from_slice(held);
         answer
     })
@@ -150,7 +186,7 @@ pub fn begin(net: &[u8], marking: &mut [u32]) -> Result<(), Refusal> {
 }
 
 pub fn test(net: &[u8], marking: &[u32], mode: Mode) -> Result<(), Refusal> {
-    lend(|[sheet, counts, _], at_end| pnet::test(sheet.hold(net, at_end), counts.hold(marking, at_end), mode))
+    lend(|lent| pnet::test(lent.net.show(net), lent.counts.show(marking), mode))
 }
 
 pub fn fire(net: &[u8], marking: &mut [u32], mode: Mode) -> Result<(), Refusal> {
@@ -158,38 +194,32 @@ pub fn fire(net: &[u8], marking: &mut [u32], mode: Mode) -> Result<(), Refusal> 
 }
 
 pub fn run(net: &[u8], movements: &[u8], marking: &mut [u32]) -> Ran {
-    lend(|[sheet, list, counts], at_end| {
-        let held = counts.hold(marking, at_end);
-        let ran = pnet::run(sheet.hold(net, at_end), list.hold(movements, at_end), held);
+    lend(|lent| {
+        let held = lent.written.lend(marking);
+        let ran = pnet::run(lent.net.show(net), lent.sheet.show(movements), held);
         marking.copy_from_slice(held);
         ran
     })
 }
 
 pub fn certify(net: &[u8], movements: &[u8], claim: &[u32]) -> Result<(), Refusal> {
-    lend(|[sheet, list, counts], at_end| {
-        pnet::certify(sheet.hold(net, at_end), list.hold(movements, at_end), counts.hold(claim, at_end))
-    })
+    lend(|lent| pnet::certify(lent.net.show(net), lent.sheet.show(movements), lent.counts.show(claim)))
 }
 
 pub fn figure(net: &[u8], weights: &[u8], marking: &[u32]) -> Result<i64, Refusal> {
-    lend(|[sheet, kilograms, counts], at_end| {
-        pnet::figure(sheet.hold(net, at_end), kilograms.hold(weights, at_end), counts.hold(marking, at_end))
-    })
+    lend(|lent| pnet::figure(lent.net.show(net), lent.sheet.show(weights), lent.counts.show(marking)))
 }
 
 pub fn change(net: &[u8], weights: &[u8], mode: Mode) -> Result<i64, Refusal> {
-    lend(|[sheet, kilograms, _], at_end| {
-        pnet::change(sheet.hold(net, at_end), kilograms.hold(weights, at_end), mode)
-    })
+    lend(|lent| pnet::change(lent.net.show(net), lent.sheet.show(weights), mode))
 }
 
 pub fn is_dead(net: &[u8], mode: Mode) -> Result<bool, Refusal> {
-    lend(|[sheet, ..], at_end| pnet::is_dead(sheet.hold(net, at_end), mode))
+    lend(|lent| pnet::is_dead(lent.net.show(net), mode))
 }
 
 pub fn first_dead(net: &[u8]) -> Result<Option<(Mode, Pair)>, Refusal> {
-    lend(|[sheet, ..], at_end| pnet::first_dead(sheet.hold(net, at_end)))
+    lend(|lent| pnet::first_dead(lent.net.show(net)))
 }
 
 pub fn complement(net: &[u8], out: &mut [u8]) -> Result<usize, Refusal> {

@@ -1,10 +1,10 @@
 //! Compares every call of the proved engine, through its Rust wrapper, with `reference`.
 //!
 //!     compare [SEED [ROUNDS]]
-//!     compare overrun before|after       reads out of bounds, which must end it
+//!     compare trespass before|after|within       reads or writes where it may not, which must end it
 //!
 //! A difference ends it, and so does a call, number and thing that came up too rarely to count as compared. Every slice is lent between guard
-//! pages, so that a read or a write out of bounds ends it too.
+//! pages, so that a read or a write where none may be ends it too.
 
 mod case;
 mod damage;
@@ -34,9 +34,9 @@ const SIZES: [(usize, usize, usize); 7] =
 fn main() -> ExitCode {
     let words: Vec<String> = std::env::args().skip(1).collect();
     if let [word, side] = &words[..]
-        && word == "overrun"
+        && word == "trespass"
     {
-        println!("read {} out of bounds", guarded::overrun(side == "after"));
+        guarded::trespass(side);
         return ExitCode::FAILURE;
     }
     let mut numbers = words.iter().map(|word| word.parse().expect("SEED and ROUNDS are numbers"));
