@@ -166,9 +166,7 @@ pub fn size(net: &[u8]) -> Result<Size, Refusal> {
 }
 
 pub fn first_marking(net: &[u8]) -> Result<Vec<u32>, Refusal> {
-    let mut marking = vec![0; size(net)?.pairs];
-    begin(net, &mut marking)?;
-    Ok(marking)
+    lend(|lent| pnet::first_marking(lent.net.show(net)))
 }
 
 /// A call that writes a slice over a net.
