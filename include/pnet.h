@@ -1,7 +1,13 @@
 /* Bezgintay, an engine for P-nets: its calls for C. Link target/staticlib/libabi.a (`rt staticlib abi`).
  *
  * Each call answers for any bytes, counts and numbers, and always returns. The engine holds nothing between calls, and
- * allocates nothing. Number, thing and position of an answer are those of document 01, "Refusal numbers".
+ * allocates nothing. docs/RULES.md says what a net, a sheet and a movement are, field by field and rule by rule.
+ *
+ * Words. A pair is a place with one of its colours: a marking has a count for each. A mode is a transition with one of its colours:
+ * it is what moves. K is a pair's capacity. At a mode and a pair stand Pre, what the mode takes, Post, what it gives, and the
+ * inhibitor I. A mode is enabled where, at every pair, Pre is at most the count, the count and Post together are at most K, and the
+ * count is at most I; firing it takes Pre and gives Post. K and I may be unbounded. L, the number in the first 4 bytes of a sheet, is
+ * how many bytes follow them.
  *
  * Slices. A pointer is followed by its length in elements. Bytes and counts that are only read may overlap one another;
  * a slice that is written (no const) overlaps no other. Counts (uint32_t) are aligned. Where the length is 0, the pointer
@@ -21,8 +27,23 @@
 extern "C" {
 #endif
 
-/* A pair is a place with one of its colours, a mode a transition with one of its colours. Both are numbered from 0 across the
- * whole net, and the two are distinct types, so that one is never handed over for the other. */
+/* The version of these structs and calls is a name: every object that includes this header refers to pnet_abi_1, which answers 1.
+ * One that was compiled with another version's header does not link, and the linker names what it lacks. */
+uint64_t pnet_abi_1(void);
+
+#if defined(__has_attribute)
+#if __has_attribute(retain)
+#define PNET_KEPT __attribute__((used, retain))
+#endif
+#endif
+#ifndef PNET_KEPT
+#define PNET_KEPT __attribute__((used))
+#endif
+PNET_KEPT static uint64_t (*const pnet_abi)(void) = pnet_abi_1;
+#undef PNET_KEPT
+
+/* Pairs and modes are both numbered from 0 across the whole net, place by place and transition by transition. The two are distinct
+ * types, so that one is never handed over for the other. */
 struct pnet_pair {
     uint16_t number;
 };
@@ -32,7 +53,7 @@ struct pnet_mode {
 
 /* What pnet_answer's thing says was at fault. */
 enum {
-    PNET_NET = 0, /* also where a call is accepted, and for 10, 15 and 16 */
+    PNET_NET = 0, /* also where a call is accepted, and for 10, 15, 16 and any number above 18 */
     PNET_WEIGHTS = 1,
     PNET_MOVEMENTS = 2, /* also a movement that a run or a certificate refuses */
     PNET_ARGUMENT = 3   /* a marking, a claim or a mode */
@@ -46,8 +67,35 @@ enum {
     PNET_TEXT_ROOM = 262144       /* bytes, for any text of replay */
 };
 
-/* An answer. Number 0 is accepted; thing and position are then 0. The position of a byte, a field or an arc is its offset in its
- * sheet, that of a pair is the pair's number; it is 0 where none is named. */
+/* An answer: its number, which thing was at fault, and where. The position of a byte, a field or an arc is the offset of its first
+ * byte, counted from 0 at the first byte of its sheet; that of a pair is the pair's number.
+ *
+ *   No  Given exactly when                                                        Position
+ *    0  accepted                                                                  0
+ *    1  fewer than 4 bytes, or fewer than 4 + L                                   0
+ *    2  the version byte is not 1                                                 4
+ *    3  L is 0                                                                    0
+ *       a field runs past L                                                       the field
+ *       bytes are left over after the last field, or after the sheet              the first of them
+ *    4  a count is outside its limits, or the running total passes 256            the count's field
+ *    5  a number is outside its range                                             its field; in a marking, the pair
+ *    6  an arc's mode or pair is not there                                        its field in the arc
+ *       a movement's mode, or the mode that is handed over, is not there          0
+ *    7  an arc is not above the one before, by mode, then pair                    the arc
+ *    8  an arc is blank: Pre and Post are 0, I is unbounded                       the arc
+ *    9  a count is above a bounded K                                              the first marking's field; in a marking, the pair
+ *   10  the complement exceeds a sheet's limits, or `room` is less than it takes  0
+ *       `room` is below PNET_TEXT_ROOM, in pnet_statement                         0
+ *   11  Pre is above the count                                                    the lowest such pair
+ *   12  the count and Post together are above K                                   the lowest such pair
+ *   13  the count is above I                                                      the lowest such pair
+ *   14  the new count is above 1,000,000                                          the lowest such pair
+ *   15  I is bounded at a pair of unbounded K                                     the arc
+ *   16  a number of the complement is above 1,000,000                             the arc
+ *   17  a marking or weights are not one for each pair                            0; in weights, 5
+ *   18  a certificate ends at another marking than is claimed                     the lowest pair that differs
+ *
+ * Numbers above 18 are kept for later calls, with thing PNET_NET. */
 struct pnet_answer {
     uint64_t number;
     uint64_t thing;
@@ -80,6 +128,14 @@ struct pnet_named {
     struct pnet_pair pair;
 };
 
+/* How many pairs, modes and arcs a net has; each 0 where the call is refused. */
+struct pnet_sized {
+    struct pnet_answer answer;
+    uint64_t pairs;
+    uint64_t modes;
+    uint64_t arcs;
+};
+
 /* Readers. Each reads the sheet at the start of a run of bytes, which may go on after it, and writes nothing. The value is how
  * many bytes the sheet takes: what follows begins there.
  *
@@ -90,6 +146,10 @@ struct pnet_named {
 struct pnet_counted pnet_read_net(const uint8_t *bytes, size_t length);
 struct pnet_counted pnet_read_weights(const uint8_t *bytes, size_t length, size_t pairs);
 struct pnet_counted pnet_read_movements(const uint8_t *bytes, size_t length);
+
+/* How large the net is: a marking has one count for each of its pairs, and its modes have the numbers below `modes`. Writes nothing.
+ * Refuses: the net. */
+struct pnet_sized pnet_size(const uint8_t *net, size_t net_length);
 
 /* Writes the net's first marking. Reads the net; of the marking only the length matters.
  * Refuses: the net; 17 (PNET_ARGUMENT) where the marking is not one count for each pair. A refused call writes nothing. */

@@ -99,6 +99,7 @@ CALL(figure, pnet_figure(NET, WEIGHTS, MARKING).answer)
 CALL(change, pnet_change(NET, WEIGHTS, last).answer)
 CALL(is_dead, pnet_is_dead(NET, last).answer)
 CALL(first_dead, pnet_first_dead(NET).answer)
+CALL(size, pnet_size(NET).answer)
 CALL(complement, pnet_complement(half.bytes, half.length, out, sizeof out).answer)
 CALL(statement, pnet_statement(input, input_length, out, sizeof out).answer)
 
@@ -114,7 +115,8 @@ static const struct {
     {"pnet_run", run, 11, 12288},               {"pnet_certify", certify, 11, 4096},
     {"pnet_figure", figure, 0, 4096},           {"pnet_change", change, 0, 4096},
     {"pnet_is_dead", is_dead, 0, 4096},         {"pnet_first_dead", first_dead, 0, 4096},
-    {"pnet_complement", complement, 0, 4096},   {"pnet_statement", statement, 0, 4096},
+    {"pnet_size", size, 0, 4096},               {"pnet_complement", complement, 0, 4096},
+    {"pnet_statement", statement, 0, 4096},
 };
 
 /* replay's input: the three sheets one after another. */

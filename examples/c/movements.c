@@ -1,4 +1,5 @@
 /* Runs the movements of three sheet files over a net, first one by one with the figure, then as one run, and certifies the end.
+ * Each file holds one sheet and nothing after it.
  *
  *   cc -I include examples/c/movements.c target/staticlib/libabi.a -o movements
  *   ./movements examples/refit/net.sheet examples/refit/weights.sheet examples/refit/movements.sheet
@@ -15,14 +16,20 @@ struct sheet {
     size_t length;
 };
 
+/* The whole file, or none of it: a directory opens, and only reading it fails. */
 static void load(const char *path, struct sheet *sheet)
 {
     FILE *file = fopen(path, "rb");
-    if (!file) {
+    if (file)
+        sheet->length = fread(sheet->bytes, 1, sizeof sheet->bytes, file);
+    if (!file || ferror(file)) {
         perror(path);
         exit(1);
     }
-    sheet->length = fread(sheet->bytes, 1, sizeof sheet->bytes, file);
+    if (fgetc(file) != EOF) {
+        fprintf(stderr, "%s: more than %zu bytes, and so no sheet\n", path, sizeof sheet->bytes);
+        exit(1);
+    }
     fclose(file);
 }
 
@@ -35,13 +42,15 @@ static void must(const char *call, struct pnet_answer answer)
     }
 }
 
-/* How many pairs an accepted net has: the place count stands at byte 5, the colours of each place from byte 9 on. */
-static size_t pair_count(const struct sheet *net)
+/* Where a sheet ends, as its reader says: bytes after it belong to nothing, and every call that takes the sheet refuses them by 3. */
+static size_t end(const char *call, const struct sheet *sheet, struct pnet_counted read)
 {
-    size_t places = net->bytes[5] << 8 | net->bytes[6], pairs = 0;
-    for (size_t place = 0; place < places; place++)
-        pairs += net->bytes[9 + 2 * place] << 8 | net->bytes[10 + 2 * place];
-    return pairs;
+    must(call, read.answer);
+    if (read.value != sheet->length) {
+        printf("%s: %zu bytes after the sheet\n", call, (size_t)(sheet->length - read.value));
+        exit(1);
+    }
+    return read.value;
 }
 
 int main(int argc, char **argv)
@@ -57,15 +66,16 @@ int main(int argc, char **argv)
     load(argv[2], &weights);
     load(argv[3], &movements);
 
-    must("read_net", pnet_read_net(net.bytes, net.length).answer);
-    size_t pairs = pair_count(&net);
+    struct pnet_sized size = pnet_size(net.bytes, net.length);
+    must("size", size.answer);
+    size_t pairs = size.pairs;
     must("begin", pnet_begin(net.bytes, net.length, marking, pairs));
     memcpy(start, marking, sizeof start);
-    must("read_weights", pnet_read_weights(weights.bytes, weights.length, pairs).answer);
-    must("read_movements", pnet_read_movements(movements.bytes, movements.length).answer);
+    end("read_weights", &weights, pnet_read_weights(weights.bytes, weights.length, pairs));
+    size_t last = end("read_movements", &movements, pnet_read_movements(movements.bytes, movements.length));
 
     /* A movement sheet is 5 bytes, then 2 bytes for each mode. */
-    for (size_t at = 5; at < movements.length; at += 2) {
+    for (size_t at = 5; at < last; at += 2) {
         struct pnet_mode mode = {(uint16_t)(movements.bytes[at] << 8 | movements.bytes[at + 1])};
         struct pnet_answer fired = pnet_fire(net.bytes, net.length, marking, pairs, mode);
         if (fired.number != 0) {

@@ -12,6 +12,7 @@ use Rattle.run.specs.Calls.{ranOf, runOf, certifyRefusal}
 use Rattle.weigh.specs.Calls as weigh
 use Rattle.dead.specs.IsDead as one
 use Rattle.dead.specs.FirstDead as first
+use Rattle.size.specs.Sizes as size
 use Rattle.complement.specs.Complemented as complement
 use Rattle.statement.specs.Replay.{stated, statedIn}
 use Rattle.answers.specs.declared.Answered.{Answered}
@@ -19,7 +20,8 @@ use Rattle.answers.specs.declared.Counted.{Counted}
 use Rattle.answers.specs.declared.Weighed.{Weighed}
 use Rattle.answers.specs.declared.Decided.{Decided}
 use Rattle.answers.specs.declared.Named.{Named}
-use Rattle.answers.specs.Told.{answered, counted, weighed, decided, named, textTold}
+use Rattle.answers.specs.declared.Sized.{Sized}
+use Rattle.answers.specs.Told.{answered, counted, weighed, decided, named, sized, textTold}
 use Rattle.abi.specs.Told.{ran, taken}
 
 -- the readers, on a run of bytes
@@ -60,6 +62,9 @@ module _ (net : List ℕ) where
 
   abbrev pub FirstDeadAllows : Named → Type 0
   FirstDeadAllows told = told ≡ named (first.told (first.firstDeadOf net))
+
+  abbrev pub SizeAllows : Sized → Type 0
+  SizeAllows told = told ≡ sized (size.told (size.measuredOf net))
 
   abbrev pub ComplementAllows : List ℕ → Counted × List ℕ → Type 0
   ComplementAllows out o = (o .0 ≡ counted (complement.told (complement.complementOf net out))) × (o .1 ≡ complement.outputOf net out)

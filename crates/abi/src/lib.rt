@@ -3,5 +3,7 @@ pub mod complementing;
 pub mod dying;
 pub mod moving;
 pub mod reading;
+pub mod sizing;
 pub mod stating;
+pub mod version;
 pub mod weighing;

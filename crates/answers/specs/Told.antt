@@ -11,6 +11,7 @@ use Rattle.model.specs.Refusals.{number, thing, position}
 use Rattle.model.specs.Replies.{Reply, yields, refuses}
 use Rattle.model.specs.Nets.{pairNo, modeNo}
 use Rattle.model.specs.Dead.{DeadMode}
+use Rattle.size.specs.declared.NetSize.{NetSize}
 use Rattle.statement.specs.declared.Stated.{Stated}
 use Rattle.statement.specs.declared.Stated.the-variants.{Written, NoRoom}
 use Rattle.answers.specs.declared.Answered.{Answered}
@@ -18,6 +19,7 @@ use Rattle.answers.specs.declared.Counted.{Counted}
 use Rattle.answers.specs.declared.Weighed.{Weighed}
 use Rattle.answers.specs.declared.Decided.{Decided}
 use Rattle.answers.specs.declared.Named.{Named}
+use Rattle.answers.specs.declared.Sized.{Sized}
 
 -- an answer without a value
 abbrev pub answered : Answer → Answered
@@ -48,6 +50,13 @@ naming a (some d) = record { answer = a; found = true; mode = d .mode; pair = d 
 
 abbrev pub named : Reply (Option DeadMode) → Named
 named r = naming (replied r) (valueOr none (r .value))
+
+-- how many pairs, modes and arcs, each 0 where a refused call has none
+abbrev pub sizing : Answered → NetSize → Sized
+sizing a size = record { answer = a; pairs = size .pairs; modes = size .modes; arcs = size .arcs }
+
+abbrev pub sized : Reply NetSize → Sized
+sized r = sizing (replied r) (valueOr (record { pairs = 0; modes = 0; arcs = 0 }) (r .value))
 
 -- the text of `replay`; 10: "or the output slice is shorter than it"
 abbrev pub textTold : Stated → Reply ℕ

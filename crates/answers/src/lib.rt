@@ -8,6 +8,7 @@ use model::Mode;
 use model::Pair;
 use model::Refusal;
 use model::Thing;
+use size::Measured;
 use statement::Stated;
 use told::line_of;
 use told::thing_of;
@@ -20,8 +21,9 @@ ghost use Rattle.model.specs.declared.Answer.the-variants.{Refused};
 ghost use Rattle.complement.specs.Complemented.{told as complementTold};
 ghost use Rattle.dead.specs.FirstDead.{told as firstDeadTold};
 ghost use Rattle.dead.specs.IsDead.{told as deadnessTold};
+ghost use Rattle.size.specs.Sizes.{told as measuredTold};
 ghost use Rattle.weigh.specs.Calls.{told as figuredTold};
-ghost use Rattle.answers.specs.Told.{answered, counted, textTold, weighed, decided, naming, named};
+ghost use Rattle.answers.specs.Told.{answered, counted, textTold, weighed, decided, naming, named, sized};
 
 #[repr(C)]
 pub struct Answered {
@@ -58,6 +60,15 @@ pub struct Named {
     pub found: bool,
     pub mode: Mode,
     pub pair: Pair,
+}
+
+// How many pairs, modes and arcs.
+#[repr(C)]
+pub struct Sized {
+    pub answer: Answered,
+    pub pairs: u64,
+    pub modes: u64,
+    pub arcs: u64,
 }
 
 pub fn accepted() -> Answered
@@ -189,5 +200,24 @@ pub fn tell_first_dead(first: FirstDead) -> Named
         },
         FirstDead::None => nothing_found(accepted()),
         FirstDead::Refused(refusal) => nothing_found(refused(refusal)),
+    }
+}
+
+pub fn tell_size(measured: Measured) -> Sized
+    ensures { λ r. ⌜ r ≡ sized (measuredTold measured) ⌝ }
+{
+    match measured {
+        Measured::Is(size) => Sized {
+            answer: accepted(),
+            pairs: size.pairs as u64,
+            modes: size.modes as u64,
+            arcs: size.arcs as u64,
+        },
+        Measured::Refused(refusal) => Sized {
+            answer: refused(refusal),
+            pairs: 0,
+            modes: 0,
+            arcs: 0,
+        },
     }
 }

@@ -33,6 +33,7 @@ use Rattle.dead.specs.IsDead.{deadRefusal}
 use Rattle.dead.specs.IsDead as one
 use Rattle.dead.specs.FirstDead as first
 use Rattle.complement.specs.Complemented.{complementingRefusal}
+use Rattle.size.specs.Sizes as sizing
 use Rattle.complement.specs.Complemented as complementing
 use Rattle.text.specs.declared.Put.{Put}
 use Rattle.text.specs.Decimals.{digit, decimal, decimalWithin, signedDecimal}
@@ -209,6 +210,9 @@ constant-answers =
       firstDead =
           varies _ _ own.net lone (λ o a. ap (λ r. r .number) (own-example .firstDead o a))
           (λ o a. ap (λ o. first.told o .number) a ∙ rw (some-then _ net-cut));
+      size =
+          varies _ _ own.net lone (λ o a. ap (λ r. r .number) (own-example .size o a))
+          (λ o a. ap (λ o. sizing.told o .number) a ∙ rw (some-then _ net-cut));
       complement =
           varies _ _ (own.net, own.room) (lone, []) (λ o a. ap (λ r. r .number) (own-example .complement o a))
           (λ o a. ap (λ o. complementing.told o .number) (a .0) ∙ rw complement-cut);

@@ -43,6 +43,7 @@ constant-answers-for-c =
       isDead = tells (library .isDead) (λ i p a. (_, refl, ap (λ r. r .answer .number) a));
       firstDead =
           tells (library .firstDead) (λ i p a. (_, refl, ap (λ r. r .answer .number) a ∙ named-number (first.told (first.firstDeadOf i))));
+      size = tells (library .size) (λ i p a. (_, refl, ap (λ r. r .answer .number) a));
       complement = tells (library .complement) (λ i p a. ((_, p .1), (refl, a .1), ap (λ r. r .answer .number) (a .0)));
       statement = tells (library .statement) (λ i p a. ((_, p .1), (refl, a .1), ap (λ r. r .answer .number) (a .0)));
     }

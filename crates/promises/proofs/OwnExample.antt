@@ -45,6 +45,7 @@ use Rattle.weigh.specs.Calls.{figured, figureRefusal, changeRefusal}
 use Rattle.dead.specs.IsDead as one
 use Rattle.dead.specs.IsDead.{deadRefusal}
 use Rattle.dead.specs.FirstDead as first
+use Rattle.size.specs.Sizes as sizing
 use Rattle.complement.specs.Complemented as complementing
 use Rattle.complement.specs.Complemented.{roomRefusal, complementingRefusal}
 use Rattle.promises.specs.OwnExample.{example, RunsTo, OwnExample}
@@ -193,5 +194,6 @@ own-example =
       change = λ o a. ap weigh.told a ∙ rw (change-accepted, read-back .same, change-is);
       isDead = λ o a. ap one.told a ∙ rw (dead-accepted, read-back .same, alive);
       firstDead = λ o a. ap first.told a ∙ rw (read-back .accepted, read-back .same, none-dead);
+      size = λ o a. ap sizing.told a ∙ rw (read-back .accepted, read-back .same);
       complement = λ o a. ap complementing.told (a .0) ∙ rw (complement-accepted, read-back .same, complement-length);
     }

@@ -23,6 +23,7 @@ for-c =
       change = λ net weights t. one-answer _;
       isDead = λ net t. one-answer _;
       firstDead = λ net. one-answer _;
+      size = λ net. one-answer _;
       complement = λ net out. answer-and-slice _ _;
       statement = λ input out. answer-and-slice _ _;
     }
@@ -48,6 +49,7 @@ uniqueness =
       change = λ net weights t. one-answer _;
       isDead = λ net t. one-answer _;
       firstDead = λ net. one-answer _;
+      size = λ net. one-answer _;
       complement = λ net out. answer-and-slice _ _;
       putBytes = λ out at bytes. answer-and-slice _ _;
       putDecimal = λ out at n. answer-and-slice _ _;

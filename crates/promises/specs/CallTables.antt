@@ -168,7 +168,7 @@ pub record CallTables : Type 0 where
   pub readNet : (s : List ℕ) → Reads (netTable s) (netRefusal s)
   pub readWeights : (pairs : ℕ) (s : List ℕ) → Reads (weightTable pairs s) (weightsRefusal pairs s)
   pub readMovements : (s : List ℕ) → Reads (movementTable s) (movementsRefusal s)
-  -- a whole net sheet, and first dead
+  -- a whole net sheet, first dead and size
   pub wholeNet : (s : List ℕ) → Reads (wholeNetTable s) (wholeNet s)
   pub wholeWeights : (pairs : ℕ) (s : List ℕ) → Reads (wholeWeightTable pairs s) (wholeWeights pairs s)
   pub wholeMovements : (s : List ℕ) → Reads (wholeMovementTable s) (wholeMovements s)

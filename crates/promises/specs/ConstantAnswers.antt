@@ -17,6 +17,8 @@ use Rattle.weigh.specs.Contracts.{FigureAllows, ChangeAllows}
 use Rattle.dead.specs.IsDead as one
 use Rattle.dead.specs.FirstDead as first
 use Rattle.dead.specs.Contracts.{IsDeadAllows, FirstDeadAllows}
+use Rattle.size.specs.Sizes as sizing
+use Rattle.size.specs.Contracts.{SizeAllows}
 use Rattle.complement.specs.Complemented as complementing
 use Rattle.complement.specs.Contracts.{ComplementAllows}
 use Rattle.text.specs.declared.Put.{Put}
@@ -72,6 +74,7 @@ pub record ConstantAnswers : Type 0 where
   pub change : Varies (λ (i : List ℕ × List ℕ × Mode). ChangeAllows (i .0) (i .1) (i .2)) (λ o. weigh.told o .number)
   pub isDead : Varies (λ (i : List ℕ × Mode). IsDeadAllows (i .0) (i .1)) (λ o. one.told o .number)
   pub firstDead : Varies FirstDeadAllows (λ o. first.told o .number)
+  pub size : Varies SizeAllows (λ o. sizing.told o .number)
   pub complement : Varies (λ (i : List ℕ × List ℕ). ComplementAllows (i .0) (i .1)) (λ o. complementing.told (o .0) .number)
   pub putBytes : Varies (λ (i : List ℕ × ℕ × List ℕ). PutBytesAllows (i .0) (i .1) (i .2)) (λ o. full (o .0))
   pub putDecimal : Varies (λ (i : List ℕ × ℕ × ℕ). PutDecimalAllows (i .0) (i .1) (i .2)) (λ o. full (o .0))

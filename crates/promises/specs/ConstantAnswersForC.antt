@@ -18,5 +18,6 @@ pub record ConstantAnswersForC : Type 0 where
   pub change : Varies (λ (i : List ℕ × List ℕ × Mode). c.ChangeAllows (i .0) (i .1) (i .2)) (λ o. o .answer .number)
   pub isDead : Varies (λ (i : List ℕ × Mode). c.IsDeadAllows (i .0) (i .1)) (λ o. o .answer .number)
   pub firstDead : Varies c.FirstDeadAllows (λ o. o .answer .number)
+  pub size : Varies c.SizeAllows (λ o. o .answer .number)
   pub complement : Varies (λ (i : List ℕ × List ℕ). c.ComplementAllows (i .0) (i .1)) (λ o. o .0 .answer .number)
   pub statement : Varies (λ (i : List ℕ × List ℕ). c.StatementAllows (i .0) (i .1)) (λ o. o .0 .answer .number)

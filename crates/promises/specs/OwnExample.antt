@@ -23,6 +23,9 @@ use Rattle.dead.specs.declared.FirstDead.{FirstDead}
 use Rattle.dead.specs.IsDead as one
 use Rattle.dead.specs.FirstDead as first
 use Rattle.dead.specs.Contracts.{IsDeadAllows, FirstDeadAllows}
+use Rattle.size.specs.declared.Measured.{Measured}
+use Rattle.size.specs.Sizes as sizing
+use Rattle.size.specs.Contracts.{SizeAllows}
 use Rattle.complement.specs.declared.Complemented.{Complemented}
 use Rattle.complement.specs.Complemented as complementing
 use Rattle.complement.specs.Contracts.{ComplementAllows}
@@ -69,4 +72,6 @@ pub record OwnExample : Type 0 where
   pub change : (o : Figured) → ChangeAllows net weights (modeNo 0) o → weigh.told o ≡ yields (negsuc 249)
   pub isDead : (o : Deadness) → IsDeadAllows net (modeNo 0) o → one.told o ≡ yields false
   pub firstDead : (o : FirstDead) → FirstDeadAllows net o → first.told o ≡ yields none
+  -- two places of one colour, one mode, two arcs
+  pub size : (o : Measured) → SizeAllows net o → sizing.told o ≡ yields (record { pairs = 2; modes = 1; arcs = 2 })
   pub complement : (o : Complemented × List ℕ) → ComplementAllows net room o → complementing.told (o .0) ≡ yields 91

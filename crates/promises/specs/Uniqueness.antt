@@ -11,6 +11,7 @@ use Rattle.fire.specs.Contracts.{BeginAllows, TestAllows, FireAllows}
 use Rattle.run.specs.Contracts.{RunAllows, CertifyAllows}
 use Rattle.weigh.specs.Contracts.{FigureAllows, ChangeAllows}
 use Rattle.dead.specs.Contracts.{IsDeadAllows, FirstDeadAllows}
+use Rattle.size.specs.Contracts.{SizeAllows}
 use Rattle.complement.specs.Contracts.{ComplementAllows}
 use Rattle.text.specs.Contracts.{PutBytesAllows, PutDecimalAllows, PutSignedAllows}
 use Rattle.statement.specs.Contracts.{StatementAllows}
@@ -34,6 +35,7 @@ pub record UniqueForC : Type 0 where
   pub change : (net weights : List ℕ) (t : Mode) → Unique (c.ChangeAllows net weights t)
   pub isDead : (net : List ℕ) (t : Mode) → Unique (c.IsDeadAllows net t)
   pub firstDead : (net : List ℕ) → Unique (c.FirstDeadAllows net)
+  pub size : (net : List ℕ) → Unique (c.SizeAllows net)
   pub complement : (net out : List ℕ) → Unique (c.ComplementAllows net out)
   pub statement : (input out : List ℕ) → Unique (c.StatementAllows input out)
 
@@ -57,6 +59,7 @@ pub record Uniqueness : Type 0 where
   pub change : (net weights : List ℕ) (t : Mode) → Unique (ChangeAllows net weights t)
   pub isDead : (net : List ℕ) (t : Mode) → Unique (IsDeadAllows net t)
   pub firstDead : (net : List ℕ) → Unique (FirstDeadAllows net)
+  pub size : (net : List ℕ) → Unique (SizeAllows net)
   pub complement : (net out : List ℕ) → Unique (ComplementAllows net out)
   pub putBytes : (out : List ℕ) (at : ℕ) (bytes : List ℕ) → Unique (PutBytesAllows out at bytes)
   pub putDecimal : (out : List ℕ) (at n : ℕ) → Unique (PutDecimalAllows out at n)

@@ -67,7 +67,8 @@ pub const STATEMENT: Work = beside(
 pub const SIZED: [Work; 4] = [READ, RUN, COMPLEMENT, STATEMENT];
 
 /// The other calls, at full size; a call with a mode is given the last.
-pub const OTHERS: [Work; 10] = [
+pub const OTHERS: [Work; 11] = [
+    beside("size", |i, _| pnet::size(&i.net).is_ok(), |i, _| swift::size(&i.net).is_ok()),
     own("read_weights", |i, _| pnet::read_weights(&i.weights, i.pairs).is_ok()),
     own("read_movements", |i, _| pnet::read_movements(&i.movements).is_ok()),
     own("begin", |i, l| pnet::begin(&i.net, &mut l.marking).is_ok()),

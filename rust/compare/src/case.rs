@@ -4,6 +4,7 @@ use pnet::Mode;
 use reference::build::{PlainNet, movements, weights};
 
 use crate::generator::{self, Random, Style, total};
+use crate::guarded;
 use crate::same::Same;
 
 /// What every call is tried on.
@@ -34,7 +35,7 @@ impl Case {
         let list = walk(random, &net, &marking, total(&plain.modes), most);
         let sheet = movements(&list);
         let mut claim = first;
-        pnet::run(&net, &sheet, &mut claim);
+        guarded::run(&net, &sheet, &mut claim);
         if random.once_in(3) {
             let pair = random.below(claim.len());
             claim[pair] = random.pick(&[0, 1, claim[pair] ^ 1, u32::MAX]);
@@ -65,6 +66,7 @@ impl Case {
         same.change(&self.net, &self.weights, self.mode);
         same.is_dead(&self.net, self.mode);
         same.first_dead(&self.net);
+        same.size(&self.net);
         same.complement(&self.net, self.room);
         let input = [&self.net[..], &self.weights, &self.movements].concat();
         same.statement(&input, if self.room < pnet::LARGEST_NET { self.room } else { pnet::TEXT_ROOM });
@@ -79,7 +81,8 @@ pub fn walk(random: &mut Random, net: &[u8], marking: &[u32], modes: usize, most
         let any = |random: &mut Random| random.below(modes) as u16;
         for _ in 0..random.below(most + 1) {
             let tries: Vec<u16> = (0..6).map(|_| any(random)).collect();
-            let enabled = tries.into_iter().find(|&mode| pnet::fire(net, &mut marking, Mode(mode)).is_ok());
+            let enabled =
+                tries.into_iter().find(|&mode| guarded::fire(net, &mut marking, Mode(mode)).is_ok());
             let Some(mode) = enabled else { break };
             list.push(mode);
         }

@@ -4,15 +4,16 @@ use reference::build::{OPEN, PlainNet, movements};
 
 use crate::case::walk;
 use crate::generator::{self, Random, Style, total};
+use crate::guarded;
 use crate::same::{Plain, Same};
 
 /// The net and its complement accept the same movements, stop at the same one, and stay in step, from the first marking and from others.
 pub fn in_step(same: &mut Same, random: &mut Random, style: Style, net: &PlainNet, most: usize) -> bool {
     let sheet = net.sheet();
     let Some(complement) = same.complement(&sheet, pnet::LARGEST_NET) else { return false };
-    assert_eq!(pnet::read_net(&complement), Ok(&[][..]), "{}: the complement of {net:?}", same.part);
+    assert_eq!(guarded::read_net(&complement), Ok(&[][..]), "{}: the complement of {net:?}", same.part);
     let first: Vec<u32> = net.pairs.iter().map(|&(_, count)| count).collect();
-    assert_eq!(pnet::first_marking(&complement), Ok(completed(net, &first)), "{}: {net:?}", same.part);
+    assert_eq!(guarded::first_marking(&complement), Ok(completed(net, &first)), "{}: {net:?}", same.part);
     let other: Vec<u32> =
         net.pairs.iter().map(|&(capacity, _)| generator::count(random, style, capacity)).collect();
     for start in [first, other] {

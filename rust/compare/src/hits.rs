@@ -18,13 +18,14 @@ pub enum Call {
     Change,
     IsDead,
     FirstDead,
+    Size,
     Complement,
     Statement,
 }
 
 use Call::*;
 
-const CALLS: [Call; 14] = [
+const CALLS: [Call; 15] = [
     ReadNet,
     ReadWeights,
     ReadMovements,
@@ -37,6 +38,7 @@ const CALLS: [Call; 14] = [
     Change,
     IsDead,
     FirstDead,
+    Size,
     Complement,
     Statement,
 ];
@@ -62,7 +64,7 @@ const COMPLEMENT: &[Told] = &[(15, 0), (16, 0), (10, 0)];
 /// Every refusal that docs/RULES.md lets a call give.
 fn refusals(call: Call) -> Vec<Told> {
     match call {
-        ReadNet | FirstDead => NET.to_vec(),
+        ReadNet | FirstDead | Size => NET.to_vec(),
         ReadWeights => WEIGHTS.to_vec(),
         ReadMovements => MOVEMENTS.to_vec(),
         Begin => [NET, ONE_EACH].concat(),

@@ -1,14 +1,17 @@
 //! Compares every call of the proved engine, through its Rust wrapper, with `reference`.
 //!
 //!     compare [SEED [ROUNDS]]
+//!     compare trespass before|after|within       reads or writes where it may not, which must end it
 //!
-//! A difference ends it, and so does a call, number and thing that came up too rarely to count as compared.
+//! A difference ends it, and so does a call, number and thing that came up too rarely to count as compared. Every slice is lent between guard
+//! pages, so that a read or a write where none may be ends it too.
 
 mod case;
 mod damage;
 mod demand3;
 #[path = "../../reference/tests/support/generator.rs"]
 mod generator;
+mod guarded;
 mod hits;
 mod limits;
 mod same;
@@ -29,7 +32,14 @@ const SIZES: [(usize, usize, usize); 7] =
     [(1, 1, 2), (3, 2, 6), (5, 4, 24), (5, 4, 24), (10, 2, 80), (20, 20, 200), (64, 64, 2_048)];
 
 fn main() -> ExitCode {
-    let mut numbers = std::env::args().skip(1).map(|word| word.parse().expect("SEED and ROUNDS are numbers"));
+    let words: Vec<String> = std::env::args().skip(1).collect();
+    if let [word, side] = &words[..]
+        && word == "trespass"
+    {
+        guarded::trespass(side);
+        return ExitCode::FAILURE;
+    }
+    let mut numbers = words.iter().map(|word| word.parse().expect("SEED and ROUNDS are numbers"));
     let (seed, rounds) = (numbers.next().unwrap_or(1), numbers.next().unwrap_or(40_000));
     let (mut random, mut same, start) = (Random::new(seed), Same::default(), Instant::now());
     for round in 0..rounds {

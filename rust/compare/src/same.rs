@@ -4,6 +4,7 @@ use std::fmt::Debug;
 
 use pnet::{Mode, Refusal};
 
+use crate::guarded;
 use crate::hits::{Call, Hits};
 
 /// Number, thing and position.
@@ -12,7 +13,7 @@ pub type Plain = (u64, u64, u64);
 fn told<V>(result: &Result<V, Refusal>) -> Plain {
     match result {
         Ok(_) => (0, 0, 0),
-        Err(refusal) => (refusal.number().into(), refusal.thing() as u64, refusal.position()),
+        Err(refusal) => (refusal.number(), refusal.thing() as u64, refusal.position()),
     }
 }
 
@@ -67,31 +68,36 @@ impl Same {
     }
 
     pub fn read_net(&mut self, bytes: &[u8]) {
-        self.read(Call::ReadNet, bytes, pnet::read_net(bytes), reference::read_net(bytes));
+        self.read(Call::ReadNet, bytes, guarded::read_net(bytes), reference::read_net(bytes));
     }
 
     pub fn read_weights(&mut self, bytes: &[u8], pairs: usize) {
         self.read(
             Call::ReadWeights,
             bytes,
-            pnet::read_weights(bytes, pairs),
+            guarded::read_weights(bytes, pairs),
             reference::read_weights(bytes, pairs),
         );
     }
 
     pub fn read_movements(&mut self, bytes: &[u8]) {
-        self.read(Call::ReadMovements, bytes, pnet::read_movements(bytes), reference::read_movements(bytes));
+        self.read(
+            Call::ReadMovements,
+            bytes,
+            guarded::read_movements(bytes),
+            reference::read_movements(bytes),
+        );
     }
 
     pub fn begin(&mut self, net: &[u8], marking: &[u32]) {
         let (mut ours, mut theirs) = (marking.to_vec(), marking.to_vec());
-        let answer = told(&pnet::begin(net, &mut ours));
+        let answer = told(&guarded::begin(net, &mut ours));
         let reference = plain(reference::begin(net, &mut theirs));
         self.hold(Call::Begin, answer, (answer, ours), (reference, theirs), &[&net, &marking]);
     }
 
     pub fn test(&mut self, net: &[u8], marking: &[u32], mode: u16) {
-        let answer = told(&pnet::test(net, marking, Mode(mode)));
+        let answer = told(&guarded::test(net, marking, Mode(mode)));
         let reference = plain(reference::test(net, marking, mode));
         self.hold(Call::Test, answer, answer, reference, &[&net, &marking, &mode]);
     }
@@ -99,7 +105,7 @@ impl Same {
     /// The answer, and the marking after it.
     pub fn fire(&mut self, net: &[u8], marking: &[u32], mode: u16) -> (Plain, Vec<u32>) {
         let (mut ours, mut theirs) = (marking.to_vec(), marking.to_vec());
-        let answer = told(&pnet::fire(net, &mut ours, Mode(mode)));
+        let answer = told(&guarded::fire(net, &mut ours, Mode(mode)));
         let reference = plain(reference::fire(net, &mut theirs, mode));
         self.hold(Call::Fire, answer, (answer, &ours), (reference, &theirs), &[&net, &marking, &mode]);
         (answer, ours)
@@ -108,7 +114,7 @@ impl Same {
     /// How many movements were accepted, the answer, and the marking after them.
     pub fn run(&mut self, net: &[u8], movements: &[u8], marking: &[u32]) -> (usize, Plain, Vec<u32>) {
         let (mut ours, mut theirs) = (marking.to_vec(), marking.to_vec());
-        let ran = pnet::run(net, movements, &mut ours);
+        let ran = guarded::run(net, movements, &mut ours);
         let answer = told(&ran.result);
         let (accepted, reference) = reference::run(net, movements, &mut theirs);
         let engine = (ran.accepted as u64, answer, &ours);
@@ -126,13 +132,13 @@ impl Same {
     }
 
     pub fn certify(&mut self, net: &[u8], movements: &[u8], claim: &[u32]) {
-        let answer = told(&pnet::certify(net, movements, claim));
+        let answer = told(&guarded::certify(net, movements, claim));
         let reference = plain(reference::certify(net, movements, claim));
         self.hold(Call::Certify, answer, answer, reference, &[&net, &movements, &claim]);
     }
 
     pub fn figure(&mut self, net: &[u8], weights: &[u8], marking: &[u32]) {
-        let engine = pnet::figure(net, weights, marking);
+        let engine = guarded::figure(net, weights, marking);
         let reference = reference::figure(net, weights, marking);
         let (answer, value) = (told(&engine), engine.ok());
         let reference = (plain_of(&reference), reference.ok());
@@ -140,7 +146,7 @@ impl Same {
     }
 
     pub fn change(&mut self, net: &[u8], weights: &[u8], mode: u16) {
-        let engine = pnet::change(net, weights, Mode(mode));
+        let engine = guarded::change(net, weights, Mode(mode));
         let reference = reference::change(net, weights, mode);
         let (answer, value) = (told(&engine), engine.ok());
         let reference = (plain_of(&reference), reference.ok());
@@ -148,7 +154,7 @@ impl Same {
     }
 
     pub fn is_dead(&mut self, net: &[u8], mode: u16) {
-        let engine = pnet::is_dead(net, Mode(mode));
+        let engine = guarded::is_dead(net, Mode(mode));
         let reference = reference::is_dead(net, mode);
         let (answer, value) = (told(&engine), engine.ok());
         let reference = (plain_of(&reference), reference.ok());
@@ -159,7 +165,7 @@ impl Same {
     }
 
     pub fn first_dead(&mut self, net: &[u8]) {
-        let engine = pnet::first_dead(net);
+        let engine = guarded::first_dead(net);
         let reference = reference::first_dead(net);
         let (answer, value) =
             (told(&engine), engine.ok().map(|named| named.map(|(mode, pair)| (mode.0, pair.0))));
@@ -171,10 +177,19 @@ impl Same {
         }
     }
 
+    pub fn size(&mut self, net: &[u8]) {
+        let engine = guarded::size(net);
+        let reference = reference::size(net);
+        let (answer, value) = (told(&engine), engine.ok().map(|size| (size.pairs, size.modes, size.arcs)));
+        let theirs = plain_of(&reference);
+        let reference = (theirs, reference.ok().map(|size| (size.pairs, size.modes, size.arcs)));
+        self.hold(Call::Size, answer, (answer, value), reference, &[&net]);
+    }
+
     /// The complement, where there is one.
     pub fn complement(&mut self, net: &[u8], room: usize) -> Option<Vec<u8>> {
         let (mut ours, mut theirs) = (vec![170; room], vec![170; room]);
-        let engine = pnet::complement(net, &mut ours);
+        let engine = guarded::complement(net, &mut ours);
         let reference = reference::complement(net, &mut theirs);
         let (answer, value) = (told(&engine), engine.ok());
         let reference = (plain_of(&reference), reference.ok(), &theirs);
@@ -185,7 +200,7 @@ impl Same {
     /// The text of `replay`, into a slice of this length.
     pub fn statement(&mut self, input: &[u8], room: usize) {
         let mut text = vec![170; room];
-        let engine = pnet::statement(input, &mut text);
+        let engine = guarded::statement(input, &mut text);
         let answer = told(&engine);
         let mut expected = reference::replay(input);
         self.hits.value(match &expected {

@@ -1,131 +1,64 @@
-//! The calls: slices go over as pointer and length, answers come back as structs by value. include/pnet.h says the same to C.
+//! The calls: slices go over as pointer and length, answers come back as structs by value.
 #![allow(unsafe_code)]
 
-use crate::fault::Fault;
-use crate::kinds::{Mode, Pair, Thing};
+use crate::kinds::{Mode, Pair};
+use crate::raw::*;
 use crate::refusal::Refusal;
 
-#[repr(C)]
-struct Answer {
-    number: u64,
-    thing: u64,
-    position: u64,
-}
-
-#[repr(C)]
-struct With<V> {
-    answer: Answer,
-    value: V,
-}
-
-/// A mode and a pair, where there is one.
-#[repr(C)]
-struct Named {
-    found: bool,
-    mode: Mode,
-    pair: Pair,
-}
-
-unsafe extern "C" {
-    fn pnet_read_net(bytes: *const u8, length: usize) -> With<u64>;
-    fn pnet_read_weights(bytes: *const u8, length: usize, pairs: usize) -> With<u64>;
-    fn pnet_read_movements(bytes: *const u8, length: usize) -> With<u64>;
-    fn pnet_begin(net: *const u8, net_length: usize, marking: *mut u32, counts: usize) -> Answer;
-    fn pnet_test(net: *const u8, net_length: usize, marking: *const u32, counts: usize, mode: Mode)
-    -> Answer;
-    fn pnet_fire(net: *const u8, net_length: usize, marking: *mut u32, counts: usize, mode: Mode) -> Answer;
-    fn pnet_run(
-        net: *const u8,
-        net_length: usize,
-        movements: *const u8,
-        movements_length: usize,
-        marking: *mut u32,
-        counts: usize,
-    ) -> With<u64>;
-    fn pnet_certify(
-        net: *const u8,
-        net_length: usize,
-        movements: *const u8,
-        movements_length: usize,
-        claim: *const u32,
-        counts: usize,
-    ) -> Answer;
-    fn pnet_figure(
-        net: *const u8,
-        net_length: usize,
-        weights: *const u8,
-        weights_length: usize,
-        marking: *const u32,
-        counts: usize,
-    ) -> With<i64>;
-    fn pnet_change(
-        net: *const u8,
-        net_length: usize,
-        weights: *const u8,
-        weights_length: usize,
-        mode: Mode,
-    ) -> With<i64>;
-    fn pnet_is_dead(net: *const u8, net_length: usize, mode: Mode) -> With<bool>;
-    fn pnet_first_dead(net: *const u8, net_length: usize) -> With<Named>;
-    fn pnet_complement(net: *const u8, net_length: usize, out: *mut u8, room: usize) -> With<u64>;
-    fn pnet_statement(input: *const u8, input_length: usize, out: *mut u8, room: usize) -> With<u64>;
-}
-
-impl Answer {
-    /// Numbers are 0 to 18 and things 0 to 3: the contract of each call.
-    fn result(self) -> Result<(), Refusal> {
-        match self.number as usize {
-            0 => Ok(()),
-            number => {
-                let (fault, thing) = (Fault::ALL[number - 1], Thing::ALL[self.thing as usize]);
-                Err(Refusal::new(fault, thing, self.position))
-            }
-        }
-    }
-}
-
-impl<V> With<V> {
-    fn result(self) -> Result<V, Refusal> {
-        self.answer.result().map(|()| self.value)
-    }
-}
-
 /// The part of the bytes after a sheet that takes so many.
-fn after(bytes: &[u8], read: With<u64>) -> Result<&[u8], Refusal> {
-    read.result().map(|taken| &bytes[taken as usize..])
+fn after<'a>(bytes: &'a [u8], read: With<u64>, given: Sheets) -> Result<&'a [u8], Refusal> {
+    read.result(given).map(|taken| &bytes[taken as usize..])
 }
 
 /// Reads the net sheet at the start of the bytes, and hands back those after it.
 pub fn read_net(bytes: &[u8]) -> Result<&[u8], Refusal> {
     // SAFETY: the pointer and the length are a slice's, which is only read.
-    after(bytes, unsafe { pnet_read_net(bytes.as_ptr(), bytes.len()) })
+    let read = unsafe { pnet_read_net(bytes.as_ptr(), bytes.len()) };
+    after(bytes, read, Sheets::net(bytes))
 }
 
 /// Reads the weight sheet of a net of so many pairs at the start of the bytes, and hands back those after it.
 pub fn read_weights(bytes: &[u8], pairs: usize) -> Result<&[u8], Refusal> {
     // SAFETY: the pointer and the length are a slice's, which is only read.
-    after(bytes, unsafe { pnet_read_weights(bytes.as_ptr(), bytes.len(), pairs) })
+    let read = unsafe { pnet_read_weights(bytes.as_ptr(), bytes.len(), pairs) };
+    after(bytes, read, Sheets::weights(bytes, pairs))
 }
 
 /// Reads the movement sheet at the start of the bytes, and hands back those after it.
 pub fn read_movements(bytes: &[u8]) -> Result<&[u8], Refusal> {
     // SAFETY: the pointer and the length are a slice's, which is only read.
-    after(bytes, unsafe { pnet_read_movements(bytes.as_ptr(), bytes.len()) })
+    let read = unsafe { pnet_read_movements(bytes.as_ptr(), bytes.len()) };
+    after(bytes, read, Sheets::movements(bytes))
+}
+
+/// How large a net is.
+#[derive(Clone, Copy, Debug, PartialEq, Eq)]
+#[repr(C)]
+pub struct Size {
+    /// How many pairs: a marking has one count for each.
+    pub pairs: usize,
+    /// How many modes: those with numbers below this.
+    pub modes: usize,
+    /// How many arcs.
+    pub arcs: usize,
+}
+
+/// How many pairs, modes and arcs a net has.
+pub fn size(net: &[u8]) -> Result<Size, Refusal> {
+    // SAFETY: the pointer and the length are a slice's, which is only read.
+    unsafe { pnet_size(net.as_ptr(), net.len()) }.result(Sheets::net(net))
 }
 
 /// Writes the net's first marking into a slice of one count for each pair.
 pub fn begin(net: &[u8], marking: &mut [u32]) -> Result<(), Refusal> {
     // SAFETY: pointers and lengths are slices', and the one that is written is lent by `&mut`.
-    unsafe { pnet_begin(net.as_ptr(), net.len(), marking.as_mut_ptr(), marking.len()) }.result()
+    unsafe { pnet_begin(net.as_ptr(), net.len(), marking.as_mut_ptr(), marking.len()) }
+        .result(Sheets::net(net))
 }
 
 /// The net's first marking.
 pub fn first_marking(net: &[u8]) -> Result<Vec<u32>, Refusal> {
-    read_net(net)?;
-    // An accepted sheet has its place count at byte 5, and the colours of each place from byte 9 on.
-    let two = |at: usize| usize::from(u16::from_be_bytes([net[at], net[at + 1]]));
-    let pairs = (0..two(5)).map(|place| two(9 + 2 * place)).sum();
-    let mut marking = vec![0; pairs];
+    let mut marking = vec![0; size(net)?.pairs];
     begin(net, &mut marking)?;
     Ok(marking)
 }
@@ -133,13 +66,15 @@ pub fn first_marking(net: &[u8]) -> Result<Vec<u32>, Refusal> {
 /// Whether the mode is enabled at the marking, or why not.
 pub fn test(net: &[u8], marking: &[u32], mode: Mode) -> Result<(), Refusal> {
     // SAFETY: pointers and lengths are slices', which are only read.
-    unsafe { pnet_test(net.as_ptr(), net.len(), marking.as_ptr(), marking.len(), mode) }.result()
+    unsafe { pnet_test(net.as_ptr(), net.len(), marking.as_ptr(), marking.len(), mode) }
+        .result(Sheets::net(net))
 }
 
 /// Fires the mode: the marking becomes the one after it, or stays as it was.
 pub fn fire(net: &[u8], marking: &mut [u32], mode: Mode) -> Result<(), Refusal> {
     // SAFETY: pointers and lengths are slices', and the one that is written is lent by `&mut`.
-    unsafe { pnet_fire(net.as_ptr(), net.len(), marking.as_mut_ptr(), marking.len(), mode) }.result()
+    unsafe { pnet_fire(net.as_ptr(), net.len(), marking.as_mut_ptr(), marking.len(), mode) }
+        .result(Sheets::net(net))
 }
 
 /// How a run went.
@@ -165,7 +100,10 @@ pub fn run(net: &[u8], movements: &[u8], marking: &mut [u32]) -> Ran {
             marking.len(),
         )
     };
-    Ran { accepted: ran.value as usize, result: ran.answer.result() }
+    Ran {
+        accepted: ran.value as usize,
+        result: ran.answer.result(Sheets { net, movements, ..Sheets::default() }),
+    }
 }
 
 /// Whether the movements run whole from the net's first marking and end at the claim, or why not.
@@ -181,7 +119,7 @@ pub fn certify(net: &[u8], movements: &[u8], claim: &[u32]) -> Result<(), Refusa
             claim.len(),
         )
     }
-    .result()
+    .result(Sheets { net, movements, ..Sheets::default() })
 }
 
 /// The lightship figure of the marking, in kilograms.
@@ -190,25 +128,29 @@ pub fn figure(net: &[u8], weights: &[u8], marking: &[u32]) -> Result<i64, Refusa
     unsafe {
         pnet_figure(net.as_ptr(), net.len(), weights.as_ptr(), weights.len(), marking.as_ptr(), marking.len())
     }
-    .result()
+    .result(Sheets { net, weights, ..Sheets::default() })
 }
 
 /// The mode's weight change, in kilograms.
 pub fn change(net: &[u8], weights: &[u8], mode: Mode) -> Result<i64, Refusal> {
     // SAFETY: pointers and lengths are slices', which are only read.
-    unsafe { pnet_change(net.as_ptr(), net.len(), weights.as_ptr(), weights.len(), mode) }.result()
+    unsafe { pnet_change(net.as_ptr(), net.len(), weights.as_ptr(), weights.len(), mode) }.result(Sheets {
+        net,
+        weights,
+        ..Sheets::default()
+    })
 }
 
 /// Whether the mode is locally dead: at some pair Pre or Post is above K.
 pub fn is_dead(net: &[u8], mode: Mode) -> Result<bool, Refusal> {
     // SAFETY: the pointer and the length are a slice's, which is only read.
-    unsafe { pnet_is_dead(net.as_ptr(), net.len(), mode) }.result()
+    unsafe { pnet_is_dead(net.as_ptr(), net.len(), mode) }.result(Sheets::net(net))
 }
 
 /// The lowest locally dead mode with the lowest pair that makes it so, if there is one.
 pub fn first_dead(net: &[u8]) -> Result<Option<(Mode, Pair)>, Refusal> {
     // SAFETY: the pointer and the length are a slice's, which is only read.
-    let named = unsafe { pnet_first_dead(net.as_ptr(), net.len()) }.result()?;
+    let named = unsafe { pnet_first_dead(net.as_ptr(), net.len()) }.result(Sheets::net(net))?;
     Ok(named.found.then_some((named.mode, named.pair)))
 }
 
@@ -217,7 +159,7 @@ pub fn first_dead(net: &[u8]) -> Result<Option<(Mode, Pair)>, Refusal> {
 pub fn complement(net: &[u8], out: &mut [u8]) -> Result<usize, Refusal> {
     // SAFETY: pointers and lengths are slices', and the one that is written is lent by `&mut`.
     let written = unsafe { pnet_complement(net.as_ptr(), net.len(), out.as_mut_ptr(), out.len()) };
-    written.result().map(|length| length as usize)
+    written.result(Sheets::net(net)).map(|length| length as usize)
 }
 
 /// Writes the text that `replay` prints for an input, a net sheet, a weight sheet and a movement sheet, and says how long it is. No
@@ -225,5 +167,5 @@ pub fn complement(net: &[u8], out: &mut [u8]) -> Result<usize, Refusal> {
 pub fn statement(input: &[u8], out: &mut [u8]) -> Result<usize, Refusal> {
     // SAFETY: pointers and lengths are slices', and the one that is written is lent by `&mut`.
     let written = unsafe { pnet_statement(input.as_ptr(), input.len(), out.as_mut_ptr(), out.len()) };
-    written.result().map(|length| length as usize)
+    written.result(Sheets::default()).map(|length| length as usize)
 }

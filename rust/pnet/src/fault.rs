@@ -1,82 +1,123 @@
-//! The refusals of document 01's table, by name.
+//! The refusals, by name.
 
-/// What is wrong: the rows of document 01's table "Refusal numbers".
+/// What is wrong: the rows of the table of numbers in docs/RULES.md.
 #[derive(Clone, Copy, Debug, PartialEq, Eq, PartialOrd, Ord, Hash)]
-#[repr(u8)]
+#[non_exhaustive]
 pub enum Fault {
-    /// Fewer than 4 bytes, or fewer than 4 + L.
-    CutShort = 1,
-    /// The version byte is not 1.
-    WrongVersion = 2,
-    /// L = 0; a field runs past L; bytes left over.
-    WrongLength = 3,
-    /// A count outside its limits, or the running total passes 256.
-    CountOutside = 4,
-    /// A number outside its range.
-    NumberOutside = 5,
-    /// A mode or a pair is not there.
-    NotThere = 6,
-    /// An arc is not above the one before.
-    NotRising = 7,
-    /// An arc is blank.
-    Blank = 8,
-    /// A count is above a finite K.
-    AboveCapacity = 9,
-    /// The complement exceeds the sheet's limits, or the output slice is shorter than it.
-    NoRoom = 10,
-    /// Pre is above the count.
-    Lacking = 11,
-    /// The count plus Post is above K.
-    OverCapacity = 12,
-    /// The count is above I.
-    Inhibited = 13,
-    /// The new count is above 1,000,000.
-    OverLimit = 14,
-    /// A finite I stands at a pair of unbounded K.
-    InhibitedUnbounded = 15,
-    /// A complement number is above 1,000,000.
-    ComplementAbove = 16,
-    /// The marking or the weights are not one for each pair.
-    NotOneEach = 17,
-    /// A certificate ends at another marking.
-    EndsElsewhere = 18,
+    /// 1: fewer than 4 bytes, or fewer than 4 + L.
+    CutShort,
+    /// 2: the version byte is not 1.
+    WrongVersion,
+    /// 3: the sheet is not as long as it says.
+    WrongLength(Length),
+    /// 4: a count outside its limits, or the running total passes 256.
+    CountOutside,
+    /// 5: a number outside its range.
+    NumberOutside,
+    /// 6: a mode or a pair is not there.
+    NotThere,
+    /// 7: an arc is not above the one before.
+    NotRising,
+    /// 8: an arc is blank.
+    Blank,
+    /// 9: a count is above a finite K.
+    AboveCapacity,
+    /// 10: the complement exceeds the sheet's limits, or the output slice is shorter than it.
+    NoRoom,
+    /// 11: Pre is above the count.
+    Lacking,
+    /// 12: the count plus Post is above K.
+    OverCapacity,
+    /// 13: the count is above I.
+    Inhibited,
+    /// 14: the new count is above 1,000,000.
+    OverLimit,
+    /// 15: a finite I stands at a pair of unbounded K.
+    InhibitedUnbounded,
+    /// 16: a complement number is above 1,000,000.
+    ComplementAbove,
+    /// 17: the marking or the weights are not one for each pair.
+    NotOneEach,
+    /// 18: a certificate ends at another marking.
+    EndsElsewhere,
+    /// A number that has no name here yet.
+    Other(u64),
+}
+
+/// The causes of a wrong length.
+#[derive(Clone, Copy, Debug, PartialEq, Eq, PartialOrd, Ord, Hash)]
+pub enum Length {
+    /// L = 0.
+    Nothing,
+    /// A field runs past L.
+    FieldPastEnd,
+    /// Bytes are left over after the last field, or after the sheet.
+    BytesLeftOver,
 }
 
 impl Fault {
-    /// The faults by their numbers, from 1.
-    pub(crate) const ALL: [Fault; 18] = [
-        Fault::CutShort,
-        Fault::WrongVersion,
-        Fault::WrongLength,
-        Fault::CountOutside,
-        Fault::NumberOutside,
-        Fault::NotThere,
-        Fault::NotRising,
-        Fault::Blank,
-        Fault::AboveCapacity,
-        Fault::NoRoom,
-        Fault::Lacking,
-        Fault::OverCapacity,
-        Fault::Inhibited,
-        Fault::OverLimit,
-        Fault::InhibitedUnbounded,
-        Fault::ComplementAbove,
-        Fault::NotOneEach,
-        Fault::EndsElsewhere,
-    ];
+    /// The fault of a number, with the cause of a wrong length.
+    pub(crate) fn of(number: u64, length: impl FnOnce() -> Length) -> Fault {
+        use Fault::*;
+        match number {
+            1 => CutShort,
+            2 => WrongVersion,
+            3 => WrongLength(length()),
+            4 => CountOutside,
+            5 => NumberOutside,
+            6 => NotThere,
+            7 => NotRising,
+            8 => Blank,
+            9 => AboveCapacity,
+            10 => NoRoom,
+            11 => Lacking,
+            12 => OverCapacity,
+            13 => Inhibited,
+            14 => OverLimit,
+            15 => InhibitedUnbounded,
+            16 => ComplementAbove,
+            17 => NotOneEach,
+            18 => EndsElsewhere,
+            other => Other(other),
+        }
+    }
 
-    /// Document 01's number.
-    pub fn number(self) -> u8 {
-        self as u8
+    /// The number of the table.
+    pub fn number(self) -> u64 {
+        use Fault::*;
+        match self {
+            CutShort => 1,
+            WrongVersion => 2,
+            WrongLength(_) => 3,
+            CountOutside => 4,
+            NumberOutside => 5,
+            NotThere => 6,
+            NotRising => 7,
+            Blank => 8,
+            AboveCapacity => 9,
+            NoRoom => 10,
+            Lacking => 11,
+            OverCapacity => 12,
+            Inhibited => 13,
+            OverLimit => 14,
+            InhibitedUnbounded => 15,
+            ComplementAbove => 16,
+            NotOneEach => 17,
+            EndsElsewhere => 18,
+            Other(number) => number,
+        }
     }
 }
 
 #[cfg(test)]
 mod tests {
-    use super::Fault;
+    use super::{Fault, Length};
 
     #[test]
-    fn every_fault_stands_at_its_number() {
-        assert!(Fault::ALL.iter().zip(1..).all(|(fault, number)| fault.number() == number));
+    fn every_fault_has_its_number_and_no_number_panics() {
+        for number in (1..100).chain([u64::MAX]) {
+            let fault = Fault::of(number, || Length::Nothing);
+            assert_eq!((fault.number(), matches!(fault, Fault::Other(_))), (number, number > 18));
+        }
     }
 }

@@ -1,8 +1,11 @@
 //! The calls of a P-net engine (Billington, TR 222) whose every function is proved to do what the published definition says.
 //!
 //! Nets, weights and movements are lent as the bytes of their sheets, a marking as a slice of counts, one for each pair.
-//! Every call answers for any bytes and any counts: what it gives, or the first [`Refusal`] in the order of document 01.
+//! Every call answers for any bytes and any counts: what it gives, or the first [`Refusal`] in the order of docs/RULES.md.
 //! A refused call writes nothing; a run that stops leaves the marking that its accepted movements gave.
+//!
+//! Building it proves the engine by `rt staticlib abi`, which takes minutes; where PNET_ARCHIVE names an archive that this wrote, the
+//! build links that one and needs no prover.
 //!
 //! # Example
 //!
@@ -20,6 +23,7 @@
 //! ];
 //! let weights = [0, 0, 0, 11, 1, 0, 2, 0, 0, 0, 250, 0, 0, 0, 0];
 //!
+//! assert_eq!(pnet::size(&net)?.pairs, 2);
 //! let mut marking = pnet::first_marking(&net)?;
 //! assert_eq!(marking, [3, 0]);
 //! assert_eq!(pnet::figure(&net, &weights, &marking)?, 750);
@@ -42,12 +46,13 @@
 mod calls;
 mod fault;
 mod kinds;
+mod raw;
 mod refusal;
 
 pub use calls::{
-    Ran, begin, certify, change, complement, figure, fire, first_dead, first_marking, is_dead,
-    read_movements, read_net, read_weights, run, statement, test,
+    Ran, Size, begin, certify, change, complement, figure, fire, first_dead, first_marking, is_dead,
+    read_movements, read_net, read_weights, run, size, statement, test,
 };
-pub use fault::Fault;
+pub use fault::{Fault, Length};
 pub use kinds::{LARGEST_NET, Mode, Pair, TEXT_ROOM, Thing};
 pub use refusal::Refusal;

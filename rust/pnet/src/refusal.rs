@@ -2,7 +2,7 @@
 
 use std::fmt;
 
-use crate::fault::Fault;
+use crate::fault::{Fault, Length};
 use crate::kinds::{Pair, Thing};
 
 /// Why a call was refused: what is wrong, in which thing and where. It prints in words.
@@ -23,8 +23,8 @@ impl Refusal {
         self.fault
     }
 
-    /// Document 01's number, 1 to 18.
-    pub fn number(&self) -> u8 {
+    /// The number of the table, from 1.
+    pub fn number(&self) -> u64 {
         self.fault.number()
     }
 
@@ -33,7 +33,7 @@ impl Refusal {
         self.thing
     }
 
-    /// Document 01's position: a pair's number, the offset of a byte in its sheet, or 0.
+    /// The position of the table: a pair's number, the offset of a byte in its sheet, or 0.
     pub fn position(&self) -> u64 {
         self.position
     }
@@ -53,7 +53,7 @@ impl Refusal {
     pub fn offset(&self) -> Option<u64> {
         use Fault::*;
         let of_byte = match self.fault {
-            WrongVersion | WrongLength | CountOutside | NotRising | Blank | InhibitedUnbounded
+            WrongVersion | WrongLength(_) | CountOutside | NotRising | Blank | InhibitedUnbounded
             | ComplementAbove => true,
             NumberOutside | AboveCapacity | NotOneEach => self.thing != Thing::Argument,
             NotThere => self.thing == Thing::Net,
@@ -72,12 +72,12 @@ impl fmt::Display for Refusal {
         match (self.fault, self.thing) {
             (Fault::CutShort, thing) => write!(f, "the {thing} sheet is cut short"),
             (Fault::WrongVersion, thing) => write!(f, "the {thing} sheet is not of version 1"),
-            (Fault::WrongLength, thing) if at == 0 => write!(f, "the {thing} sheet has length 0"),
-            (Fault::WrongLength, thing) => {
-                write!(
-                    f,
-                    "the {thing} sheet ends within the field at byte {at}, or goes on there after its end"
-                )
+            (Fault::WrongLength(Length::Nothing), thing) => write!(f, "the {thing} sheet has length 0"),
+            (Fault::WrongLength(Length::FieldPastEnd), thing) => {
+                write!(f, "the {thing} sheet ends before the field at byte {at} does")
+            }
+            (Fault::WrongLength(Length::BytesLeftOver), thing) => {
+                write!(f, "the {thing} sheet has bytes left over from byte {at} on")
             }
             (Fault::CountOutside, thing) => {
                 write!(f, "the count at byte {at} of the {thing} sheet is outside its limits")
@@ -115,6 +115,7 @@ impl fmt::Display for Refusal {
             (Fault::NotOneEach, Thing::Weights) => write!(f, "the weights are not one for each pair"),
             (Fault::NotOneEach, _) => write!(f, "the counts are not one for each pair"),
             (Fault::EndsElsewhere, _) => write!(f, "pair {at} ends at another count than is claimed"),
+            (Fault::Other(_), thing) => write!(f, "the {thing} is refused at {at}"),
         }
     }
 }

@@ -21,10 +21,6 @@ fn of_a_sheet() {
     says(read_net(&[0, 0]), "1: the net sheet is cut short");
     says(read_weights(&[0, 0, 0, 1, 7], 2), "2: the weight sheet is not of version 1");
     says(read_movements(&[0; 4]), "3: the movement sheet has length 0");
-    says(
-        read_movements(&sheet(&[0])),
-        "3: the movement sheet ends within the field at byte 5, or goes on there after its end",
-    );
     says(begin(&example(), &mut [0]), "17: the counts are not one for each pair");
     says(read_net(&sheet(&[0, 0])), "4: the count at byte 5 of the net sheet is outside its limits");
     says(
@@ -32,6 +28,49 @@ fn of_a_sheet() {
         "5: the number at byte 7 of the weight sheet is outside its range",
     );
     says(read_weights(&weights(&[1]), 2), "17: the weights are not one for each pair");
+}
+
+/// The body of a sheet, without its length and version.
+fn body(sheet: &[u8]) -> &[u8] {
+    &sheet[5..]
+}
+
+#[test]
+fn a_wrong_length_says_which_cause_it_has() {
+    let (net, kilograms, list) = (example(), weights(&[250, 0]), movements(&[0, 0]));
+    let cut = |whole: &[u8], at: usize| sheet(&body(whole)[..at - 5]);
+    let longer = |whole: &[u8]| sheet(&[body(whole), &[7, 7]].concat());
+    let after = |whole: &[u8]| [whole, &[7]].concat();
+    says(read_net(&[0; 4]), "3: the net sheet has length 0");
+    // Cut within a field, and just before one.
+    says(size(&cut(&net, 60)), "3: the net sheet ends before the field at byte 49 does");
+    says(size(&after(&cut(&net, 49))), "3: the net sheet ends before the field at byte 49 does");
+    says(size(&longer(&net)), "3: the net sheet has bytes left over from byte 65 on");
+    says(size(&after(&net)), "3: the net sheet has bytes left over from byte 65 on");
+    says(read_weights(&cut(&kilograms, 9), 2), "3: the weight sheet ends before the field at byte 7 does");
+    says(
+        figure(&net, &cut(&kilograms, 11), &[0, 0]),
+        "3: the weight sheet ends before the field at byte 11 does",
+    );
+    says(
+        change(&net, &longer(&kilograms), Mode(0)),
+        "3: the weight sheet has bytes left over from byte 15 on",
+    );
+    says(
+        figure(&net, &after(&kilograms), &[0, 0]),
+        "3: the weight sheet has bytes left over from byte 15 on",
+    );
+    says(read_movements(&cut(&list, 8)), "3: the movement sheet has bytes left over from byte 7 on");
+    let ran = run(&net, &after(&list), &mut [3, 0]).result;
+    assert_eq!(ran.unwrap_err().fault(), Fault::WrongLength(Length::BytesLeftOver));
+    let lone = certify(&net, &sheet(&vec![0; 2 * 8_193 + 1]), &[3, 0]);
+    says(lone, "3: the movement sheet has bytes left over from byte 16391 on");
+}
+
+#[test]
+fn the_size_of_a_net() {
+    assert_eq!(size(&example()), Ok(Size { pairs: 2, modes: 1, arcs: 2 }));
+    says(size(&[0, 0]), "1: the net sheet is cut short");
 }
 
 #[test]
@@ -95,8 +134,5 @@ fn a_reader_hands_back_what_follows() {
     let both = [example(), movements(&[0])].concat();
     let rest = read_net(&both).unwrap();
     assert_eq!(read_movements(rest), Ok(&[][..]));
-    says(
-        first_marking(&both),
-        "3: the net sheet ends within the field at byte 65, or goes on there after its end",
-    );
+    says(first_marking(&both), "3: the net sheet has bytes left over from byte 65 on");
 }

@@ -22,6 +22,7 @@ mod net_sheet;
 mod replay;
 mod run;
 mod sheet;
+mod size;
 mod weight_sheet;
 
 pub mod build;
@@ -39,4 +40,5 @@ pub use movement_sheet::read_movements;
 pub use net_sheet::read_net;
 pub use replay::replay;
 pub use run::run;
+pub use size::{Size, size};
 pub use weight_sheet::read_weights;

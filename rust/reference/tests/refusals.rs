@@ -124,6 +124,7 @@ fn number_3_bytes_after_a_sheet_that_is_an_argument() {
     assert_eq!(change(&long_net, &w, 0), Err(net_answer));
     assert_eq!(is_dead(&long_net, 0), Err(net_answer));
     assert_eq!(first_dead(&long_net), Err(net_answer));
+    assert_eq!(size(&long_net), Err(net_answer));
     assert_eq!(complement(&long_net, &mut [0; 100]), Err(net_answer));
     assert_eq!(figure(&net, &long_w, &counts), Err(refused(3, WEIGHTS, 15)));
     assert_eq!(change(&net, &long_w, 0), Err(refused(3, WEIGHTS, 15)));

@@ -22,6 +22,7 @@ fn pairs_and_modes_are_numbered_across_the_whole_net() {
     let all = run(&net.sheet(), &movements(&[0, 1, 2, 3, 4]), &mut marking);
     assert_eq!((all, marking), ((5, ACCEPTED), [3, 2, 0, 0, 1]));
     assert_eq!(test(&net.sheet(), &marking, 5), refused(6, ARGUMENT, 0));
+    assert_eq!(size(&net.sheet()), Ok(Size { pairs: 5, modes: 5, arcs: 3 }));
 }
 
 #[test]
@@ -42,6 +43,7 @@ fn a_net_without_transitions_reads_and_complements() {
     assert_eq!(run(&net, &movements(&[0]), &mut [2]), (0, refused(6, MOVEMENTS, 0)));
     assert_eq!(complement_of(&net), PlainNet::plain(0, &[(OPEN, 2), (OPEN, 3)], &[]).sheet());
     assert_eq!(first_dead(&net), Ok(None));
+    assert_eq!(size(&net), Ok(Size { pairs: 1, modes: 0, arcs: 0 }));
 }
 
 #[test]

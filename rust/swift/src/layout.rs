@@ -30,6 +30,11 @@ pub fn read_net(run: &[u8]) -> (Answer, usize) {
     }
 }
 
+/// How many pairs, modes and arcs a net has: the net's refusals, then these.
+pub fn size(net: &[u8]) -> Result<[usize; 3], Answer> {
+    whole_net(net).map(|layout| [layout.pairs, layout.modes, layout.arcs.len()])
+}
+
 /// A net sheet that is a call's whole argument: left-over bytes are 3 at 4 + L.
 pub fn whole_net(run: &[u8]) -> Result<Layout<'_>, Answer> {
     let layout = net_at(run)?;

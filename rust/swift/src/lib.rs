@@ -24,7 +24,7 @@ mod generator;
 
 pub use answer::{Answer, LARGEST};
 pub use complement::complement;
-pub use layout::read_net;
+pub use layout::{read_net, size};
 pub use replay::replay;
 pub use run::run;
 

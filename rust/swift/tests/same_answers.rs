@@ -57,6 +57,8 @@ fn same_read(bytes: &[u8], seen: &mut BTreeSet<u32>) {
     let ((swift, taken), (plain, plainly)) = (swift::read_net(bytes), reference::read_net(bytes));
     assert_eq!((of_swift(swift), taken), (of_reference(plain), plainly), "{bytes:?}");
     seen.insert(swift.number);
+    let plain = reference::size(bytes).map(|size| [size.pairs, size.modes, size.arcs]);
+    assert_eq!(swift::size(bytes).map_err(of_swift), plain.map_err(of_reference), "{bytes:?}");
 }
 
 fn same_run(net: &[u8], list: &[u8], counts: &[u32], seen: &mut BTreeSet<u32>) {
