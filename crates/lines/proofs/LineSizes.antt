@@ -1,18 +1,11 @@
--- How many bytes a figure and an accepted line have at most.
+-- How many bytes an accepted line has at most.
 use Prim.Native.Nat.{ℕ, _≤_, _<_}
 use lib.IntN.{ℤ, natAbs}
 use lib.ListN.{length, length-append}
-use lib.Signed.{natAbs-le}
-use mir.Syntax.{w64}
-use mir.Val.{SFits}
 use native.Mathlib.Omega.{arith}
 use Rattle.model.specs.declared.Mode.{Mode}
-use Rattle.text.specs.Decimals.{signedDecimal}
 use Rattle.text.proofs.Decimals.{length-at-most, signed-length}
 use Rattle.lines.specs.Lines.{line, acceptedLine}
-
-pub signed-size : {z : ℤ} → SFits w64 z → length (signedDecimal z) ≤ 20
-signed-size {z} fits = signed-length z 18 (omega (arith, natAbs-le z (fits .sfits)))
 
 -- of the first 8,192 movements, with a mode that is there and a figure of at most 256 pairs
 pub accepted-size : (place : ℕ) (t : Mode) (figure : ℤ) → place ≤ 8192 → t .0 < 256 → natAbs figure ≤ 256000000000000 → length (acceptedLine place t figure) ≤ 28

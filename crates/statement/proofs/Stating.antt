@@ -1,43 +1,31 @@
 -- The text at the front of a slice that has room for every text.
-use Prim.Native.Nat.{ℕ, _≤_, _<_}
-use mathlib.Core.Path.{_≡_, refl, sym, _∙_, ap}
+use Prim.Native.Nat.{ℕ, _+_, _≤_, _<_}
+use mathlib.Core.Path.{_≡_, refl, _∙_, ap}
 use mathlib.Core.Bool.{Bool, true, false}
-use mathlib.Core.List.{List, []}
+use mathlib.Core.List.{List}
 use lib.Dec.{ltb}
 use lib.ListN.{length, length-append}
 use native.Mathlib.Nat.{zero-add}
 use native.Mathlib.Omega.{arith}
 use borrow.Author.Tests.{lt-ltb, le-ltb}
-use Rattle.text.specs.declared.Put.{Put}
-use Rattle.text.specs.declared.Put.the-variants.{To, Full}
-use Rattle.text.specs.Puts.{Puts}
-use Rattle.text.proofs.Puts.{into-within, to-within, to-found, to-full}
+use Rattle.text.specs.Puts.{Writes}
+use Rattle.text.proofs.Puts.{into-within}
 use Rattle.statement.specs.declared.Stated.{Stated}
 use Rattle.statement.specs.declared.Stated.the-variants.{Written, NoRoom}
 use Rattle.statement.specs.Contracts.{StatementAllows}
-use Rattle.lines.specs.Continues.{Continues}
 use Rattle.statement.specs.Replay.{replayText, room, stated, statedIn}
 
 pub too-short : (input out : List ℕ) → length out < room → StatementAllows input out (NoRoom, out)
 unfolding stated statedIn
 too-short input out h = rw (lt-ltb (length out) room h) (refl, refl)
 
-module _ (input : List ℕ) {out now : List ℕ} {put : Put} (h : room ≤ length out) (p : Continues room out (To 0) (replayText input) put now) where
-  whole : Puts out 0 (replayText input) put now
-  whole =
-      p .on out 0 []
-      (record { answers = sym (to-within out 0 [] (omega arith)); writes = λ l. sym (into-within out 0 [] (omega arith)); long = refl })
-
-  pub text-stated : {end : ℕ} → put ≡ To end → StatementAllows input out (Written end, now)
-  unfolding stated statedIn
-  text-stated e =
-      let found = to-found out 0 (replayText input) (sym (whole .answers) ∙ e) in
-      rw (le-ltb (length out) room h, ← zero-add (length (replayText input)))
-      (ap Written (found .1), whole .writes (found .0) ∙ into-within out 0 (replayText input) (found .0))
-
-  -- there is room
-  pub never-full : put ≡ Full → ⊥
-  never-full e = omega (arith, to-full out 0 (replayText input) (sym (whole .answers) ∙ e), p .within)
+pub text-stated : (input : List ℕ) {out now : List ℕ} {end : ℕ} → room ≤ length out → Writes room out 0 (replayText input) end now
+    → StatementAllows input out (Written end, now)
+unfolding stated statedIn
+text-stated input {out} h p =
+    let text = replayText input in
+    let e : 0 + length text ≡ length text = zero-add (length text) in
+    rw (le-ltb (length out) room h) (ap Written (p .next ∙ e), p .holds ∙ rw (into-within out 0 text (omega (arith, p .next, p .fits)), e))
 
 -- what was written lies within the slice
 pub written-within : (input out : List ℕ) {now : List ℕ} {answer : Stated} {end : ℕ} → StatementAllows input out (answer, now) → answer ≡ Written end → end ≤ length now

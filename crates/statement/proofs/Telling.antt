@@ -27,12 +27,11 @@ use Rattle.sheets.specs.Decoded.{netOf, weightsOf, movementsOf}
 use Rattle.sheets.proofs.Lists.{movements-length, movements-within}
 use Rattle.opened.proofs.Shapes.{sizes}
 use Rattle.firing.specs.Leaving.{written, Leaves}
-use Rattle.text.specs.declared.Put.{Put}
+use Rattle.text.specs.Puts.{Writes}
 use Rattle.lines.specs.Lines.{acceptedLine, refusedLine, endLine}
 use Rattle.statement.specs.Parts.{Read}
-use Rattle.lines.specs.Continues.{Continues}
 use Rattle.statement.specs.Replay.{unlessRefused, linesFrom}
-use Rattle.lines.proofs.Continued.{_and_, nothing, within}
+use Rattle.text.proofs.Writing.{_and_, nothing, within, length-kept}
 use Rattle.lines.proofs.LineSizes.{accepted-size}
 use Rattle.statement.proofs.Weighed.{figure-size}
 
@@ -54,16 +53,16 @@ module _ (net : PNet) (weights : List ℤ) (ts : List Mode) (k : ℕ) (m : List 
     lines-stop r e = rw (drop-cons ts k (modeNo 0) h, q, e)
 
 -- k movements have led from m₀ to m with the figure z, and their lines from out₀ to out
-pub record Along (net : PNet) (weights : List ℤ) (ts : List Mode) (m₀ out₀ : List ℕ) (before : Put) (k : ℕ) (m : List ℕ) (z : ℤ) (put : Put) (out : List ℕ) : Type 0 where
+pub record Along (net : PNet) (weights : List ℤ) (ts : List Mode) (m₀ out₀ : List ℕ) (at k : ℕ) (m : List ℕ) (z : ℤ) (end : ℕ) (out : List ℕ) : Type 0 where
   pub marking : Marking net m
   pub weighs : z ≡ figure net weights m
   pub lines : List ℕ
-  pub told : Continues (28 * k) out₀ before lines put out
+  pub told : Writes (28 * k) out₀ at lines end out
   pub rest : lines ++ linesFrom net weights k (drop k ts) m ≡ linesFrom net weights 0 ts m₀
 
-pub along-none : {net : PNet} {weights : List ℤ} {ts : List Mode} {m out : List ℕ} {before : Put} {z : ℤ} → Marking net m → z ≡ figure net weights m
-    → Along net weights ts m out before 0 m z before out
-along-none h e = record { marking = h; weighs = e; lines = []; told = nothing; rest = refl }
+pub along-none : {net : PNet} {weights : List ℤ} {ts : List Mode} {m out : List ℕ} {at : ℕ} {z : ℤ} → Marking net m → z ≡ figure net weights m
+    → at ≤ length out → Along net weights ts m out at 0 m z at out
+along-none h e l = record { marking = h; weighs = e; lines = []; told = nothing l; rest = refl }
 
 -- the lines of at most 8,192 accepted movements, `refused` and `end`
 abbrev pub mostLines : ℕ
@@ -86,18 +85,22 @@ module _ {s : List ℕ} {shape : NetShape} {w movements : List ℕ} (read : Read
   pub at-most : count ≤ 8192
   at-most = rw (← list-length) (movements-within movements (read .listed))
 
-  module _ {m₀ out₀ : List ℕ} {before : Put} {k : ℕ} {m : List ℕ} {z : ℤ} {put : Put} {out : List ℕ} (along : Along net weights ts m₀ out₀ before k m z put out) where
+  module _ {m₀ out₀ : List ℕ} {at k : ℕ} {m : List ℕ} {z : ℤ} {end : ℕ} {out : List ℕ} (along : Along net weights ts m₀ out₀ at k m z end out) where
     abbrev whole : List ℕ
     whole = linesFrom net weights 0 ts m₀
 
+    -- there is room for the last lines, and so for an accepted one
+    pub along-room : k ≤ count → at + mostLines ≤ length out₀ → end + 138 ≤ length out
+    along-room h l = rw (length-kept (along .told)) (omega (arith, along .told .next, along .told .within, at-most))
+
     -- what ends the list, told after what is written
-    ended : {most : ℕ} {last : List ℕ} {answer : Put} {now : List ℕ} → k ≤ count → most ≤ 138 → linesFrom net weights k (drop k ts) m ≡ last
-        → Continues most out put last answer now → Continues mostLines out₀ before whole answer now
+    ended : {most : ℕ} {last : List ℕ} {after : ℕ} {now : List ℕ} → k ≤ count → most ≤ 138 → linesFrom net weights k (drop k ts) m ≡ last
+        → Writes most out end last after now → Writes mostLines out₀ at whole after now
     ended h l e p =
         let all = along .told and p in
         rw (← along .rest, e) (within all (omega (arith, all .within, at-most)))
 
-    pub along-ends : {answer : Put} {now : List ℕ} → k ≤ count → count ≤ k → Continues 46 out put (endLine k z) answer now → Continues mostLines out₀ before whole answer now
+    pub along-ends : {after : ℕ} {now : List ℕ} → k ≤ count → count ≤ k → Writes 46 out end (endLine k z) after now → Writes mostLines out₀ at whole after now
     along-ends h l p = ended h (omega arith) (lines-end net weights ts k m (rw list-length l)) (rw (along .weighs) at p)
 
     module _ {t : Mode} {a : Answer} {left : List ℕ} (h : k < count) (q : t ≡ getD ts k (modeNo 0))
@@ -105,8 +108,8 @@ module _ {s : List ℕ} {shape : NetShape} {w movements : List ℕ} (read : Read
       there : k < length ts
       there = rw list-length h
 
-      pub along-stops : {r : Refusal} {answer : Put} {now : List ℕ} → a ≡ Refused r → Continues 138 out put (refusedLine (k + 1) t r ++ endLine k z) answer now
-          → Continues mostLines out₀ before whole answer now
+      pub along-stops : {r : Refusal} {after : ℕ} {now : List ℕ} → a ≡ Refused r → Writes 138 out end (refusedLine (k + 1) t r ++ endLine k z) after now
+          → Writes mostLines out₀ at whole after now
       along-stops {r} e p =
           ended (omega arith) (omega arith) (lines-stop net weights ts k m t there (sym q) r (answer-refused _ (sym (move .answers) ∙ e)))
           (rw (along .weighs) at p)
@@ -130,8 +133,8 @@ module _ {s : List ℕ} {shape : NetShape} {w movements : List ℕ} (read : Read
         pub along-size : natAbs (z +ℤ change net weights t) ≤ 256000000000000
         along-size = rw next-weighs (figure-size (read .opened) w (read .weighed) kept)
 
-        pub along-more : {next : ℤ} {answer : Put} {now : List ℕ} → next ≡ z +ℤ change net weights t → Continues 84 out put (acceptedLine (k + 1) t next) answer now
-            → Along net weights ts m₀ out₀ before (k + 1) left next answer now
+        pub along-more : {next : ℤ} {after : ℕ} {now : List ℕ} → next ≡ z +ℤ change net weights t → Writes 84 out end (acceptedLine (k + 1) t next) after now
+            → Along net weights ts m₀ out₀ at (k + 1) left next after now
         along-more {next} f p =
             let is : next ≡ figure net weights (fired net t m) = f ∙ next-weighs in
             let size = accepted-size (k + 1) t next (omega (arith, at-most)) (omega (arith, along-mode, sizes (read .opened) .modesWithin)) (rw f along-size) in

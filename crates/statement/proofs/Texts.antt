@@ -13,27 +13,26 @@ use Rattle.model.specs.Refusals.{answer}
 use Rattle.model.specs.Nets.{PNet}
 use Rattle.model.specs.Figures.{figure}
 use Rattle.model.proofs.Refusals.{answer-refused, answer-none}
-use Rattle.text.specs.declared.Put.{Put}
+use Rattle.text.specs.Puts.{Writes}
 use Rattle.lines.specs.Lines.{startLine, badLine}
-use Rattle.lines.specs.Continues.{Continues}
 use Rattle.statement.specs.Replay.{unlessRefused, linesFrom, runText, room}
-use Rattle.lines.proofs.Continued.{_and_, within}
+use Rattle.text.proofs.Writing.{_and_, within}
 use Rattle.statement.proofs.Telling.{mostLines}
 
-module _ {out : List ℕ} {before put : Put} {now : List ℕ} where
+module _ {out : List ℕ} {after : ℕ} {now : List ℕ} where
   module _ {a : Answer} (o : Option Refusal) (text : List ℕ) (e : a ≡ answer o) where
-    pub bad-told : {r : Refusal} → a ≡ Refused r → Continues 67 out before (badLine r) put now → Continues room out before (unlessRefused o text badLine) put now
+    pub bad-told : {r : Refusal} → a ≡ Refused r → Writes 67 out 0 (badLine r) after now → Writes room out 0 (unlessRefused o text badLine) after now
     unfolding unlessRefused
     bad-told h p = rw (answer-refused o (sym e ∙ h)) (within p (omega (arith, p .within)))
 
-    pub text-told : a ≡ Accepted → Continues room out before text put now → Continues room out before (unlessRefused o text badLine) put now
+    pub text-told : a ≡ Accepted → Writes room out 0 text after now → Writes room out 0 (unlessRefused o text badLine) after now
     unfolding unlessRefused
     text-told h p = rw (answer-none o e h) p
 
   -- `start`, then the movements
-  pub run-told : (net : PNet) (weights : List ℤ) (ts : List Mode) {m : List ℕ} {z : ℤ} {then : Put} {middle : List ℕ} → m ≡ net .start → z ≡ figure net weights m
-      → Continues 27 out before (startLine z) then middle → Continues mostLines middle then (linesFrom net weights 0 ts m) put now
-      → Continues room out before (runText net weights ts) put now
+  pub run-told : (net : PNet) (weights : List ℤ) (ts : List Mode) {m : List ℕ} {z : ℤ} {then : ℕ} {middle : List ℕ} → m ≡ net .start → z ≡ figure net weights m
+      → Writes 27 out 0 (startLine z) then middle → Writes mostLines middle then (linesFrom net weights 0 ts m) after now
+      → Writes room out 0 (runText net weights ts) after now
   unfolding runText
   run-told net weights ts e f p q =
       let all = rw (f, e) at p and rw e at q in

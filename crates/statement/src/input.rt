@@ -11,17 +11,17 @@ use opened::shape::shape_of;
 use opened::starts::starts;
 use sheets::whole::after;
 use sheets::whole::whole_movements;
-use text::Put;
 use weigh::sums::figure_of;
 ghost use mathlib.Core.Path.{_≡_};
 ghost use mathlib.Core.Option.{none};
+ghost use Prim.Native.Nat.{_≤_};
 ghost use lib.ListN.{length};
 ghost use Rattle.model.specs.Refusals.{answer};
 ghost use Rattle.lists.specs.Weights.{weightsRefusal};
+ghost use Rattle.text.specs.Puts.{Writes};
 ghost use Rattle.sheets.specs.Decoded.{netOf, weightsOf, movementsOf};
 ghost use Rattle.opened.specs.Shape.{Open};
 ghost use Rattle.statement.specs.Parts.{Read};
-ghost use Rattle.lines.specs.Continues.{Continues};
 ghost use Rattle.statement.specs.Replay.{runText, movementsText, weightsText, sheetsText, room};
 
 // The net's first marking and its figure, then the movements.
@@ -32,15 +32,15 @@ fn put_run(
     movements: &[u8],
     marking: &mut [u32],
     out: &mut [u8],
-    before: Put,
-) -> Put
+) -> usize
     requires { ⌜ Read (now s) net (now weights) (now movements) ⌝ }
     requires { ⌜ length (now marking) ≡ net .pairs ⌝ }
-    ensures { λ r. ⌜ Continues room (now (out .entry)) before (runText (netOf (now (s .entry))) (weightsOf (now (weights .entry))) (movementsOf (now (movements .entry)))) r (now (out .exit)) ⌝ }
+    requires { ⌜ room ≤ length (now out) ⌝ }
+    ensures { λ r. ⌜ Writes room (now (out .entry)) 0 (runText (netOf (now (s .entry))) (weightsOf (now (weights .entry))) (movementsOf (now (movements .entry)))) r (now (out .exit)) ⌝ }
 {
     write_start(s, net, marking);
     let figure = figure_of(s, net, weights, marking);
-    let start = put_start(out, before, figure);
+    let start = put_start(out, 0, figure);
     let starts = starts(s, net);
     put_movements(
         s,
@@ -62,47 +62,41 @@ fn put_movement_sheet(
     weights: &[u8],
     movements: &[u8],
     out: &mut [u8],
-    before: Put,
-) -> Put
+) -> usize
     requires { ⌜ Open (now s) net ⌝ }
     requires { ⌜ weightsRefusal (net .pairs) (now weights) ≡ none ⌝ }
-    ensures { λ r. ⌜ Continues room (now (out .entry)) before (movementsText (netOf (now (s .entry))) (weightsOf (now (weights .entry))) (now (movements .entry))) r (now (out .exit)) ⌝ }
+    requires { ⌜ room ≤ length (now out) ⌝ }
+    ensures { λ r. ⌜ Writes room (now (out .entry)) 0 (movementsText (netOf (now (s .entry))) (weightsOf (now (weights .entry))) (now (movements .entry))) r (now (out .exit)) ⌝ }
 {
     let answer = whole_movements(movements);
     if let Answer::Refused(refusal) = answer {
-        return put_bad(out, before, refusal);
+        return put_bad(out, 0, refusal);
     }
     let pairs = net.pairs;
     let mut counts = [0u32; 256];
-    put_run(
-        s,
-        net,
-        weights,
-        movements,
-        &mut counts[..pairs],
-        out,
-        before,
-    )
+    put_run(s, net, weights, movements, &mut counts[..pairs], out)
 }
 
-fn put_weight_sheet(s: &[u8], net: NetShape, weights: &[u8], out: &mut [u8], before: Put) -> Put
+fn put_weight_sheet(s: &[u8], net: NetShape, weights: &[u8], out: &mut [u8]) -> usize
     requires { ⌜ Open (now s) net ⌝ }
-    ensures { λ r. ⌜ Continues room (now (out .entry)) before (weightsText (netOf (now (s .entry))) (now (weights .entry))) r (now (out .exit)) ⌝ }
+    requires { ⌜ room ≤ length (now out) ⌝ }
+    ensures { λ r. ⌜ Writes room (now (out .entry)) 0 (weightsText (netOf (now (s .entry))) (now (weights .entry))) r (now (out .exit)) ⌝ }
 {
     let answer = read_weights(weights, net.pairs);
     if let Answer::Refused(refusal) = answer {
-        return put_bad(out, before, refusal);
+        return put_bad(out, 0, refusal);
     }
-    put_movement_sheet(s, net, weights, after(weights, answer), out, before)
+    put_movement_sheet(s, net, weights, after(weights, answer), out)
 }
 
-pub(crate) fn put_sheets(input: &[u8], out: &mut [u8], before: Put) -> Put
-    ensures { λ r. ⌜ Continues room (now (out .entry)) before (sheetsText (now (input .entry))) r (now (out .exit)) ⌝ }
+pub(crate) fn put_sheets(input: &[u8], out: &mut [u8]) -> usize
+    requires { ⌜ room ≤ length (now out) ⌝ }
+    ensures { λ r. ⌜ Writes room (now (out .entry)) 0 (sheetsText (now (input .entry))) r (now (out .exit)) ⌝ }
 {
     let answer = read_net(input);
     if let Answer::Refused(refusal) = answer {
-        return put_bad(out, before, refusal);
+        return put_bad(out, 0, refusal);
     }
     let net = shape_of(input);
-    put_weight_sheet(input, net, after(input, answer), out, before)
+    put_weight_sheet(input, net, after(input, answer), out)
 }

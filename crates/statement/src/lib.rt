@@ -4,9 +4,10 @@ mod movements;
 
 use crate::input::put_sheets;
 use lines::put_long;
-use text::Put;
+ghost use Prim.Native.Nat.{_≤_};
+ghost use lib.ListN.{length};
+ghost use Rattle.text.specs.Puts.{Writes};
 ghost use Rattle.statement.specs.Contracts.{StatementAllows};
-ghost use Rattle.lines.specs.Continues.{Continues};
 ghost use Rattle.statement.specs.Replay.{replayText, room};
 
 // How many bytes were written, or a slice too short for every text: then none was.
@@ -15,13 +16,14 @@ pub enum Stated {
     NoRoom,
 }
 
-fn put_text(input: &[u8], out: &mut [u8], before: Put) -> Put
-    ensures { λ r. ⌜ Continues room (now (out .entry)) before (replayText (now (input .entry))) r (now (out .exit)) ⌝ }
+fn put_text(input: &[u8], out: &mut [u8]) -> usize
+    requires { ⌜ room ≤ length (now out) ⌝ }
+    ensures { λ r. ⌜ Writes room (now (out .entry)) 0 (replayText (now (input .entry))) r (now (out .exit)) ⌝ }
 {
     if 65_536 < input.len() {
-        return put_long(out, before);
+        return put_long(out, 0);
     }
-    put_sheets(input, out, before)
+    put_sheets(input, out)
 }
 
 // The text that `replay` prints for this input.
@@ -31,9 +33,5 @@ pub fn statement(input: &[u8], out: &mut [u8]) -> Stated
     if out.len() < 262_144 {
         return Stated::NoRoom;
     }
-    let put = put_text(input, out, Put::To(0));
-    match put {
-        Put::To(end) => Stated::Written(end),
-        Put::Full => Stated::NoRoom,
-    }
+    Stated::Written(put_text(input, out))
 }

@@ -10,22 +10,22 @@ use model::Refusal;
 use model::Thing;
 use opened::listed::movement;
 use opened::shape::NetShape;
-use text::Put;
 use weigh::sums::change_of;
 ghost use mathlib.Core.Path.{_≡_};
 ghost use mathlib.Core.List.{_++_};
 ghost use mathlib.Core.Option.{none};
 ghost use Prim.Native.Nat.{_+_, _*_, _≤_, _<_};
 ghost use lib.IntN.{natAbs, _+ℤ_};
+ghost use lib.ListN.{length};
 ghost use Rattle.model.specs.Markings.{Marking};
 ghost use Rattle.model.specs.Figures.{figure as figureAt, change};
 ghost use Rattle.lists.specs.Weights.{weightsRefusal};
 ghost use Rattle.sheets.specs.Decoded.{netOf, weightsOf, movementsOf};
 ghost use Rattle.opened.specs.Shape.{Open};
 ghost use Rattle.opened.specs.Starts.{StartsAre};
+ghost use Rattle.text.specs.Puts.{Writes};
 ghost use Rattle.lines.specs.Lines.{refusedLine, endLine};
 ghost use Rattle.statement.specs.Parts.{Read};
-ghost use Rattle.lines.specs.Continues.{Continues};
 ghost use Rattle.statement.specs.Replay.{linesFrom};
 
 // The figure once the mode has fired: at most 256 pairs of a weight and a count within 1,000,000, so the sum is exact.
@@ -50,16 +50,17 @@ fn add_change(
 // A refused movement is the last: "Running stops at the first refused movement".
 fn put_stop(
     out: &mut [u8],
-    before: Put,
+    at: usize,
     accepted: u64,
     mode: Mode,
     refusal: Refusal,
     figure: i64,
-) -> Put
+) -> usize
     requires { ⌜ accepted < 8192 ⌝ }
-    ensures { λ r. ⌜ Continues 138 (now (out .entry)) before (refusedLine (accepted + 1) mode refusal ++ endLine accepted figure) r (now (out .exit)) ⌝ }
+    requires { ⌜ at + 138 ≤ length (now out) ⌝ }
+    ensures { λ r. ⌜ Writes 138 (now (out .entry)) at (refusedLine (accepted + 1) mode refusal ++ endLine accepted figure) r (now (out .exit)) ⌝ }
 {
-    let line = put_refused(out, before, accepted + 1, mode, refusal);
+    let line = put_refused(out, at, accepted + 1, mode, refusal);
     put_end(out, line, accepted, figure)
 }
 
@@ -71,28 +72,29 @@ pub(crate) fn put_movements(
     movements: &[u8],
     marking: &mut [u32],
     out: &mut [u8],
-    before: Put,
+    at: usize,
     first: i64,
-) -> Put
+) -> usize
     requires { ⌜ Read (now s) net (now weights) (now movements) ⌝ }
     requires { ⌜ StartsAre (netOf (now s) .arcs) (now starts) ⌝ }
     requires { ⌜ Marking (netOf (now s)) (now marking) ⌝ }
     requires { ⌜ first ≡ figureAt (netOf (now s)) (weightsOf (now weights)) (now marking) ⌝ }
-    ensures { λ r. ⌜ Continues (28 * 8192 + 138) (now (out .entry)) before (linesFrom (netOf (now (s .entry))) (weightsOf (now (weights .entry))) 0 (movementsOf (now (movements .entry))) (now (marking .entry))) r (now (out .exit)) ⌝ }
+    requires { ⌜ at + (28 * 8192 + 138) ≤ length (now out) ⌝ }
+    ensures { λ r. ⌜ Writes (28 * 8192 + 138) (now (out .entry)) at (linesFrom (netOf (now (s .entry))) (weightsOf (now (weights .entry))) 0 (movementsOf (now (movements .entry))) (now (marking .entry))) r (now (out .exit)) ⌝ }
 {
     let count = movement_count(movements);
-    let mut put = before;
+    let mut end = at;
     let mut figure = first;
     let mut k = 0;
     while k < count {
         let mode = movement(movements, k);
         let answer = advance(s, net, starts, Thing::Movements, mode, marking);
         if let Answer::Refused(refusal) = answer {
-            return put_stop(out, put, k as u64, mode, refusal, figure);
+            return put_stop(out, end, k as u64, mode, refusal, figure);
         }
         figure = add_change(s, net, starts, weights, mode, figure);
         k += 1;
-        put = put_accepted(out, put, k as u64, mode, figure);
+        end = put_accepted(out, end, k as u64, mode, figure);
     }
-    put_end(out, put, k as u64, figure)
+    put_end(out, end, k as u64, figure)
 }

@@ -2,3 +2,4 @@ pub mod Decimals
 pub mod LastDigits
 pub mod Puts
 pub mod Sizes
+pub mod Writing

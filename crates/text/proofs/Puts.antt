@@ -1,6 +1,6 @@
 -- The laws of puts: with room and without, and a put after a put.
 use Prim.Native.Nat.{ℕ, suc, _+_, _≤_, _<_}
-use mathlib.Core.Path.{_≡_, refl, sym, _∙_, ap}
+use mathlib.Core.Path.{_≡_, refl, sym, _∙_}
 use mathlib.Core.Bool.{Bool, true, false}
 use mathlib.Core.Logic.{_⊎_, inl, inr, ⊎-elim}
 use mathlib.Core.List.{List, [], _∷_, _++_, append-assoc}
@@ -13,7 +13,7 @@ use native.Mathlib.Omega.{arith}
 use borrow.Author.Tests.{leb-true, leb-false, le-leb, lt-leb}
 use Rattle.text.specs.declared.Put.{Put}
 use Rattle.text.specs.declared.Put.the-variants.{To, Full}
-use Rattle.text.specs.Puts.{endWithin, putTo, putInto, Puts}
+use Rattle.text.specs.Puts.{endWithin, putTo, putInto}
 
 le-or-lt : (a b : ℕ) → (a ≤ b) ⊎ (b < a)
 le-or-lt a b = go (leb a b) refl
@@ -57,14 +57,6 @@ module _ (out : List ℕ) (at : ℕ) (bytes : List ℕ) where
   unfolding putTo
   to-within h = end-within _ _ _ h
 
-  pub to-beyond : length out < at + length bytes → putTo out at bytes ≡ Full
-  unfolding putTo
-  to-beyond h = end-beyond _ _ _ h
-
-  pub to-found : {next : ℕ} → putTo out at bytes ≡ To next → (at + length bytes ≤ length out) × (next ≡ at + length bytes)
-  unfolding putTo
-  to-found e = end-found _ _ _ e
-
   pub to-full : putTo out at bytes ≡ Full → length out < at + length bytes
   unfolding putTo
   to-full e = end-full _ _ _ e
@@ -96,10 +88,6 @@ drop-past xs ys n k e = rw (← e) (drop-append-add xs ys k)
 
 module _ (out : List ℕ) (at : ℕ) (xs ys : List ℕ) where
   -- a put where the one before ended
-  pub to-more : putTo (putInto out at xs) (at + length xs) ys ≡ putTo out at (xs ++ ys)
-  unfolding putTo endWithin
-  to-more = rw (into-length out at xs, length-append, add-assoc)
-
   pub into-more : at + length (xs ++ ys) ≤ length out → putInto (putInto out at xs) (at + length xs) ys ≡ putInto out at (xs ++ ys)
   into-more h =
       let n = at + length xs in
@@ -112,33 +100,10 @@ module _ (out : List ℕ) (at : ℕ) (xs ys : List ℕ) where
       rw (second, into-within out at (xs ++ ys) h, first, take-at head tail n long, drop-past head tail n (length ys) long, drop-drop)
       (rw (length-append xs ys, add-assoc) (simp append-assoc))
 
+pub into-one : (out : List ℕ) (at b : ℕ) → at + 1 ≤ length out → set out at b ≡ putInto out at (b ∷ [])
+into-one out at b h = rw (into-within out at (b ∷ []) h, append-snoc, add-one) (set-split out at b (omega arith))
+
 -- a byte stored before the rest is put
 pub into-cons : (out : List ℕ) (at b : ℕ) (bytes : List ℕ) → at + suc (length bytes) ≤ length out
     → putInto (set out at b) (at + 1) bytes ≡ putInto out at (b ∷ bytes)
-into-cons out at b bytes h =
-    let one : set out at b ≡ putInto out at (b ∷ []) =
-    rw (into-within out at (b ∷ []) (omega arith), append-snoc, add-one) (set-split out at b (omega arith)) in
-    rw one (into-more out at (b ∷ []) bytes h)
-
-module _ {out : List ℕ} {at : ℕ} {first : Put} {now : List ℕ} where
-  pub one-put : {bytes : List ℕ} → first ≡ putTo out at bytes → now ≡ putInto out at bytes → Puts out at bytes first now
-  one-put {bytes} e f = record { answers = e; writes = λ h. f; long = ap length f ∙ into-length out at bytes }
-
-  -- puts, and more of them where they ended
-  pub put-more : {next : ℕ} {xs ys : List ℕ} {answer : Put} {then : List ℕ}
-      → Puts out at xs first now → first ≡ To next → Puts now next ys answer then → Puts out at (xs ++ ys) answer then
-  put-more {xs = xs} {ys} p found q =
-      let room = to-found out at xs (sym (p .answers) ∙ found) in
-      let e = p .writes (room .0) in
-      record {
-        answers = q .answers ∙ rw (e, room .1) (to-more out at xs ys);
-        writes = λ h. q .writes (rw (room .1, p .long) (omega (arith, length-append xs ys))) ∙ rw (e, room .1) (into-more out at xs ys h);
-        long = q .long ∙ p .long;
-      }
-
-  -- puts that found no room, and those that were to follow
-  pub put-stops : {xs : List ℕ} (ys : List ℕ) → first ≡ Full → Puts out at xs first now → Puts out at (xs ++ ys) first now
-  put-stops {xs} ys full p =
-      let short = to-full out at xs (sym (p .answers) ∙ full) in
-      let beyond : length out < at + length (xs ++ ys) = omega (arith, length-append xs ys) in
-      record { answers = full ∙ sym (to-beyond out at (xs ++ ys) beyond); writes = λ h. absurd (omega arith); long = p .long }
+into-cons out at b bytes h = rw (into-one out at b (omega arith)) (into-more out at (b ∷ []) bytes h)

@@ -32,9 +32,16 @@ abbrev readBack : ℤ → ℤ
 readBack z = toZ w64 (ofZ w64 z)
 
 module _ {z : ℤ} (fits : SFits w64 z) where
-  pub signed-read :
+  signed-read :
       signedDecimal z ≡ cond (ltZ (readBack z) (pos 0)) (minus ∷ decimal (natAbs (readBack z))) (decimal (natAbs (readBack z)))
   signed-read = ap signedDecimal (sym (toZ-ofZ fits)) ∙ signed (readBack z)
+
+  -- by the sign that was tested and the size that was found
+  pub signed-below : {n : ℕ} → ltZ (readBack z) (pos 0) ≡ true → n ≡ natAbs (readBack z) → signedDecimal z ≡ minus ∷ decimal n
+  signed-below below e = signed-read ∙ rw (below, e)
+
+  pub signed-not-below : {n : ℕ} → ltZ (readBack z) (pos 0) ≡ false → n ≡ natAbs (readBack z) → signedDecimal z ≡ decimal n
+  signed-not-below above e = signed-read ∙ rw (above, e)
 
   pub not-below-read : ltZ (readBack z) (pos 0) ≡ false → T (nonNeg (readBack z)) × Fits w64 (natAbs (readBack z))
   not-below-read t = (not-below (readBack z) t, rw (toZ-ofZ fits) (fits-natAbs tt fits))

@@ -20,9 +20,9 @@ putTo out at bytes = endWithin (length out) at (length bytes)
 unfoldable pub putInto : List ℕ → ℕ → List ℕ → List ℕ
 putInto out at bytes = cond (leb (at + length bytes) (length out)) (take at out ++ bytes ++ drop (at + length bytes) out) out
 
--- Puts one after another, each where the one before ended, up to the first without room: the answer is that of one put of all the bytes, and
--- where there is room for all of them, so is what the slice then holds.
-pub record Puts (out : List ℕ) (at : ℕ) (bytes : List ℕ) (answer : Put) (now : List ℕ) : Type 0 where
-  pub answers : answer ≡ putTo out at bytes
-  pub writes : at + length bytes ≤ length out → now ≡ putInto out at bytes
-  pub long : length now ≡ length out
+-- Bytes, at most `most` of them, written from `at` on into a slice that has room for them: `after` is the position after them, and `now` what the slice then holds.
+pub record Writes (most : ℕ) (out : List ℕ) (at : ℕ) (bytes : List ℕ) (after : ℕ) (now : List ℕ) : Type 0 where
+  pub next : after ≡ at + length bytes
+  pub fits : after ≤ length out
+  pub holds : now ≡ putInto out at bytes
+  pub within : length bytes ≤ most

@@ -1,13 +1,13 @@
 // Runs of bytes and numbers in decimal, put into a slice that the caller lends: the parts of a line of `replay` (document 01, "`replay`").
 mod digits;
+pub mod writes;
 
 use crate::digits::digit_count;
+use crate::digits::size;
 use crate::digits::write_digits;
+use crate::writes::write_bytes;
 ghost use mathlib.Core.Path.{_≡_};
 ghost use mathlib.Core.List.{_∷_};
-ghost use Prim.Native.Nat.{_+_, _≤_};
-ghost use lib.IntN.{natAbs};
-ghost use lib.ListN.{length};
 ghost use Rattle.text.specs.Decimals.{decimal, minus};
 ghost use Rattle.text.specs.Puts.{endWithin, putTo, putInto};
 ghost use Rattle.text.specs.Contracts.{PutBytesAllows, PutDecimalAllows, PutSignedAllows};
@@ -31,17 +31,6 @@ fn end_within(len: usize, at: usize, count: usize) -> Put
     Put::To(at + count)
 }
 
-fn write_bytes(out: &mut [u8], at: usize, bytes: &[u8])
-    requires { ⌜ at + length (now bytes) ≤ length (now out) ⌝ }
-    ensures { λ _. ⌜ now (out .exit) ≡ putInto (now (out .entry)) at (now (bytes .entry)) ⌝ }
-{
-    let mut i = 0;
-    while i < bytes.len() {
-        out[at + i] = bytes[i];
-        i += 1;
-    }
-}
-
 // All of the bytes or none.
 pub fn put_bytes(out: &mut [u8], at: usize, bytes: &[u8]) -> Put
     ensures { λ r. ⌜ PutBytesAllows (now (out .entry)) at (now (bytes .entry)) (r, now (out .exit)) ⌝ }
@@ -50,8 +39,7 @@ pub fn put_bytes(out: &mut [u8], at: usize, bytes: &[u8]) -> Put
     if let Put::Full = answer {
         return answer;
     }
-    write_bytes(out, at, bytes);
-    answer
+    Put::To(write_bytes(out, at, bytes))
 }
 
 // No leading zeros; zero is `0`.
@@ -80,13 +68,6 @@ fn put_negative(out: &mut [u8], at: usize, n: u64) -> Put
     out[at] = b'-';
     write_digits(out, at + 1, count, n);
     answer
-}
-
-// How far from zero: for a negative number, the least too, one more than -1 less it, so that nothing wraps.
-fn size(z: i64) -> u64
-    ensures { λ r. ⌜ r ≡ natAbs z ⌝ }
-{
-    if z < 0 { (-1 - z) as u64 + 1 } else { z as u64 }
 }
 
 // A figure may be negative (document 01, "Sheets": "A weight may be negative"): then '-' and the digits of its size.

@@ -2,7 +2,7 @@
 use Rattle.lines.specs.Lines.{line, endLine}
 use mir.Facts.{toZ-ofZ}
 use borrow.Author.Needs.{needs}
-use Rattle.lines.proofs.Continued.{_and_}
+use Rattle.text.proofs.Writing.{_and_}
 use Rattle.lines.proofs.put_end.Statement.{statement}
 use Rattle.lines.proofs.put_end.Tie as tie
 
@@ -11,7 +11,7 @@ unfolding line endLine
 returns c =
     let last = c .before .before in
     let second = last .before .before .before .before in
-    rw (← toZ-ofZ (second .before .before .before .before .before .before .before .before .fits .figure)) (second .before .before .before .before .then-bytes .ensures and second .next-decimal .ensures and last .last-figure .ensures)
+    rw (← toZ-ofZ (second .before .before .before .before .before .before .before .before .fits .figure)) (second .before .before .before .before .write-bytes .ensures and second .next-decimal .ensures and last .last-figure .ensures)
 
 pub put-end-spec : {M : Type 1} → statement M
 put-end-spec = tie.close (tie.spec (λ c. search needs) (λ c κs. search needs) (λ c κs. search needs) (λ c κs. search needs) (λ c. search needs) returns)

@@ -6,7 +6,7 @@ use Rattle.lines.proofs.put_long.Tie as tie
 
 returns : tie.Need-returns
 unfolding line longLine
-returns c = c .before .before .then-bytes .ensures
+returns c = c .before .before .write-bytes .ensures
 
 pub put-long-spec : {M : Type 1} → statement M
 put-long-spec = tie.close (tie.spec (λ c. search needs) (λ c κs. search needs) (λ c. search needs) returns)

@@ -2,7 +2,7 @@
 use Rattle.lines.specs.Lines.{line, startLine}
 use mir.Facts.{toZ-ofZ}
 use borrow.Author.Needs.{needs}
-use Rattle.lines.proofs.Continued.{_and_}
+use Rattle.text.proofs.Writing.{_and_}
 use Rattle.lines.proofs.put_start.Statement.{statement}
 use Rattle.lines.proofs.put_start.Tie as tie
 
@@ -10,7 +10,7 @@ returns : tie.Need-returns
 unfolding line startLine
 returns c =
     let last = c .before .before in
-    rw (← toZ-ofZ (last .before .before .before .before .before .before .before .before .fits .figure)) (last .before .before .before .before .then-bytes .ensures and last .last-figure .ensures)
+    rw (← toZ-ofZ (last .before .before .before .before .before .before .before .before .fits .figure)) (last .before .before .before .before .write-bytes .ensures and last .last-figure .ensures)
 
 pub put-start-spec : {M : Type 1} → statement M
 put-start-spec = tie.close (tie.spec (λ c. search needs) (λ c κs. search needs) (λ c κs. search needs) (λ c. search needs) returns)

@@ -4,7 +4,7 @@ use Prim.Native.Nat.{_≤_, _<_}
 use lib.ListN.{length}
 use native.Mathlib.Omega.{arith}
 use Rattle.statement.specs.Replay.{room}
-use Rattle.statement.proofs.Stating.{too-short, text-stated, never-full}
+use Rattle.statement.proofs.Stating.{too-short, text-stated}
 use Rattle.statement.proofs.statement.Statement.{statement}
 use Rattle.statement.proofs.statement.Tie as tie
 
@@ -13,27 +13,10 @@ returns c = let short : length (c .before .before .before .args .out .now) < roo
 
 returns-2 : tie.Need-returns-2
 returns-2 c =
-    let told = c .before .before .before .before .before in
+    let told = c .before .before in
     let test = told .before .before in
     let enough : room ≤ length (test .before .before .before .args .out .now) = omega (arith, test .if1 .left) in
-    text-stated _ enough (told .put-text .ensures) (c .before .put .given .1)
-
-returns-3 : tie.Need-returns-3
-returns-3 c =
-    let told = c .before .before .before .before in
-    let test = told .before .before in
-    let enough : room ≤ length (test .before .before .before .args .out .now) = omega (arith, test .if1 .left) in
-    absurd (never-full _ enough (told .put-text .ensures) (c .enum-told .given .1))
+    text-stated _ enough (told .put-text .ensures)
 
 pub statement-spec : {M : Type 1} → statement M
-statement-spec =
-    tie.close
-    (tie.spec
-    returns
-    (λ c κs. search needs)
-    (λ c. search needs)
-    (λ c. search needs)
-    (λ c. search needs)
-    returns-2
-    (λ c. search needs)
-    returns-3)
+statement-spec = tie.close (tie.spec returns (λ c κs. search needs) (λ c. search needs) returns-2)

@@ -1,8 +1,10 @@
 -- A run of bytes: with room it is written, without none of it is.
-use mathlib.Core.Path.{sym, _∙_}
+use mathlib.Core.Path.{sym, _∙_, ap}
+use native.Mathlib.Omega.{arith}
 use borrow.Author.Needs.{needs}
+use Rattle.text.specs.declared.Put.the-variants.{To}
 use Rattle.text.specs.Puts.{putTo}
-use Rattle.text.proofs.Puts.{end-found, into-full}
+use Rattle.text.proofs.Puts.{end-found, to-within, into-full}
 use Rattle.text.proofs.put_bytes.Statement.{statement}
 use Rattle.text.proofs.put_bytes.Tie as tie
 
@@ -16,8 +18,9 @@ write-bytes-requires : tie.Need-write-bytes-requires
 write-bytes-requires c κs = end-found _ _ _ (sym (c .before .before .before .end-within .ensures) ∙ c .before .enum-told2 .given .1) .0
 
 returns-2 : tie.Need-returns-2
-unfolding putTo
-returns-2 c = (c .before .before .before .before .before .before .end-within .ensures, c .before .before .write-bytes .ensures)
+returns-2 c =
+    let written = c .before .before .write-bytes .ensures in
+    (ap To (written .next) ∙ sym (to-within _ _ _ (omega (arith, written .next, written .fits))), written .holds)
 
 pub put-bytes-spec : {M : Type 1} → statement M
 put-bytes-spec =

@@ -29,8 +29,8 @@ put-run-requires c κs =
     let accepted = c .before .before in
     let read = accepted .before .before in
     let pre = read .before .before .before .before .before .pre in (
-      record { opened = pre .0; weighed = pre .1; listed = left-none _ _ (answer-none _ (read .whole-movements .ensures) (accepted .enum-told .given .1)) },
-      length-take-le _ _ (sizes (pre .0) .pairsWithin),
+      record { opened = pre .0; weighed = pre .1 .0; listed = left-none _ _ (answer-none _ (read .whole-movements .ensures) (accepted .enum-told .given .1)) },
+      (length-take-le _ _ (sizes (pre .0) .pairsWithin), pre .1 .1),
     )
 
 returns-2 : tie.Need-returns-2

@@ -1,6 +1,7 @@
 -- The first marking is accepted; `start` has its figure, and the movements follow.
 use borrow.Author.Needs.{needs}
 use mathlib.Core.Path.{_∙_}
+use native.Mathlib.Omega.{arith}
 use mir.Facts.{toZ-ofZ}
 use Rattle.opened.proofs.Shapes.{sizes}
 use Rattle.statement.proofs.Texts.{run-told}
@@ -16,15 +17,17 @@ figure-of-requires c κs =
 put-movements-requires : tie.Need-put-movements-requires
 put-movements-requires c κs =
     let tabled = c .before .before .before in
+    let began = c .before .before .before .before .before .before .put-start in
     let weighed = tabled .before .before .before .before .before in
     let wrote = weighed .before .before .before .before in
-    let sheets = wrote .before .before .before .before .before .before .before .pre .0 in (
+    let pre = wrote .before .before .before .before .before .before .before .pre in
+    let sheets = pre .0 in (
       sheets,
       (
         tabled .starts .ensures,
         (
           rw (wrote .write-start .ensures) (sizes (sheets .opened) .wellFormed .start),
-          toZ-ofZ (record { sfits = weighed .figure-of .ok }) ∙ weighed .figure-of .ensures,
+          (toZ-ofZ (record { sfits = weighed .figure-of .ok }) ∙ weighed .figure-of .ensures, omega (arith, began .ensures .next, began .ensures .within, began .kept .0, pre .1 .1)),
         ),
       ),
     )

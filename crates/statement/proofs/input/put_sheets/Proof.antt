@@ -21,8 +21,10 @@ after-requires c κs = λ e. headed _ (answer-none _ (c .before .before .before 
 
 put-weight-sheet-requires : tie.Need-put-weight-sheet-requires
 put-weight-sheet-requires c κs =
-    let shaped = c .before .before in
-    record { accepted = answer-none _ (shaped .before .before .before .read-net .ensures) (shaped .before .enum-told .given .1); shape = shaped .shape-of .ensures }
+    let shaped = c .before .before in (
+      record { accepted = answer-none _ (shaped .before .before .before .read-net .ensures) (shaped .before .enum-told .given .1); shape = shaped .shape-of .ensures },
+      search needs,
+    )
 
 returns-2 : tie.Need-returns-2
 unfolding sheetsText

@@ -13,7 +13,7 @@ unfolding weightsText
 returns c =
     let told = c .before .before in
     let read = told .before .before .before .before .before in
-    rw (← sizes (read .before .before .before .before .pre) .pairs)
+    rw (← sizes (read .before .before .before .before .pre .0) .pairs)
     (bad-told _ _ (read .read-weights .ensures) (told .before .before .before .answer .given .1) (told .put-bad .ensures))
 
 after-requires : tie.Need-after-requires
@@ -22,8 +22,10 @@ after-requires c κs = λ e. weights-headed _ _ (answer-none _ (c .before .befor
 put-movement-sheet-requires : tie.Need-put-movement-sheet-requires
 put-movement-sheet-requires c κs =
     let accepted = c .before .before in
-    let read = accepted .before .before in
-    (read .before .before .before .before .pre, answer-none _ (read .read-weights .ensures) (accepted .enum-told .given .1))
+    let read = accepted .before .before in (
+      read .before .before .before .before .pre .0,
+      (answer-none _ (read .read-weights .ensures) (accepted .enum-told .given .1), read .before .before .before .before .pre .1),
+    )
 
 returns-2 : tie.Need-returns-2
 unfolding weightsText
@@ -31,7 +33,7 @@ returns-2 c =
     let told = c .before .before in
     let rest = told .before .before in
     let read = rest .before .before .before in
-    rw (← sizes (read .before .before .before .before .pre) .pairs, ← read .read-weights .ensures, ← rest .after .ensures)
+    rw (← sizes (read .before .before .before .before .pre .0) .pairs, ← read .read-weights .ensures, ← rest .after .ensures)
     (text-told _ _ (read .read-weights .ensures) (rest .before .enum-told .given .1) (told .put-movement-sheet .ensures))
 
 pub put-weight-sheet-spec : {M : Type 1} → statement M

@@ -9,16 +9,16 @@ use mir.Val.{toZ}
 use mir.Facts.{toZ-ofZ}
 use Rattle.sheets.specs.Decoded.{netOf, weightsOf, movementsOf}
 use Rattle.sheets.proofs.Lists.{movements-headed, movements-length}
-use Rattle.statement.proofs.Telling.{Along, along-none, along-more, along-stops, along-ends, at-most, along-mode, along-size}
+use Rattle.statement.proofs.Telling.{Along, along-none, along-more, along-stops, along-ends, at-most, along-room, along-mode, along-size}
 use Rattle.statement.proofs.movements.put_movements.Statement.{statement}
 use Rattle.statement.proofs.movements.put_movements.Tie as tie
 
 abbrev Inv-loop : tie.InvT-loop
-Inv-loop s net starts weights movements marking₀ out₀ first count put₀ figure₀ k₀ marking out put figure k =
-    (k ≤ count) × (length out ≡ length out₀) × Along (netOf s) (weightsOf weights) (movementsOf movements) marking₀ out₀ put₀ k marking (toZ w64 figure) put out
+Inv-loop s net starts weights movements marking₀ out₀ at first count end₀ figure₀ k₀ marking out end figure k =
+    (k ≤ count) × (length out ≡ length out₀) × Along (netOf s) (weightsOf weights) (movementsOf movements) marking₀ out₀ at k marking (toZ w64 figure) end out
 
 abbrev μ-loop : tie.MeasureT-loop
-μ-loop s net starts weights movements marking₀ out₀ first count put₀ figure₀ k₀ marking out put figure k = count - k
+μ-loop s net starts weights movements marking₀ out₀ at first count end₀ figure₀ k₀ marking out end figure k = count - k
 
 movement-count-requires : tie.Need-movement-count-requires Inv-loop μ-loop
 movement-count-requires c κs = movements-headed _ (c .before .before .before .before .before .pre .0 .listed)
@@ -26,7 +26,7 @@ movement-count-requires c κs = movements-headed _ (c .before .before .before .b
 loop-holds : tie.Need-loop-holds Inv-loop μ-loop
 loop-holds c =
     let start = c .before .before .before .before .before .before in
-    (search needs, refl, along-none (start .pre .1 .1 .0) (toZ-ofZ (start .fits .first) ∙ start .pre .1 .1 .1))
+    (search needs, refl, along-none (start .pre .1 .1 .0) (toZ-ofZ (start .fits .first) ∙ start .pre .1 .1 .1 .0) (omega (arith, start .pre .1 .1 .1 .1)))
 
 movement-requires : tie.Need-movement-requires Inv-loop μ-loop
 movement-requires c κs =
@@ -43,8 +43,10 @@ put-stop-requires : tie.Need-put-stop-requires Inv-loop μ-loop
 put-stop-requires c κs =
     let test = c .before .before .before .before .before .before .before .before .before in
     let counted = test .before .before in
-    let sheets = counted .before .before .before .before .before .before .pre .0 in
-    omega (arith, test .loop-test .taken, at-most sheets (counted .movement-count .ensures))
+    let pre = counted .before .before .before .before .before .before .pre in
+    let k = test .loop-test .taken in
+    let few = at-most (pre .0) (counted .movement-count .ensures) in
+    (omega arith, along-room (pre .0) (counted .movement-count .ensures) (test .before .loop .inv .2) (omega arith) (pre .1 .1 .1 .1))
 
 same-length : tie.Need-same-length Inv-loop μ-loop
 same-length c =
@@ -81,6 +83,14 @@ add-change-requires c κs =
     let size = along-size (pre .0) e (at .loop .inv .2) h (read .movement .ensures) (moved .advance .ensures) (c .enum-told .given .1) in
     (pre .0 .opened, (pre .1 .0, (pre .0 .weighed, (mode, size))))
 
+put-accepted-requires : tie.Need-put-accepted-requires Inv-loop μ-loop
+put-accepted-requires c κs =
+    let test = c .before .before .before .before .before .before .before .before .before in
+    let counted = test .before .before in
+    let pre = counted .before .before .before .before .before .before .pre in
+    let k = test .loop-test .taken in
+    omega (arith, along-room (pre .0) (counted .movement-count .ensures) (test .before .loop .inv .2) (omega arith) (pre .1 .1 .1 .1))
+
 loop-again : tie.Need-loop-again Inv-loop μ-loop
 loop-again c =
     let told = c .before .before in
@@ -96,6 +106,13 @@ loop-again c =
           (moved .advance .ensures) (weighed .before .enum-told .given .1) (toZ-ofZ (record { sfits = weighed .add-change .ok }) ∙ weighed .add-change .ensures)
           (told .put-accepted .ensures),
     )
+
+put-end-requires : tie.Need-put-end-requires Inv-loop μ-loop
+put-end-requires c κs =
+    let at = c .before .before in
+    let counted = at .before in
+    let pre = counted .before .before .before .before .before .before .pre in
+    omega (arith, along-room (pre .0) (counted .movement-count .ensures) (at .loop .inv .2) (at .loop .inv .0) (pre .1 .1 .1 .1))
 
 same-length-3 : tie.Need-same-length-3 Inv-loop μ-loop
 same-length-3 c =
@@ -131,10 +148,10 @@ put-movements-spec =
     (λ c. search needs)
     add-change-requires
     (λ c. search needs)
-    (λ c κs. search needs)
+    put-accepted-requires
     (λ c. search needs)
     loop-again
-    (λ c κs. search needs)
+    put-end-requires
     same-length-3
     same-length-4
     returns-2)

@@ -1,7 +1,7 @@
 -- The line of the refused movement, then `end`.
 use mir.Facts.{toZ-ofZ}
 use borrow.Author.Needs.{needs}
-use Rattle.lines.proofs.Continued.{_and_}
+use Rattle.text.proofs.Writing.{_and_}
 use Rattle.statement.proofs.movements.put_stop.Statement.{statement}
 use Rattle.statement.proofs.movements.put_stop.Tie as tie
 

@@ -1,8 +1,8 @@
 -- The size of a signed number: nothing wraps, for the least one either.
 use borrow.Author.Needs.{needs}
 use Rattle.text.proofs.Sizes.{not-below-read, less-is, less-read, size-is}
-use Rattle.text.proofs.size.Statement.{statement}
-use Rattle.text.proofs.size.Tie as tie
+use Rattle.text.proofs.digits.size.Statement.{statement}
+use Rattle.text.proofs.digits.size.Tie as tie
 
 sub-result : tie.Need-sub-result
 sub-result c = rw (less-is (c .before .fits .z) (c .if1 .taken)) (search needs)

@@ -3,11 +3,13 @@ use Prim.Native.Nat.{_-_, _≤_}
 use mathlib.Core.Path.{_≡_, refl, _∙_}
 use lib.ListN.{length}
 use lib.Seq.{paste, paste-zero}
+use native.Mathlib.Nat.{le-refl}
+use native.Mathlib.Omega.{arith}
 use borrow.Author.Needs.{needs}
 use denote.Ref.{now}
 use Rattle.text.proofs.Puts.{one-copied, all-copied}
-use Rattle.text.proofs.write_bytes.Statement.{statement}
-use Rattle.text.proofs.write_bytes.Tie as tie
+use Rattle.text.proofs.writes.write_bytes.Statement.{statement}
+use Rattle.text.proofs.writes.write_bytes.Tie as tie
 
 abbrev Inv-loop : tie.InvT-loop
 Inv-loop out₀ at bytes i₀ out i = (i ≤ length bytes) × (length out ≡ length out₀) × (out ≡ paste out₀ at bytes i)
@@ -24,10 +26,18 @@ loop-again c =
     (search needs, search needs, one-copied _ _ _ _ (l .i) (c .before .before .before .pre) (c .before .loop-test .taken) (l .inv .2))
 
 returns : tie.Need-returns Inv-loop μ-loop
-returns c = c .before .loop .inv .2 ∙ all-copied _ _ _ (c .before .loop .i) (c .before .before .pre) (c .before .loop .inv .0) (c .loop-test .left)
+returns c =
+    let l = c .before .loop in
+    let room = c .before .before .pre in
+    record {
+      next = omega arith;
+      fits = omega arith;
+      holds = l .inv .2 ∙ all-copied _ _ _ (l .i) room (l .inv .0) (c .loop-test .left);
+      within = le-refl _;
+    }
 
 pub write-bytes-spec : {M : Type 1} → statement M
 write-bytes-spec =
     tie.close
     (tie.spec Inv-loop μ-loop loop-holds (λ c. search needs) (λ c. search needs) (λ c. search needs) (λ c. search needs) (λ c. search needs)
-    loop-again (λ c. search needs) returns)
+    loop-again (λ c. search needs) (λ c. search needs) returns)
