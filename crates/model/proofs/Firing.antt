@@ -1,29 +1,31 @@
 -- The refusal table of firing, and Billington's rule.
 use Prim.Native.Nat.{ℕ, _+_, _≤_, _<_}
-use mathlib.Core.Path.{_≡_, refl, _∙_, ap, subst⁻¹, subst₂}
-use mathlib.Core.Bool.{cond}
+use mathlib.Core.Path.{_≡_, refl, _∙_, subst}
 use mathlib.Core.List.{List}
-use mathlib.Core.Logic.{_≢_, _↔_, _⊎_, ⊎-elim}
-use mathlib.Core.Option.{Option, none, some}
-use lib.Dec.{eqb}
-use native.Mathlib.Omega.{arith}
+use mathlib.Core.Logic.{_↔_, _⊎_}
+use mathlib.Core.Option.{none, some}
+use lib.ListN.{length}
 use borrow.Author.Tests.{leb-false, le-leb, lt-leb}
 use Rattle.model.specs.declared.Mode.{Mode}
 use Rattle.model.specs.declared.Thing.{Thing}
 use Rattle.model.specs.declared.Why.{Why}
 use Rattle.model.specs.declared.Why.the-variants.{Lacking, OverCapacity, Inhibited, OverLimit}
 use Rattle.model.specs.declared.Fault.the-variants.{NotThere}
-use Rattle.model.specs.declared.Refusal.{Refusal}
+use Rattle.model.specs.declared.Answer.the-variants.{Refused}
 use Rattle.model.specs.First.{Lowest, NoneBelow}
-use Rattle.model.specs.Refusals.{answer, number, thing, position, thingNumber}
-use Rattle.model.specs.Numbers.{_≤∞_, limit}
+use Rattle.model.specs.Refusals.{thingNumber}
+use Rattle.model.specs.RefusalTables.{carried, row as tableRow, each, Reads, oneEachTable, markingTable, missingTable, modeTable}
+use Rattle.model.specs.Numbers.{fin, _≤∞_, limit}
 use Rattle.model.specs.Billington.{Enables}
 use Rattle.model.specs.Rows.{Row, Capacities, Counts}
 use Rattle.model.specs.Nets.{PNet, pairs, modes, K, count, row}
+use Rattle.model.specs.Markings.{unequal, markingRefusal}
 use Rattle.model.specs.Firing.{after, compared, Stops, stops, stopped, lowestStop, ruleRefusal, rowRefusal, absent, rooms, modeRefusal}
-use Rattle.model.specs.Promises.{FiringTable, RefusalTable, Rule}
-use Rattle.model.proofs.First.{Decides, below-or, only-if-none, left-none, right-none, none-then, some-then, lowest-none, lowest-some, none-lowest, lowest-or-none}
+use Rattle.model.specs.Promises.{RefusalTable, Rule}
+use Rattle.model.proofs.First.{Decides, only-if-none, left-none, right-none, none-then, some-then, lowest-none, lowest-some, none-lowest, lowest-or-none}
 use Rattle.model.proofs.Numbers.{above-true, true-above, not-above, le-not-above, le-room, room-le}
+use Rattle.model.proofs.Decisions.{by-less, by-at-most, by-equal, by-above, by-not}
+use Rattle.model.proofs.RefusalTables.{reads-plain, reads-then, reads-each, four}
 
 -- an accepted row is four facts at each pair: 11 to 14 in document 01's words
 pub record Passes (n : ℕ) (k : Capacities) (r : Row) (M : Counts) : Type 0 where
@@ -134,109 +136,44 @@ mode-there about n t h = rw (lt-leb n (t .0) h)
 pub mode-missing : (about : Thing) (n : ℕ) (t : Mode) → n ≤ t .0 → absent about n t ≡ some (record { thing = about; fault = NotThere })
 mode-missing about n t h = rw (le-leb n (t .0) h)
 
--- The rows of the table, for one call.
 module _ (about : Thing) (net : PNet) (t : Mode) (m : List ℕ) where
-  abbrev refusal : Option Refusal
-  refusal = modeRefusal about net t m
-
-  abbrev NoPair : Why → Type 0
-  NoPair = No about (pairs net) (K net) (row net t) (count m)
-
-  abbrev LowPair : Why → ℕ → Type 0
-  LowPair = Low about (pairs net) (K net) (row net t) (count m)
-
-  abbrev Here : Type 0
-  Here = t .0 < modes net
-
-  pub there : Here → refusal ≡ rowRefusal about (pairs net) (K net) (row net t) (count m)
+  pub there : t .0 < modes net → modeRefusal about net t m ≡ rowRefusal about (pairs net) (K net) (row net t) (count m)
   unfolding modeRefusal
   there h = none-then (mode-there about (modes net) t h) refl
 
-  pub missing : modes net ≤ t .0 → refusal ≡ some (record { thing = about; fault = NotThere })
+  pub missing : modes net ≤ t .0 → modeRefusal about net t m ≡ some (record { thing = about; fault = NotThere })
   unfolding modeRefusal
   missing h = some-then _ (mode-missing about (modes net) t h)
 
-  here : {o : Option Refusal} → Here → rowRefusal about (pairs net) (K net) (row net t) (count m) ≡ o → refusal ≡ o
-  here h e = there h ∙ e
+-- the tables of a marking and of a mode
+pub one-each-reads : (net : PNet) (m : List ℕ) → Reads (oneEachTable net m) (unequal net m)
+one-each-reads net m = reads-plain _ (by-not (by-equal (length m) (pairs net)))
 
-  is6 : ¬ Here → refusal ≡ some (record { thing = about; fault = NotThere })
-  is6 h = missing (⊎-elim (λ (l : Here). absurd (h l)) (λ l. l) (below-or (t .0) (modes net)))
+marking-reads : (net : PNet) (m : List ℕ) → Reads (markingTable net m) (markingRefusal net m)
+unfolding markingRefusal
+marking-reads net m =
+    reads-then (one-each-reads net m)
+    (reads-each (pairs net) (λ p l. reads-then (reads-plain _ (by-less limit (count m p))) (reads-plain _ (by-above (count m p) (K net p)))))
 
-  is11 : (p : ℕ) → Here → LowPair Lacking p → refusal ≡ some (stopped about Lacking p)
-  is11 p h l = here h (row11 about (pairs net) (K net) (row net t) (count m) p l)
+pub missing-reads : (about : Thing) (net : PNet) (t : Mode) → Reads (missingTable (thingNumber about) net t) (absent about (modes net) t)
+missing-reads about net t = reads-plain _ (by-at-most (modes net) (t .0))
 
-  is12 : (p : ℕ) → Here → NoPair Lacking → LowPair OverCapacity p → refusal ≡ some (stopped about OverCapacity p)
-  is12 p h a l = here h (row12 about (pairs net) (K net) (row net t) (count m) p a l)
+module _ (about : Thing) (net : PNet) (t : Mode) (m : List ℕ) where
+  stop-reads : (why : Why)
+      → Reads (each (pairs net) (λ p. tableRow (Stops why (row net t p) (K net p) (count m p)) (carried (Refused (stopped about why p)))))
+      (lowestStop about (pairs net) (K net) (row net t) (count m) why)
+  stop-reads why =
+      reads-each (pairs net) (λ p l. let c = compared why (row net t p) (K net p) (count m p) in reads-plain _ (by-above (c .number) (c .bound)))
 
-  is13 : (p : ℕ) → Here → NoPair Lacking → NoPair OverCapacity → LowPair Inhibited p → refusal ≡ some (stopped about Inhibited p)
-  is13 p h a b l = here h (row13 about (pairs net) (K net) (row net t) (count m) p a b l)
-
-  is14 : (p : ℕ) → Here → NoPair Lacking → NoPair OverCapacity → NoPair Inhibited → LowPair OverLimit p → refusal ≡ some (stopped about OverLimit p)
-  is14 p h a b c l = here h (row14 about (pairs net) (K net) (row net t) (count m) p a b c l)
-
-  is0 : Here → NoPair Lacking → NoPair OverCapacity → NoPair Inhibited → NoPair OverLimit → refusal ≡ none
-  is0 h a b c d = here h (row0 about (pairs net) (K net) (row net t) (count m) a b c d)
-
-  -- what the table says of number n and position p; one of its rows always holds
-  abbrev Holds : ℕ → ℕ → Type 0
-  Holds n p =
-      cond (eqb n 0) (Here × NoPair Lacking × NoPair OverCapacity × NoPair Inhibited × NoPair OverLimit)
-      (cond (eqb n 6) (¬ Here)
-      (cond (eqb n 11) (Here × LowPair Lacking p)
-      (cond (eqb n 12) (Here × NoPair Lacking × LowPair OverCapacity p)
-      (cond (eqb n 13) (Here × NoPair Lacking × NoPair OverCapacity × LowPair Inhibited p)
-      (cond (eqb n 14) (Here × NoPair Lacking × NoPair OverCapacity × NoPair Inhibited × LowPair OverLimit p) ⊥)))))
-
-  HoldsOf : Option Refusal → Type 0
-  HoldsOf o = Holds (number (answer o)) (position (answer o)) × (number (answer o) ≢ 0 → thing (answer o) ≡ thingNumber about)
-
-  find : (why : Why) → ((p : ℕ) × LowPair why p) ⊎ NoPair why
-  find = find-stop about (pairs net) (K net) (row net t) (count m)
-
-  holds : HoldsOf refusal
-  unfolding HoldsOf
-  holds =
-      ⊎-elim
-      (λ (h : Here).
-      ⊎-elim (λ (r : (p : ℕ) × LowPair Lacking p). subst⁻¹ HoldsOf (is11 (r .0) h (r .1)) ((h, r .1), λ _. refl))
-      (λ (a : NoPair Lacking).
-      ⊎-elim (λ (r : (p : ℕ) × LowPair OverCapacity p). subst⁻¹ HoldsOf (is12 (r .0) h a (r .1)) ((h, a, r .1), λ _. refl))
-      (λ (b : NoPair OverCapacity).
-      ⊎-elim (λ (r : (p : ℕ) × LowPair Inhibited p). subst⁻¹ HoldsOf (is13 (r .0) h a b (r .1)) ((h, a, b, r .1), λ _. refl))
-      (λ (c : NoPair Inhibited).
-      ⊎-elim (λ (r : (p : ℕ) × LowPair OverLimit p). subst⁻¹ HoldsOf (is14 (r .0) h a b c (r .1)) ((h, a, b, c, r .1), λ _. refl))
-      (λ (d : NoPair OverLimit). subst⁻¹ HoldsOf (is0 h a b c d) ((h, a, b, c, d), λ z. absurd (z refl))) (find OverLimit))
-      (find Inhibited))
-      (find OverCapacity))
-      (find Lacking))
-      (λ (l : modes net ≤ t .0). subst⁻¹ HoldsOf (is6 (λ h. omega arith)) (λ h. omega arith, λ _. refl)) (below-or (t .0) (modes net))
-
-  Says : ℕ → ℕ → Type 0
-  Says n p = (number (answer refusal) ≡ n) × (position (answer refusal) ≡ p)
-
-  to : (n p : ℕ) → Says n p → Holds n p
-  unfolding Says HoldsOf
-  to n p says = subst₂ Holds (says .0) (says .1) (holds .0)
-
-  back : {o : Option Refusal} → refusal ≡ o → Says (number (answer o)) (position (answer o))
-  unfolding Says
-  back e = (ap (λ o. number (answer o)) e, ap (λ o. position (answer o)) e)
-
-  firing-table : FiringTable about net t m
-  unfolding Says HoldsOf
-  firing-table =
-      record {
-        no0 = (to 0 0, λ r. back (is0 (r .0) (r .1) (r .2) (r .3) (r .4)));
-        no6 = (to 6 0, λ h. back (is6 h));
-        no11 = λ p. (to 11 p, λ r. back (is11 p (r .0) (r .1)));
-        no12 = λ p. (to 12 p, λ r. back (is12 p (r .0) (r .1) (r .2)));
-        no13 = λ p. (to 13 p, λ r. back (is13 p (r .0) (r .1) (r .2) (r .3)));
-        no14 = λ p. (to 14 p, λ r. back (is14 p (r .0) (r .1) (r .2) (r .3) (r .4)));
-        itsThing = holds .1;
-      }
+  mode-reads : Reads (modeTable (thingNumber about) net t m) (modeRefusal about net t m)
+  unfolding modeRefusal rowRefusal ruleRefusal
+  mode-reads =
+      reads-then (missing-reads about net t)
+      (subst (Reads _) (four _ _ _ _)
+      (reads-then (stop-reads Lacking) (reads-then (stop-reads OverCapacity) (reads-then (stop-reads Inhibited) (stop-reads OverLimit)))))
 
 pub refusal-table : RefusalTable
-refusal-table = firing-table
+refusal-table = record { marking = marking-reads; mode = mode-reads }
 
 pub rule : Rule
 rule about n k r M = (accepted-enables about n k r M, enables-accepted about n k r M)

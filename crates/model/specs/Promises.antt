@@ -4,60 +4,31 @@ use Prim.Native.Nat.{ℕ, _≤_, _<_}
 use mathlib.Core.Path.{_≡_}
 use mathlib.Core.Bool.{true}
 use mathlib.Core.List.{List, [], _∷_}
-use mathlib.Core.Logic.{_↔_, _≢_}
+use mathlib.Core.Logic.{_↔_}
 use mathlib.Core.Option.{none, some}
 use lib.ListN.{length, take, getD}
 use lib.IntN.{ℤ, pos, _+ℤ_, _-ℤ_}
 use Rattle.model.specs.declared.Mode.{Mode}
 use Rattle.model.specs.declared.Thing.{Thing}
 use Rattle.model.specs.declared.Thing.the-variants.{Movements}
-use Rattle.model.specs.declared.Why.{Why}
-use Rattle.model.specs.declared.Why.the-variants.{Lacking, OverCapacity, Inhibited, OverLimit}
-use Rattle.model.specs.declared.Answer.{Answer}
 use Rattle.model.specs.First.{Lowest, NoneBelow}
-use Rattle.model.specs.Refusals.{answer, number, thing, position, thingNumber}
+use Rattle.model.specs.Refusals.{thingNumber}
+use Rattle.model.specs.RefusalTables.{markingTable, modeTable, Reads}
 use Rattle.model.specs.Numbers.{fin, limit}
 use Rattle.model.specs.Rows.{Entry, Row, Capacities, Counts}
 use Rattle.model.specs.Billington.{Enables, Follows, IK}
 use Rattle.model.specs.Nets.{PNet, pairs, modes, pairNo, modeNo, K, count, arcNo, row}
 use Rattle.model.specs.Markings.{Marking, markingRefusal}
-use Rattle.model.specs.Firing.{Stops, ruleRefusal, modeRefusal, fired}
+use Rattle.model.specs.Firing.{ruleRefusal, modeRefusal, fired}
 use Rattle.model.specs.Runs.{run, certificateRefusal}
 use Rattle.model.specs.Figures.{figure, changes}
 use Rattle.model.specs.Dead.{Kills, isDead, firstDead}
 use Rattle.model.specs.Complement.{complementPre, complementPost, less}
 
--- 1. The refusal table of firing, row by row. `Says n p`: the answer has number n and position p.
-module _ (about : Thing) (net : PNet) (t : Mode) (m : List ℕ) where
-  abbrev firing : Answer
-  firing = answer (modeRefusal about net t m)
-
-  abbrev Says : ℕ → ℕ → Type 0
-  Says n p = (number firing ≡ n) × (position firing ≡ p)
-
-  abbrev StopsAt : Why → ℕ → Type 0
-  StopsAt why p = Stops why (row net t p) (K net p) (count m p)
-
-  abbrev NoPair : Why → Type 0
-  NoPair why = NoneBelow (pairs net) (StopsAt why)
-
-  abbrev LowestPair : Why → ℕ → Type 0
-  LowestPair why p = Lowest (pairs net) (StopsAt why) p
-
-  abbrev There : Type 0
-  There = t .0 < modes net
-
-  pub record FiringTable : Type 0 where
-    pub no0 : Says 0 0 ↔ (There × NoPair Lacking × NoPair OverCapacity × NoPair Inhibited × NoPair OverLimit)
-    pub no6 : Says 6 0 ↔ (¬ There)
-    pub no11 : (p : ℕ) → Says 11 p ↔ (There × LowestPair Lacking p)
-    pub no12 : (p : ℕ) → Says 12 p ↔ (There × NoPair Lacking × LowestPair OverCapacity p)
-    pub no13 : (p : ℕ) → Says 13 p ↔ (There × NoPair Lacking × NoPair OverCapacity × LowestPair Inhibited p)
-    pub no14 : (p : ℕ) → Says 14 p ↔ (There × NoPair Lacking × NoPair OverCapacity × NoPair Inhibited × LowestPair OverLimit p)
-    pub itsThing : number firing ≢ 0 → thing firing ≡ thingNumber about
-
-abbrev pub RefusalTable : Type 0
-RefusalTable = (about : Thing) (net : PNet) (t : Mode) (m : List ℕ) → FiringTable about net t m
+-- 1. The exact refusal tables of a marking and of a mode; those of sheets and calls are in sheets/specs/RefusalTables.antt and promises/specs/CallTables.antt.
+pub record RefusalTable : Type 0 where
+  pub marking : (net : PNet) (m : List ℕ) → Reads (markingTable net m) (markingRefusal net m)
+  pub mode : (about : Thing) (net : PNet) (t : Mode) (m : List ℕ) → Reads (modeTable (thingNumber about) net t m) (modeRefusal about net t m)
 
 -- 2. The rule: 14 aside, a row is accepted exactly when source document 000 has it enabled; so a net's mode, where it is there and no new count is above
 -- 1,000,000. An accepted movement gives M - Pre + Post at every pair.

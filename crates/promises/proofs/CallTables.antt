@@ -1,9 +1,9 @@
 -- Each call's chain of checks is read off its table.
 use Prim.Native.Nat.{ℕ, zero, suc, _+_, _<_}
 use mathlib.Core.Path.{_≡_, refl, sym, _∙_, ap, subst, subst⁻¹}
-use mathlib.Core.Bool.{Bool, true, false, false≢true, not, _&&_}
+use mathlib.Core.Bool.{false≢true, not, _&&_}
 use mathlib.Core.List.{List, [], _∷_}
-use mathlib.Core.Logic.{_⊎_, inl, inr, ⊎-elim, _≢_}
+use mathlib.Core.Logic.{_⊎_, inl, inr, ⊎-elim}
 use mathlib.Core.Option.{Option, none, some}
 use lib.Dec.{leb}
 use lib.ListN.{length, take, getD}
@@ -11,21 +11,21 @@ use native.Mathlib.Omega.{arith}
 use Rattle.model.specs.declared.Mode.{Mode}
 use Rattle.model.specs.declared.Thing.{Thing}
 use Rattle.model.specs.declared.Thing.the-variants.{Net, Weights, Movements, Argument}
-use Rattle.model.specs.declared.Why.{Why}
-use Rattle.model.specs.declared.Why.the-variants.{Lacking, OverCapacity, Inhibited, OverLimit}
+use Rattle.model.specs.declared.Fault.the-variants.{EndsElsewhere}
 use Rattle.model.specs.declared.Refusal.{Refusal}
-use Rattle.model.specs.First.{_▸_, first, onlyIf}
-use Rattle.model.specs.RefusalTables.{Table, row, _then_, each, Reads}
+use Rattle.model.specs.First.{_▸_, first}
+use Rattle.model.specs.Refusals.{wrong, thingNumber}
+use Rattle.model.specs.RefusalTables.{Table, _then_, Reads}
 use Rattle.model.specs.Numbers.{ℕ∞, fin, ∞, limit}
-use Rattle.model.specs.Nets.{PNet, pairs, modes, modeNo, K, count, row as modeRow}
-use Rattle.model.specs.Markings.{markingRefusal, unequal}
-use Rattle.model.specs.Firing.{compared, Stops, stopped, lowestStop, ruleRefusal, rowRefusal, absent, modeRefusal, fired}
+use Rattle.model.specs.Nets.{PNet, pairs, pairNo, modeNo, count}
+use Rattle.model.specs.Firing.{modeRefusal, fired}
 use Rattle.model.specs.Runs.{Outcome, goOn, runFrom, run, certificateRefusal}
 use Rattle.model.specs.Complement.{finite, complement, refusal15, refusal16, sheetLimits, complementRefusal}
 use Rattle.model.proofs.First.{below-or, left-none, then-none, then-assoc, then-under}
 use Rattle.model.proofs.Runs.{runs}
-use Rattle.model.proofs.Decisions.{Decided, by-less, by-at-most, by-equal, by-above, by-not, by-or, by-and, by-other}
-use Rattle.model.proofs.RefusalTables.{reads-row, reads-then, reads-each, reads-either}
+use Rattle.model.proofs.Decisions.{Decided, by-less, by-at-most, by-equal, by-not, by-or, by-and, by-other}
+use Rattle.model.proofs.RefusalTables.{four, reads-plain, reads-then, reads-each, reads-either}
+use Rattle.model.proofs.Firing.{one-each-reads, missing-reads, refusal-table}
 use Rattle.heads.specs.Layout.{sheetEnd}
 use Rattle.sheets.specs.Whole.{bytesAfter, wholeNet, wholeWeights, wholeMovements}
 use Rattle.sheets.specs.Decoded.{netOf, movementsOf}
@@ -36,19 +36,12 @@ use Rattle.run.specs.Calls.{beforeRun, runOf, certifyRefusal}
 use Rattle.weigh.specs.Calls.{figureRefusal, changeRefusal}
 use Rattle.dead.specs.IsDead.{deadRefusal}
 use Rattle.complement.specs.Complemented.{roomRefusal, complementingRefusal}
-use Rattle.promises.specs.CallTables.{bytesLeft, wholeNetTable, wholeWeightTable, wholeMovementTable, oneEachTable, markingTable, missingTable, modeTable, markingAfter, movesTable, certificateTable, roomTable, RunReads, CallTables}
-
-plain : {test : Bool} {P : Type 0} (r : Refusal) → Decided test P → Reads (row P r) (onlyIf test r)
-plain r d = reads-row r d (λ p. refl)
-
--- three checks and then one more are four in a row
-four : (a b c d : Option Refusal) → a ▸ b ▸ c ▸ d ≡ (a ▸ b ▸ c) ▸ d
-four a b c d = sym (then-assoc a (b ▸ c) d ∙ ap (λ e. a ▸ e) (then-assoc b c d))
+use Rattle.promises.specs.CallTables.{bytesLeft, wholeNetTable, wholeWeightTable, wholeMovementTable, markingAfter, movesTable, certificateTable, roomTable, RunReads, CallTables}
 
 -- a sheet's table, then left-over bytes
-whole-reads : (thing : Thing) (s : List ℕ) {table : Table} {o : Option Refusal} → Reads table o → Reads (table then bytesLeft thing s) (o ▸ bytesAfter thing s)
+whole-reads : (thing : Thing) (s : List ℕ) {table : Table} {o : Option Refusal} → Reads table o → Reads (table then bytesLeft (thingNumber thing) s) (o ▸ bytesAfter thing s)
 unfolding bytesAfter
-whole-reads thing s sheet = reads-then sheet (plain _ (by-less (sheetEnd s) (length s)))
+whole-reads thing s sheet = reads-then sheet (reads-plain _ (by-less (sheetEnd s) (length s)))
 
 net-reads : (s : List ℕ) → Reads (wholeNetTable s) (wholeNet s)
 unfolding wholeNet
@@ -61,32 +54,6 @@ weights-reads pairs s = whole-reads Weights s (sheet-tables .weights pairs s)
 movements-reads : (s : List ℕ) → Reads (wholeMovementTable s) (wholeMovements s)
 unfolding wholeMovements
 movements-reads s = whole-reads Movements s (sheet-tables .movements s)
-
-one-each-reads : (net : PNet) (m : List ℕ) → Reads (oneEachTable net m) (unequal net m)
-one-each-reads net m = plain _ (by-not (by-equal (length m) (pairs net)))
-
-marking-reads : (net : PNet) (m : List ℕ) → Reads (markingTable net m) (markingRefusal net m)
-unfolding markingRefusal
-marking-reads net m =
-    reads-then (one-each-reads net m)
-    (reads-each (pairs net) (λ p l. reads-then (plain _ (by-less limit (count m p))) (plain _ (by-above (count m p) (K net p)))))
-
-missing-reads : (thing : Thing) (net : PNet) (t : Mode) → Reads (missingTable thing net t) (absent thing (modes net) t)
-missing-reads thing net t = plain _ (by-at-most (modes net) (t .0))
-
-module _ (thing : Thing) (net : PNet) (t : Mode) (m : List ℕ) where
-  stop-reads : (why : Why)
-      → Reads (each (pairs net) (λ p. row (Stops why (modeRow net t p) (K net p) (count m p)) (stopped thing why p)))
-      (lowestStop thing (pairs net) (K net) (modeRow net t) (count m) why)
-  stop-reads why =
-      reads-each (pairs net) (λ p l. let c = compared why (modeRow net t p) (K net p) (count m p) in plain _ (by-above (c .number) (c .bound)))
-
-  mode-reads : Reads (modeTable thing net t m) (modeRefusal thing net t m)
-  unfolding modeRefusal rowRefusal ruleRefusal
-  mode-reads =
-      reads-then (missing-reads thing net t)
-      (subst (Reads _) (four _ _ _ _) (reads-then (stop-reads Lacking)
-      (reads-then (stop-reads OverCapacity) (reads-then (stop-reads Inhibited) (stop-reads OverLimit)))))
 
 -- a run: its first refusal is that of the first movement refused, each tried at the marking that those before it gave
 first-front : (n : ℕ) (f : ℕ → Option Refusal) → first (suc n) f ≡ f 0 ▸ first n (λ i. f (suc i))
@@ -119,7 +86,7 @@ module _ (net : PNet) where
       rw passed (run-whole (k + 1) ts (fired net t m) (rw passed at e))
 
   moves-reads : (ts : List Mode) (m : List ℕ) → Reads (movesTable net ts m) (run net ts m .refusal)
-  moves-reads ts m = subst⁻¹ (Reads _) (run-refusal 0 ts m) (reads-each (length ts) (λ k l. mode-reads Movements net _ _))
+  moves-reads ts m = subst⁻¹ (Reads _) (run-refusal 0 ts m) (reads-each (length ts) (λ k l. refusal-table .mode Movements net _ _))
 
   certificate-reads : (ts : List Mode) (claim : List ℕ) → Reads (certificateTable net ts claim) (certificateRefusal net ts claim)
   unfolding certificateRefusal
@@ -127,7 +94,7 @@ module _ (net : PNet) where
       reads-then (one-each-reads net claim)
       (subst⁻¹ (Reads _) (then-under (run net ts (net .start) .refusal) (λ e. rw (run-whole 0 ts (net .start) e)))
       (reads-then (moves-reads ts (net .start))
-      (reads-each (pairs net) (λ p l. plain _ (by-not (by-equal (count (markingAfter net ts (net .start)) p) (count claim p)))))))
+      (reads-each (pairs net) (λ p l. reads-plain (wrong Argument (EndsElsewhere (pairNo p))) (by-not (by-equal (count (markingAfter net ts (net .start)) p) (count claim p)))))))
 
 module _ (net movements marking : List ℕ) where
   begun-run : beforeRun net movements marking ≡ none → runOf net movements marking ≡ run (netOf net) (movementsOf movements) marking
@@ -142,11 +109,11 @@ module _ (net movements marking : List ℕ) where
             subst (Reads _) (four _ _ _ _ ∙ sym (goes-on (beforeRun net movements marking) 0 marking _))
             (reads-then (net-reads net)
             (reads-then (movements-reads movements)
-            (reads-then (marking-reads (netOf net) marking) (moves-reads (netOf net) (movementsOf movements) marking))));
+            (reads-then (refusal-table .marking (netOf net) marking) (moves-reads (netOf net) (movementsOf movements) marking))));
         stopsAt = λ e l.
             let same = begun-run e in
             rw same
-            (subst⁻¹ (Reads _) (runs (netOf net) (movementsOf movements) marking .refused (rw same at l)) (mode-reads Movements (netOf net) _ _));
+            (subst⁻¹ (Reads _) (runs (netOf net) (movementsOf movements) marking .refused (rw same at l)) (refusal-table .mode Movements (netOf net) _ _));
       }
 
 -- complementing
@@ -174,8 +141,8 @@ unfolding roomRefusal complementRefusal refusal15 refusal16 sheetLimits
 room-reads s room =
     let net = netOf s in
     subst (Reads _) (four _ _ _ _)
-    (reads-then (reads-each (length (net .arcs)) (λ k l. plain _ (by-and (by-finite _) (by-unbounded _))))
-    (reads-then (reads-each (length (net .arcs)) (λ k l. plain _ (by-or (by-less limit _) (by-less limit _))))
+    (reads-then (reads-each (length (net .arcs)) (λ k l. reads-plain _ (by-and (by-finite _) (by-unbounded _))))
+    (reads-then (reads-each (length (net .arcs)) (λ k l. reads-plain _ (by-or (by-less limit _) (by-less limit _))))
     (reads-either _ (past-limits (length (complement net .colours)) (pairs (complement net)) (length (complement net .arcs)))
     (by-less room (length (sheetOf (complement net)))))))
 
@@ -191,12 +158,12 @@ call-tables =
       wholeMovements = movements-reads;
       begin = λ net marking. reads-then (net-reads net) (one-each-reads (netOf net) marking);
       test = λ net marking t.
-          reads-then (net-reads net) (reads-then (marking-reads (netOf net) marking) (mode-reads Argument (netOf net) t marking));
+          reads-then (net-reads net) (reads-then (refusal-table .marking (netOf net) marking) (refusal-table .mode Argument (netOf net) t marking));
       run = run-reads;
       certify = λ net movements claim.
           reads-then (net-reads net) (reads-then (movements-reads movements) (certificate-reads (netOf net) (movementsOf movements) claim));
       figure = λ net weights marking.
-          reads-then (net-reads net) (reads-then (weights-reads (pairs (netOf net)) weights) (marking-reads (netOf net) marking));
+          reads-then (net-reads net) (reads-then (weights-reads (pairs (netOf net)) weights) (refusal-table .marking (netOf net) marking));
       change = λ net weights t.
           reads-then (net-reads net) (reads-then (weights-reads (pairs (netOf net)) weights) (missing-reads Argument (netOf net) t));
       isDead = λ net t. reads-then (net-reads net) (missing-reads Argument (netOf net) t);

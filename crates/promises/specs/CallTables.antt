@@ -1,24 +1,19 @@
--- The exact refusal table of each call, row by row in document 01's words and order: a row gives its refusal exactly when its proposition holds and
--- no earlier row's does.
-use Prim.Native.Nat.{ℕ, _+_, _-_, _≤_, _<_}
+-- The exact refusal table of each call, row by row in document 01's words and order. A row is given, with its number, thing and position, exactly when its
+-- proposition holds and no earlier row's does.
+use Prim.Native.Nat.{ℕ, _<_}
 use mathlib.Core.Path.{_≡_}
 use mathlib.Core.List.{List, [], _∷_}
 use mathlib.Core.Logic.{_⊎_, _≢_}
 use mathlib.Core.Option.{none}
 use lib.ListN.{length, take, getD}
 use Rattle.model.specs.declared.Mode.{Mode}
-use Rattle.model.specs.declared.Thing.{Thing}
-use Rattle.model.specs.declared.Thing.the-variants.{Net, Weights, Movements, Argument}
-use Rattle.model.specs.declared.Why.the-variants.{Lacking, OverCapacity, Inhibited, OverLimit}
-use Rattle.model.specs.declared.Fault.the-variants.{WrongLength, MarkingOutside, NotThere, MarkingAboveCapacity, NoRoom, InhibitedUnbounded, ComplementAbove, NotOneEach, EndsElsewhere}
-use Rattle.model.specs.RefusalTables.{Table, row, _then_, each, Reads}
-use Rattle.model.specs.Numbers.{fin, ∞, Above, limit}
+use Rattle.model.specs.RefusalTables.{carries, Table, row, _then_, each, Reads, oneEachTable, markingTable, missingTable, modeTable}
+use Rattle.model.specs.Numbers.{fin, ∞, limit}
 use Rattle.model.specs.Rows.{Entry}
-use Rattle.model.specs.Nets.{NetArc, PNet, pairs, modes, pairNo, modeNo, K, count, arcNo, row as modeRow}
-use Rattle.model.specs.Firing.{stopped, fired}
+use Rattle.model.specs.Nets.{NetArc, PNet, pairs, modeNo, K, count, arcNo}
+use Rattle.model.specs.Firing.{fired}
 use Rattle.model.specs.Complement.{complementEntry, complement}
 use Rattle.heads.specs.Layout.{sheetEnd}
-use Rattle.model.specs.Refusals.{wrong}
 use Rattle.nets.specs.Nets.{netRefusal}
 use Rattle.lists.specs.Weights.{weightsRefusal}
 use Rattle.lists.specs.Movements.{movementsRefusal}
@@ -34,51 +29,17 @@ use Rattle.dead.specs.IsDead.{deadRefusal}
 use Rattle.complement.specs.Complemented.{complementingRefusal}
 
 -- "A call that takes one sheet as an argument refuses left-over bytes by 3.": the sheet's own table, then the first byte after it
-abbrev pub bytesLeft : Thing → List ℕ → Table
-bytesLeft thing s = row (sheetEnd s < length s) (wrong thing (WrongLength (sheetEnd s)))
+abbrev pub bytesLeft : ℕ → List ℕ → Table
+bytesLeft thing s = row (sheetEnd s < length s) (carries 3 thing (sheetEnd s))
 
 abbrev pub wholeNetTable : List ℕ → Table
-wholeNetTable s = netTable s then bytesLeft Net s
+wholeNetTable s = netTable s then bytesLeft 0 s
 
 abbrev pub wholeWeightTable : ℕ → List ℕ → Table
-wholeWeightTable pairs s = weightTable pairs s then bytesLeft Weights s
+wholeWeightTable pairs s = weightTable pairs s then bytesLeft 1 s
 
 abbrev pub wholeMovementTable : List ℕ → Table
-wholeMovementTable s = movementTable s then bytesLeft Movements s
-
-module _ (net : PNet) (m : List ℕ) where
-  -- 17: "marking or weights not one for each pair"
-  abbrev pub oneEachTable : Table
-  oneEachTable = row (length m ≢ pairs net) (wrong Argument (NotOneEach 0))
-
-  -- "then the marking (17, then pair by pair 5 before 9)"
-  abbrev pub markingTable : Table
-  markingTable =
-      oneEachTable
-      then each (pairs net) (λ p.
-      row (limit < count m p) (wrong Argument (MarkingOutside (pairNo p)))
-      then row (Above (count m p) (K net p)) (wrong Argument (MarkingAboveCapacity (pairNo p))))
-
--- 6: "a movement's mode is not there"
-abbrev pub missingTable : Thing → PNet → Mode → Table
-missingTable thing net t = row (modes net ≤ t .0) (wrong thing NotThere)
-
--- "then the mode (6, 11 over all pairs, 12, 13, 14)", each at the "lowest such pair"
-module _ (thing : Thing) (net : PNet) (t : Mode) (m : List ℕ) where
-  abbrev at : ℕ → Entry
-  at p = modeRow net t p
-
-  abbrev pub modeTable : Table
-  modeTable =
-      missingTable thing net t
-      -- 11: "Pre above the count"
-      then each (pairs net) (λ p. row (count m p < at p .pre) (stopped thing Lacking p))
-      -- 12: "count plus Post above K"
-      then each (pairs net) (λ p. row (Above (count m p + at p .post) (K net p)) (stopped thing OverCapacity p))
-      -- 13: "count above I"
-      then each (pairs net) (λ p. row (Above (count m p) (at p .inhibitor)) (stopped thing Inhibited p))
-      -- 14: "new count above 1,000,000"
-      then each (pairs net) (λ p. row (limit < count m p - at p .pre + at p .post) (stopped thing OverLimit p))
+wholeMovementTable s = movementTable s then bytesLeft 2 s
 
 -- the marking that movements give, each fired where the ones before lead
 unfoldable pub markingAfter : PNet → List Mode → List ℕ → List ℕ
@@ -87,7 +48,7 @@ markingAfter net (t ∷ ts) m = markingAfter net ts (fired net t m)
 
 -- "Running stops at the first refused movement": the table of each movement, at the marking that those before it gave
 abbrev pub movesTable : PNet → List Mode → List ℕ → Table
-movesTable net ts m = each (length ts) (λ k. modeTable Movements net (getD ts k (modeNo 0)) (markingAfter net (take k ts) m))
+movesTable net ts m = each (length ts) (λ k. modeTable 2 net (getD ts k (modeNo 0)) (markingAfter net (take k ts) m))
 
 -- "Certificate: net, movements, 17 for the claim, the run (6, 11 to 14), 18."
 abbrev pub certificateTable : PNet → List Mode → List ℕ → Table
@@ -95,7 +56,7 @@ certificateTable net ts claim =
     oneEachTable net claim
     then movesTable net ts (net .start)
     -- 18: "certificate ends at another marking", "lowest differing pair"
-    then each (pairs net) (λ p. row (count (markingAfter net ts (net .start)) p ≢ count claim p) (wrong Argument (EndsElsewhere (pairNo p))))
+    then each (pairs net) (λ p. row (count (markingAfter net ts (net .start)) p ≢ count claim p) (carries 18 3 p))
 
 -- "Complementing: net, 15, 16, 10, each at its first arc in order."
 module _ (s : List ℕ) (room : ℕ) where
@@ -113,14 +74,14 @@ module _ (s : List ℕ) (room : ℕ) where
   roomTable =
       -- 15: "finite I at a pair of unbounded K"
       each (length (net .arcs)) (λ k.
-      row (((i : ℕ) × (arc k .entry .inhibitor ≡ fin i)) × (K net (arc k .pair .0) ≡ ∞)) (wrong Net (InhibitedUnbounded (arcOffset s k))))
+      row (((i : ℕ) × (arc k .entry .inhibitor ≡ fin i)) × (K net (arc k .pair .0) ≡ ∞)) (carries 15 0 (arcOffset s k)))
       -- 16: "a complement number above 1,000,000"
-      then each (length (net .arcs)) (λ k. row ((limit < beside k .pre) ⊎ (limit < beside k .post)) (wrong Net (ComplementAbove (arcOffset s k))))
+      then each (length (net .arcs)) (λ k. row ((limit < beside k .pre) ⊎ (limit < beside k .post)) (carries 16 0 (arcOffset s k)))
       -- 10: "complement exceeds the sheet's limits, or the output slice is shorter than it"
       then row
       (((64 < length (complement net .colours)) ⊎ (256 < pairs (complement net)) ⊎ (2048 < length (complement net .arcs)))
       ⊎ (room < length (sheetOf (complement net))))
-      (wrong Net NoRoom)
+      (carries 10 0 0)
 
 -- A call's table, things in their order: "net, weights, movements, then the marking .., then the mode"
 module _ (net : List ℕ) where
@@ -128,7 +89,7 @@ module _ (net : List ℕ) where
   beginTable marking = wholeNetTable net then oneEachTable (netOf net) marking
 
   abbrev pub testTable : List ℕ → Mode → Table
-  testTable marking t = wholeNetTable net then markingTable (netOf net) marking then modeTable Argument (netOf net) t marking
+  testTable marking t = wholeNetTable net then markingTable (netOf net) marking then modeTable 3 (netOf net) t marking
 
   abbrev pub runTable : List ℕ → List ℕ → Table
   runTable movements marking =
@@ -145,10 +106,10 @@ module _ (net : List ℕ) where
   figureTable weights marking = wholeNetTable net then wholeWeightTable (pairs (netOf net)) weights then markingTable (netOf net) marking
 
   abbrev pub changeTable : List ℕ → Mode → Table
-  changeTable weights t = wholeNetTable net then wholeWeightTable (pairs (netOf net)) weights then missingTable Argument (netOf net) t
+  changeTable weights t = wholeNetTable net then wholeWeightTable (pairs (netOf net)) weights then missingTable 3 (netOf net) t
 
   abbrev pub isDeadTable : Mode → Table
-  isDeadTable t = wholeNetTable net then missingTable Argument (netOf net) t
+  isDeadTable t = wholeNetTable net then missingTable 3 (netOf net) t
 
   abbrev pub complementTable : ℕ → Table
   complementTable room = wholeNetTable net then roomTable net room
@@ -161,7 +122,7 @@ module _ (net movements marking : List ℕ) where
   pub record RunReads : Type 0 where
     pub refusal : Reads (runTable net movements marking) (runOf net movements marking .refusal)
     pub stopsAt : beforeRun net movements marking ≡ none → runOf net movements marking .accepted < length (movementsOf movements)
-        → Reads (modeTable Movements (netOf net) stop (runOf net movements marking .marking)) (runOf net movements marking .refusal)
+        → Reads (modeTable 2 (netOf net) stop (runOf net movements marking .marking)) (runOf net movements marking .refusal)
 
 -- a field for each public call that answers: its first refusal is the one that its table gives, for all that it may be given
 pub record CallTables : Type 0 where

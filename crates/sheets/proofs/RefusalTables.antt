@@ -12,18 +12,17 @@ use native.Mathlib.Omega.{arith}
 use borrow.Author.Tests.{eqb-true, eqb-false}
 use Rattle.model.specs.declared.Thing.{Thing}
 use Rattle.model.specs.declared.Thing.the-variants.{Net, Weights, Movements}
-use Rattle.model.specs.declared.Refusal.{Refusal}
-use Rattle.model.specs.declared.Fault.the-variants.{CutShort, WrongLength}
+use Rattle.model.specs.declared.Fault.the-variants.{CutShort}
 use Rattle.model.specs.First.{onlyIf}
 use Rattle.model.specs.Numbers.{fin, ∞, limit}
-use Rattle.model.specs.RefusalTables.{row, Reads}
+use Rattle.model.specs.RefusalTables.{carries, Reads}
 use Rattle.model.proofs.First.{then-assoc}
 use Rattle.model.proofs.Decisions.{Decided, by-less, by-at-most, by-equal, by-above, by-not, by-or, by-and, by-other}
-use Rattle.model.proofs.RefusalTables.{reads-row, reads-then, reads-each, reads-either}
+use Rattle.model.proofs.RefusalTables.{reads-row, reads-plain, reads-then, reads-each, reads-either}
 use Rattle.heads.specs.Bytes.{u16At, u32At}
 use Rattle.heads.specs.Layout.{bodyLength, sheetEnd, weightCountAt, version, countAt, totalOf, pairAt, arcAt, arcCountAt, arcsAfter, placeCount, transitionCount, coloursAt, modesAt, pairCount, pairsAt, modeCount, movementCount, movementAt, weightCount, weightAt}
 use Rattle.heads.specs.Checks.{headRefusal, missing, leftOver, countRefusal}
-use Rattle.model.specs.Refusals.{wrong}
+use Rattle.model.specs.Refusals.{wrong, thingNumber}
 use Rattle.lists.specs.Movements.{mostMovements, movementFields, movementsRefusal}
 use Rattle.lists.specs.Weights.{signed, weightRefusal, weightFields, weightsRefusal}
 use Rattle.fields.specs.Numbers.{unbounded, bound, outside}
@@ -31,27 +30,23 @@ use Rattle.fields.specs.Fields.{runningRefusal, capacityRefusal, startRefusal, 
 use Rattle.nets.specs.Nets.{risesTo, notRising, isBlank, arcNumbersRefusal, arcNamesRefusal, arcRefusal, arcFields, pairAndArcFields, netFields, netRefusal}
 use Rattle.sheets.specs.RefusalTables.{headTable, pastEnd, leftAfter, countTable, movementTable, WeightOutside, weightTable, runningTable, pairTable, Higher, arcNamesTable, arcNumbersTable, arcTable, netTable, SheetTables}
 
--- a row that stands in the chain as it stands in the table
-plain : {test : Bool} {P : Type 0} (r : Refusal) → Decided test P → Reads (row P r) (onlyIf test r)
-plain r d = reads-row r d (λ p. refl)
-
 module _ (thing : Thing) (s : List ℕ) where
-  head-reads : Reads (headTable thing s) (headRefusal thing s)
+  head-reads : Reads (headTable (thingNumber thing) s) (headRefusal thing s)
   unfolding headRefusal
   head-reads =
-      subst (Reads (headTable thing s)) (then-assoc (onlyIf (ltb (length s) 4) (wrong thing CutShort)) _ _)
+      subst (Reads (headTable (thingNumber thing) s)) (then-assoc (onlyIf (ltb (length s) 4) (wrong thing CutShort)) _ _)
       (reads-then (reads-either (wrong thing CutShort) (by-less (length s) 4) (by-less (length s) (sheetEnd s)))
-      (reads-then (plain _ (by-equal (bodyLength s) 0)) (plain _ (by-not (by-equal (version s) 1)))))
+      (reads-then (reads-plain _ (by-equal (bodyLength s) 0)) (reads-plain _ (by-not (by-equal (version s) 1)))))
 
-  past-reads : (at size : ℕ) → Reads (pastEnd thing s at size) (missing thing s at size)
-  past-reads at size = plain _ (by-less (sheetEnd s) (at + size))
+  past-reads : (at size : ℕ) → Reads (pastEnd (thingNumber thing) s at size) (missing thing s at size)
+  past-reads at size = reads-plain _ (by-less (sheetEnd s) (at + size))
 
-  left-reads : (at : ℕ) → Reads (leftAfter thing s at) (leftOver thing s at)
-  left-reads at = plain _ (by-less at (sheetEnd s))
+  left-reads : (at : ℕ) → Reads (leftAfter (thingNumber thing) s at) (leftOver thing s at)
+  left-reads at = reads-plain _ (by-less at (sheetEnd s))
 
-  count-reads : (at low high : ℕ) → Reads (countTable thing s at low high) (countRefusal thing s at low high)
+  count-reads : (at low high : ℕ) → Reads (countTable (thingNumber thing) s at low high) (countRefusal thing s at low high)
   unfolding countRefusal
-  count-reads at low high = reads-then (past-reads at 2) (plain _ (by-or (by-less (u16At s at) low) (by-less high (u16At s at))))
+  count-reads at low high = reads-then (past-reads at 2) (reads-plain _ (by-or (by-less (u16At s at) low) (by-less high (u16At s at))))
 
 -- L - 1 bytes of modes, two each, and one more
 lone : (s : List ℕ) → Decided (ltb (movementAt (movementCount s)) (sheetEnd s)) ((k : ℕ) × (bodyLength s ≡ 2 * k + 2))
@@ -62,8 +57,8 @@ movement-reads : (s : List ℕ) → Reads (movementTable s) (movementsRefusal s)
 unfolding movementTable movementsRefusal movementFields
 movement-reads s =
     reads-then (head-reads Movements s)
-    (reads-then (reads-row _ (lone s) (λ e. ap (λ (at : ℕ). wrong Movements (WrongLength at)) (omega (arith, e .1))))
-    (plain _ (by-less mostMovements (movementCount s))))
+    (reads-then (reads-row _ (lone s) (λ e. ap (λ (at : ℕ). carries 3 2 at) (omega (arith, e .1))))
+    (reads-plain _ (by-less mostMovements (movementCount s))))
 
 weight-outside : (z : ℤ) → Decided (ltb limit (natAbs z)) (WeightOutside z)
 weight-outside (pos n) =
@@ -78,10 +73,10 @@ unfolding weightTable weightsRefusal weightFields weightRefusal
 weight-reads pairs s =
     reads-then (head-reads Weights s)
     (reads-then (past-reads Weights s weightCountAt 2)
-    (reads-then (plain _ (by-not (by-equal (weightCount s) pairs)))
+    (reads-then (reads-plain _ (by-not (by-equal (weightCount s) pairs)))
     (reads-then
     (reads-each (weightCount s)
-    (λ p l. reads-then (past-reads Weights s (weightAt p) 4) (plain _ (weight-outside (signed (u32At s (weightAt p)))))))
+    (λ p l. reads-then (past-reads Weights s (weightAt p) 4) (reads-plain _ (weight-outside (signed (u32At s (weightAt p)))))))
     (left-reads Weights s (weightAt (weightCount s))))))
 
 -- 4,294,967,295 is the one number above the limit that a K or I may have
@@ -96,14 +91,14 @@ bound-outside x = go (eqb x unbounded) refl
 module _ (s : List ℕ) where
   running-reads : (start i : ℕ) → Reads (runningTable s start i) (runningRefusal s start i)
   unfolding runningRefusal
-  running-reads start i = reads-then (count-reads Net s (countAt start i) 1 64) (plain _ (by-less 256 (totalOf s start (i + 1))))
+  running-reads start i = reads-then (count-reads Net s (countAt start i) 1 64) (reads-plain _ (by-less 256 (totalOf s start (i + 1))))
 
   pair-reads : (at : ℕ) → Reads (pairTable s at) (pairRefusal s at)
   unfolding pairRefusal capacityRefusal startRefusal
   pair-reads at =
-      reads-then (reads-then (past-reads Net s at 4) (plain _ (bound-outside (u32At s at))))
+      reads-then (reads-then (past-reads Net s at 4) (reads-plain _ (bound-outside (u32At s at))))
       (reads-then (past-reads Net s (at + 4) 4)
-      (reads-then (plain _ (by-less limit (u32At s (at + 4)))) (plain _ (by-above (u32At s (at + 4)) (bound (u32At s at))))))
+      (reads-then (reads-plain _ (by-less limit (u32At s (at + 4)))) (reads-plain _ (by-above (u32At s (at + 4)) (bound (u32At s at))))))
 
   rises : (before at : ℕ) → Decided (risesTo s before at) (Higher s before at)
   unfolding risesTo
@@ -114,17 +109,17 @@ module _ (s : List ℕ) where
   names-reads : (start k : ℕ) → Reads (arcNamesTable s start k) (arcNamesRefusal s (modeCount s) (pairCount s) start k)
   unfolding arcNamesRefusal notRising
   names-reads start k =
-      reads-then (plain _ (by-at-most (modeCount s) (u16At s (arcAt start k))))
-      (reads-then (plain _ (by-at-most (pairCount s) (u16At s (arcAt start k + 2))))
-      (plain _ (by-and (by-less 0 k) (by-not (rises (arcAt start (k - 1)) (arcAt start k))))))
+      reads-then (reads-plain _ (by-at-most (modeCount s) (u16At s (arcAt start k))))
+      (reads-then (reads-plain _ (by-at-most (pairCount s) (u16At s (arcAt start k + 2))))
+      (reads-plain _ (by-and (by-less 0 k) (by-not (rises (arcAt start (k - 1)) (arcAt start k))))))
 
   numbers-reads : (at : ℕ) → Reads (arcNumbersTable s at) (arcNumbersRefusal s at)
   unfolding arcNumbersRefusal isBlank
   numbers-reads at =
-      reads-then (plain _ (by-less limit (u32At s (at + 4))))
-      (reads-then (plain _ (by-less limit (u32At s (at + 8))))
-      (reads-then (plain _ (bound-outside (u32At s (at + 12))))
-      (plain _
+      reads-then (reads-plain _ (by-less limit (u32At s (at + 4))))
+      (reads-then (reads-plain _ (by-less limit (u32At s (at + 8))))
+      (reads-then (reads-plain _ (bound-outside (u32At s (at + 12))))
+      (reads-plain _
       (by-other (by-and (by-and (by-equal (u32At s (at + 4)) 0) (by-equal (u32At s (at + 8)) 0)) (by-equal (u32At s (at + 12)) unbounded))
       (λ h. (h .0 .0, h .0 .1, h .1)) (λ h. ((h .0, h .1), h .2))))))
 
