@@ -2,21 +2,21 @@
 use Prim.Native.Nat.{ℕ}
 use mathlib.Core.Path.{_≡_, refl}
 use mathlib.Core.List.{List}
+use mathlib.Core.Logic.{_↔_}
 use mathlib.Core.Option.{Option, none, some}
 use Rattle.model.specs.declared.Mode.{Mode}
 use Rattle.model.specs.declared.Thing.the-variants.{Argument}
 use Rattle.model.specs.declared.Refusal.{Refusal}
 use Rattle.model.specs.Markings.{Marking, markingRefusal}
 use Rattle.model.specs.Firing.{modeRefusal, fired}
-use Rattle.model.proofs.First.{left-none, right-none}
-use Rattle.model.proofs.Firing.{accepted-allows}
-use Rattle.model.proofs.Markings.{marking-after, marking-test, marking-kept}
+use Rattle.model.proofs.First.{left-none, right-none, none-then}
+use Rattle.model.proofs.Markings.{mode-rule, marking-after, marking-test, marking-kept}
 use Rattle.nets.specs.Nets.{netRefusal}
 use Rattle.sheets.specs.Whole.{wholeNet}
 use Rattle.sheets.specs.Decoded.{netOf}
 use Rattle.sheets.proofs.Accepted.{well-formed}
 use Rattle.fire.specs.Calls.{beginRefusal, begun, testRefusal, firedBy}
-use Rattle.fire.specs.Promises.{AcceptedBegin, AcceptedFire, RefusedFire, MarkingStays}
+use Rattle.fire.specs.Promises.{Fires, AcceptedBegin, AcceptedFire, MarkingStays}
 
 pub accepted-begin : AcceptedBegin
 accepted-begin net marking e = rw e
@@ -26,14 +26,30 @@ pub mode-accepted : (net marking : List ℕ) (t : Mode) → testRefusal net mark
 unfolding testRefusal
 mode-accepted net marking t e = right-none _ _ (right-none (wholeNet net) _ e)
 
-pub accepted-fire : AcceptedFire
-accepted-fire net marking t e =
-    let fires = mode-accepted net marking t e in
-    let after = marking-after Argument (netOf net) t marking fires in
-    record { enabled = accepted-allows Argument (netOf net) t marking fires; follows = rw e (after .0); oneEach = rw e (after .1) }
+accepts-exactly : (net marking : List ℕ) (t : Mode) → (testRefusal net marking t ≡ none) ↔ Fires net marking t
+unfolding testRefusal
+accepts-exactly net marking t =
+    let n = netOf net in
+    let rule = mode-rule Argument n t marking in (
+      λ e.
+          let after = right-none (wholeNet net) _ e in
+          let fires = rule .0 (right-none _ _ after) in
+          record {
+            sheet = left-none (wholeNet net) _ e;
+            marked = marking-test n marking .0 (left-none _ _ after);
+            there = fires .0;
+            enabled = fires .1;
+            within = fires .2;
+          },
+      λ f. none-then (f .sheet) (none-then (marking-test n marking .1 (f .marked)) (rule .1 (f .there, f .enabled, f .within))),
+    )
 
-pub refused-fire : RefusedFire
-refused-fire net marking t r e = rw e
+pub accepted-fire : AcceptedFire
+accepted-fire =
+    record {
+      exactly = accepts-exactly;
+      leaves = λ net marking t e. rw e (marking-after Argument (netOf net) t marking (mode-accepted net marking t e));
+    }
 
 -- an accepted net sheet's first marking
 pub start-marks : (net : List ℕ) → wholeNet net ≡ none → Marking (netOf net) (netOf net .start)

@@ -1,25 +1,28 @@
 -- Document 01 complements a net arc by arc: each original arc without its inhibitor, and for one at a bounded pair an arc on the complement
--- pair. Mode by mode, originals first and blanks left out, that gives the same list of arcs as the definition by rows.
-use Prim.Native.Nat.{ℕ, _+_, _<_}
-use mathlib.Core.Path.{_≡_, refl, sym, _∙_, ap₂}
-use mathlib.Core.Bool.{Bool, true, false, cond}
-use mathlib.Core.List.{List, [], _∷_, _++_}
+-- pair. The definition by rows has these arcs and no others; mode by mode, originals first and blanks left out, it is the same list.
+use Prim.Native.Nat.{ℕ, zero, suc, _+_, _<_}
+use mathlib.Core.Path.{_≡_, refl, sym, _∙_, ap, ap₂, subst⁻¹}
+use mathlib.Core.Bool.{Bool, true, false, cond, not, _&&_, true≢false}
+use mathlib.Core.List.{List, [], _∷_, _++_, List·Memᴰ, List·Memᴰ·head, List·Memᴰ·tail, List·Memᴰ·not-nil, List·Memᴰ·cases-cons, List·Memᴰ·append-cases, List·Memᴰ·eq-of-singleton, Memᴰ·append-left, Memᴰ·append-right}
+use mathlib.Core.Logic.{_⊎_, inl, inr, ⊎-elim}
 use lib.Dec.{eqb}
 use lib.ListN.{length, getD}
 use borrow.Author.Tests.{eqb-true}
 use native.Mathlib.Omega.{arith}
+use native.Mathlib.Nat.{eq-or-lt-of-le, le-of-suc-le-suc, not-suc-le-zero}
 use Rattle.model.specs.declared.Mode.{Mode}
 use Rattle.model.specs.Numbers.{ℕ∞, fin, ∞}
-use Rattle.model.specs.Rows.{noArc, Row, Capacities}
-use Rattle.model.specs.Nets.{NetArc, PNet, pairs, modes, modeNo, K, arcNo, stands, entryAt, row}
-use Rattle.model.specs.WellFormed.{Rises, WellFormed}
-use Rattle.model.specs.Complement.{bounded, boundedBelow, complementPair, original, complementEntry, complementRow, written, arcsOf, complement}
+use Rattle.model.specs.Rows.{Entry, noArc, Row, Capacities}
+use Rattle.model.specs.Nets.{NetArc, PNet, pairs, modes, pairNo, modeNo, K, entryAt, row}
+use Rattle.model.specs.WellFormed.{Blank, ArcOf, WellFormed}
+use Rattle.model.specs.Complement.{bounded, boundedBelow, complementPair, original, complementEntry, complementRow, blank, written, arcsOf, allPairs, complement}
 use Rattle.model.specs.Lists.{joined, listIf}
+use Rattle.model.specs.Promises.{onOriginal, onComplement, ArcByArc}
 use Rattle.model.proofs.Joined.{joined-ext, joined-split, joined-sparse}
-use Rattle.model.proofs.Bounded.{bounded-pair, at-complements, bounded-rises, unbounded}
+use Rattle.model.proofs.Bounded.{bounded-number, bounded-pair, at-complements, bounded-rises, unbounded, original-or}
 use Rattle.model.proofs.ComplementRow.{row-original, row-complement}
-use Rattle.model.proofs.Each.{Each, each-at, at-each, Sorted, sorted-rising, rising-sorted}
-use Rattle.model.proofs.Nets.{rises-all, rises-in-mode, entry-written, entry-unwritten}
+use Rattle.model.proofs.WrittenRows.{blank-is, not-blank}
+use Rattle.model.proofs.Nets.{entry-written}
 use Rattle.model.proofs.ByArcs.{Listing}
 
 module _ (t : Mode) (n : ℕ) (K : Capacities) where
@@ -69,77 +72,147 @@ module _ (t : Mode) (n : ℕ) (K : Capacities) where
     unfolding modeArcs
     mode-by-arcs = joined-split n (boundedBelow K n) rowAt ∙ ap₂ (λ xs ys. xs ++ ys) originals complements
 
--- the complement's arcs, from a listing of each mode's
-pub complement-by-arcs : (net : PNet) (c : ℕ → ℕ) (arc : ℕ → ℕ → NetArc)
-    → ((t : ℕ) → t < modes net → Listing (pairs net) (row net (modeNo t)) (c t) (arc t))
-    → complement net .arcs ≡ joined (modes net) (λ t. modeArcs (modeNo t) (pairs net) (K net) (c t) (arc t))
-unfolding complement arcsOf
-complement-by-arcs net c arc listing =
-    joined-ext (modes net) _ (λ t. modeArcs (modeNo t) (pairs net) (K net) (c t) (arc t))
-    (λ t h. mode-by-arcs (modeNo t) (pairs net) (K net) (row net (modeNo t)) (c t) (arc t) (listing t h))
+-- what stands in a list that is joined from parts
+module _ {A : Type 0} where
+  in-joined : {a : A} (n : ℕ) (f : ℕ → List A) → List·Memᴰ a (joined n f) → (i : ℕ) × (i < n) × List·Memᴰ a (f i)
+  unfolding joined
+  in-joined zero f m = absurd (List·Memᴰ·not-nil m)
+  in-joined (suc n) f m =
+      ⊎-elim (λ l. let r = in-joined n f l in (r .0, omega (arith, r .1), r .2)) (λ l. (n, omega arith, l)) (List·Memᴰ·append-cases (joined n f) m)
 
--- the arcs of one mode, in their order
-unfoldable pub arcsIn : List NetArc → Mode → List NetArc
-arcsIn [] t = []
-arcsIn (a ∷ arcs) t = listIf (eqb (a .mode .0) (t .0)) a ++ arcsIn arcs t
+  joined-in : {a : A} (n i : ℕ) (f : ℕ → List A) → i < n → List·Memᴰ a (f i) → List·Memᴰ a (joined n f)
+  unfolding joined
+  joined-in zero i f h m = absurd (not-suc-le-zero h)
+  joined-in (suc n) i f h m =
+      ⊎-elim (λ (q : i ≡ n). Memᴰ·append-right (joined n f) (rw q at m)) (λ (l : i < n). Memᴰ·append-left (f n) (joined-in n i f l m))
+      (eq-or-lt-of-le (le-of-suc-le-suc h))
 
-unfoldable pub arcByArc : PNet → List NetArc
-arcByArc net =
-    joined (modes net)
-    (λ t. let own = arcsIn (net .arcs) (modeNo t) in modeArcs (modeNo t) (pairs net) (K net) (length own) (arcNo own))
+  in-at : {a : A} (d : A) (xs : List A) → List·Memᴰ a xs → (k : ℕ) × (k < length xs) × (a ≡ getD xs k d)
+  in-at d [] m = absurd (List·Memᴰ·not-nil m)
+  in-at d (x ∷ xs) m = ⊎-elim (λ e. (0, omega arith, e)) (λ l. let r = in-at d xs l in (suc (r .0), omega (arith, r .1), r .2)) (List·Memᴰ·cases-cons m)
 
-module _ (t : Mode) where
-  in-each : (P : NetArc → Type 0) (arcs : List NetArc) → Each P arcs → Each P (arcsIn arcs t)
-  unfolding arcsIn
-  in-each P [] h = tt
-  in-each P (a ∷ arcs) h = go (eqb (a .mode .0) (t .0)) (in-each P arcs (h .1))
+abbrev arcFor : Mode → ℕ → Entry → NetArc
+arcFor t p e = record { mode = t; pair = pairNo p; entry = e }
+
+in-written : {b : NetArc} (t : Mode) (p : ℕ) (e : Entry) → List·Memᴰ b (written t p e) → (b ≡ arcFor t p e) × (blank e ≡ false)
+in-written {b} t p e = go (blank e) refl
+  where
+    go : (d : Bool) → blank e ≡ d → List·Memᴰ b (listIf (not d) (arcFor t p e)) → (b ≡ arcFor t p e) × (blank e ≡ false)
+    go true q m = absurd (List·Memᴰ·not-nil m)
+    go false q m = (List·Memᴰ·eq-of-singleton m, q)
+
+-- the arcs that are written from rows: one for each mode and pair whose entry is not blank
+module _ (m n : ℕ) (rows : Mode → Row) where
+  record InRows (b : NetArc) : Type 0 where
+    mode : b .mode .0 < m
+    pair : b .pair .0 < n
+    entry : b .entry ≡ rows (b .mode) (b .pair .0)
+    notBlank : blank (b .entry) ≡ false
+
+  in-rows : (b : NetArc) → List·Memᴰ b (arcsOf m n rows) → InRows b
+  unfolding arcsOf
+  in-rows b l =
+      let t = in-joined m _ l in
+      let p = in-joined n _ (t .2) in
+      let is = in-written (modeNo (t .0)) (p .0) (rows (modeNo (t .0)) (p .0)) (p .2) in
+      subst⁻¹ InRows (is .0) (record { mode = t .1; pair = p .1; entry = refl; notBlank = is .1 })
+
+  rows-in : (b : NetArc) → InRows b → List·Memᴰ b (arcsOf m n rows)
+  unfolding arcsOf
+  rows-in b r =
+      joined-in m (b .mode .0) _ (r .mode)
+      (joined-in n (b .pair .0) _ (r .pair)
+      (rw (← r .entry, r .notBlank) (List·Memᴰ·head refl)))
+
+-- what stands at a mode and pair is no arc, or an arc of the list
+entry-in : (arcs : List NetArc) (t : Mode) (p : ℕ) → (entryAt arcs t p ≡ noArc) ⊎ List·Memᴰ (arcFor t p (entryAt arcs t p)) arcs
+unfolding entryAt
+entry-in [] t p = inl refl
+entry-in (a ∷ arcs) t p = go (eqb (a .mode .0) (t .0)) (eqb (a .pair .0) p) refl refl (entry-in arcs t p)
+  where
+    Found : Entry → Type 0
+    Found e = (e ≡ noArc) ⊎ List·Memᴰ (arcFor t p e) (a ∷ arcs)
+
+    go : (x y : Bool) → eqb (a .mode .0) (t .0) ≡ x → eqb (a .pair .0) p ≡ y
+        → (entryAt arcs t p ≡ noArc) ⊎ List·Memᴰ (arcFor t p (entryAt arcs t p)) arcs → Found (cond (x && y) (a .entry) (entryAt arcs t p))
+    go true true d e later =
+        let same : a ≡ arcFor t p (a .entry) =
+        λ j. record { mode = record { 0 = eqb-true (a .mode .0) (t .0) d j }; pair = record { 0 = eqb-true (a .pair .0) p e j }; entry = a .entry }
+        in
+        inr (List·Memᴰ·head (sym same))
+    go true false d e later = ⊎-elim inl (λ l. inr (List·Memᴰ·tail l)) later
+    go false y d e later = ⊎-elim inl (λ l. inr (List·Memᴰ·tail l)) later
+
+blank-not : (e : Entry) → ¬ Blank e → blank e ≡ false
+blank-not e h = go (blank e) refl
+  where
+    go : (d : Bool) → blank e ≡ d → blank e ≡ false
+    go true q = absurd (h (rw (blank-is e q) (record { pre = refl; post = refl; inhibitor = refl })))
+    go false q = q
+
+module _ (net : PNet) where
+  abbrev n : ℕ
+  n = pairs net
+
+  Rows : NetArc → Type 0
+  Rows = InRows (modes net) (allPairs net) (λ t. complementRow n (K net) (row net t))
+
+  becomes-in : (b : NetArc) → Rows b → (a : NetArc) × List·Memᴰ a (net .arcs) × ((b ≡ onOriginal a) ⊎ (b ≡ onComplement net a))
+  unfolding Rows
+  becomes-in b r =
+      let t = b .mode in
+      ⊎-elim
+      (λ (l : b .pair .0 < n).
+      let p = b .pair .0 in
+      let is : b .entry ≡ original (row net t p) = r .entry ∙ row-original n (K net) (row net t) p l in
+      ⊎-elim (λ bare. absurd (true≢false (sym (ap blank (is ∙ ap original bare)) ∙ r .notBlank)))
+      (λ found. (arcFor t p (row net t p), found, inl (ap (arcFor t p) is)))
+      (entry-in (net .arcs) t p))
+      (λ o.
+      let q = o .0 in
+      let is : b .entry ≡ complementEntry (K net q) (row net t q) =
+      r .entry ∙ ap (complementRow n (K net) (row net t)) (sym (o .4)) ∙ row-complement n (K net) (row net t) q (o .1) (o .2) (o .3) ∙ rw (o .3) in
+      ⊎-elim (λ bare. absurd (true≢false (sym (ap blank (is ∙ (λ j. complementEntry (o .3 j) (bare j)))) ∙ r .notBlank)))
+      (λ found. (arcFor t q (row net t q), found, inr (λ j. arcFor t (sym (o .4) j) (is j))))
+      (entry-in (net .arcs) t q))
+      (original-or (K net) n (b .pair .0) (r .pair))
+
+  in-becomes : WellFormed net → (a b : NetArc) → List·Memᴰ a (net .arcs) → ¬ Blank (b .entry) → (b ≡ onOriginal a) ⊎ (b ≡ onComplement net a) → Rows b
+  unfolding Rows
+  in-becomes wf a b m h which =
+      let k = in-at _ (net .arcs) m in
+      let is : ArcOf net a = subst⁻¹ (ArcOf net) (k .2) (wf .eachArc (k .0) (k .1)) in
+      let here : row net (a .mode) (a .pair .0) ≡ a .entry =
+      entry-written (a .mode) (a .pair .0) (net .arcs) (wf .rising) (k .0) (k .1) (ap (λ x. x .mode .0) (sym (k .2)), ap (λ x. x .pair .0) (sym (k .2)))
+      ∙ ap (λ x. x .entry) (sym (k .2)) in
+      ⊎-elim
+      (λ e.
+      subst⁻¹ Rows e
+      (record {
+        mode = is .mode;
+        pair = omega (arith, is .pair);
+        entry = sym (row-original n (K net) (row net (a .mode)) (a .pair .0) (is .pair) ∙ ap original here);
+        notBlank = blank-not _ (rw e at h);
+      }))
+      (λ e. subst⁻¹ Rows e (go (K net (a .pair .0)) refl is here (rw e at h)))
+      which
     where
-      go : (b : Bool) → Each P (arcsIn arcs t) → Each P (listIf b a ++ arcsIn arcs t)
-      go true later = (h .0, later)
-      go false later = later
+      go : (c : ℕ∞) → K net (a .pair .0) ≡ c → ArcOf net a → row net (a .mode) (a .pair .0) ≡ a .entry → ¬ Blank (onComplement net a .entry)
+          → Rows (onComplement net a)
+      go (fin c) q is here h =
+          record {
+            mode = is .mode;
+            pair = omega (arith, bounded-number (K net) n (a .pair .0) c (is .pair) q);
+            entry = sym (row-complement n (K net) (row net (a .mode)) (a .pair .0) c (is .pair) q ∙ rw (here, q));
+            notBlank = blank-not _ h;
+          }
+      go ∞ q is here h = absurd (h (rw q (record { pre = refl; post = refl; inhibitor = refl })))
 
-  in-mode : (arcs : List NetArc) → Each (λ a. a .mode .0 ≡ t .0) (arcsIn arcs t)
-  unfolding arcsIn
-  in-mode [] = tt
-  in-mode (a ∷ arcs) = go (eqb (a .mode .0) (t .0)) refl (in-mode arcs)
-    where
-      go : (b : Bool) → eqb (a .mode .0) (t .0) ≡ b → Each (λ a. a .mode .0 ≡ t .0) (arcsIn arcs t)
-          → Each (λ a. a .mode .0 ≡ t .0) (listIf b a ++ arcsIn arcs t)
-      go true e later = (eqb-true (a .mode .0) (t .0) e, later)
-      go false e later = later
-
-  in-sorted : (arcs : List NetArc) → Sorted arcs → Sorted (arcsIn arcs t)
-  unfolding arcsIn
-  in-sorted [] h = tt
-  in-sorted (a ∷ arcs) h = go (eqb (a .mode .0) (t .0)) (in-sorted arcs (h .1))
-    where
-      go : (b : Bool) → Sorted (arcsIn arcs t) → Sorted (listIf b a ++ arcsIn arcs t)
-      go true later = (in-each (Rises a) arcs (h .0), later)
-      go false later = later
-
-  in-entry : (arcs : List NetArc) (p : ℕ) → entryAt arcs t p ≡ entryAt (arcsIn arcs t) t p
-  unfolding entryAt arcsIn
-  in-entry [] p = refl
-  in-entry (a ∷ arcs) p = go (eqb (a .mode .0) (t .0)) refl (in-entry arcs p)
-    where
-      go : (b : Bool) → eqb (a .mode .0) (t .0) ≡ b → entryAt arcs t p ≡ entryAt (arcsIn arcs t) t p
-          → cond (stands a t p) (a .entry) (entryAt arcs t p) ≡ entryAt (listIf b a ++ arcsIn arcs t) t p
-      go true e later = rw later
-      go false e later = rw e later
-
-  own-listing : (net : PNet) → WellFormed net → Listing (pairs net) (row net t) (length (arcsIn (net .arcs) t)) (arcNo (arcsIn (net .arcs) t))
-  own-listing net wf =
-      let own = arcsIn (net .arcs) t in
-      let rising = sorted-rising own (in-sorted (net .arcs) (rising-sorted (net .arcs) (wf .rising))) in
-      let mode = each-at (λ a. a .mode .0 ≡ t .0) _ own (in-mode (net .arcs)) in
-      record {
-        inside = each-at (λ a. a .pair .0 < pairs net) _ own
-            (in-each (λ a. a .pair .0 < pairs net) (net .arcs) (at-each _ _ (net .arcs) (λ k h. wf .eachArc k h .pair)));
-        rising = λ j k l h. rises-in-mode (arcNo own j) (arcNo own k) (rises-all own rising j k l h) (mode j (omega arith) ∙ sym (mode k h));
-        written = λ k h. in-entry (net .arcs) (arcNo own k .pair .0) ∙ entry-written t (arcNo own k .pair .0) own rising k h (mode k h, refl);
-        unwritten = λ p h out. in-entry (net .arcs) p ∙ entry-unwritten t p own (λ k l s. out k l (s .1));
-      }
-
-pub arc-by-arc : (net : PNet) → WellFormed net → complement net .arcs ≡ arcByArc net
-unfolding arcByArc
-arc-by-arc net wf = complement-by-arcs net _ _ (λ t h. own-listing (modeNo t) net wf)
+pub arc-by-arc : ArcByArc
+unfolding complement Rows
+arc-by-arc net wf b = (
+  λ m.
+      let r = in-rows _ _ _ b m in
+      (not-blank (b .entry) (r .notBlank), becomes-in net b r),
+  λ h. rows-in _ _ _ b (in-becomes net wf (h .1 .0) b (h .1 .1) (h .0) (h .1 .2)),
+)

@@ -2,11 +2,11 @@
 use Prim.Native.Nat.{ℕ, zero, suc, _+_, _-_, _≤_, _<_}
 use mathlib.Core.Path.{_≡_, refl, sym, _∙_, ap}
 use mathlib.Core.Bool.{Bool, true, false, cond, _&&_, true≢false}
-use mathlib.Core.List.{List, [], _∷_, _++_, map}
+use mathlib.Core.List.{List, [], _∷_, _++_, map, append-nil}
 use mathlib.Core.Logic.{⊎-elim}
 use mathlib.Core.Option.{none}
 use lib.Dec.{eqb, ltb}
-use lib.ListN.{length, getD, replicate, length-append, length-replicate, getD-replicate, length-map, List·getD-append, List·getD-eq-default}
+use lib.ListN.{length, take, getD, replicate, length-append, length-replicate, getD-replicate, length-map, List·getD-append, List·getD-eq-default}
 use lib.Seq.{getD-append-add}
 use borrow.Author.Tests.{eqb-true, ltb-false}
 use native.Mathlib.Omega.{arith}
@@ -17,11 +17,13 @@ use Rattle.model.specs.declared.Fault.the-variants.{InhibitedUnbounded}
 use Rattle.model.specs.Numbers.{ℕ∞, fin, ∞}
 use Rattle.model.specs.Rows.{Entry, noArc, Capacities}
 use Rattle.model.specs.Nets.{NetArc, PNet, total, pairs, modes, K, count, arcNo, entryAt, row}
+use Rattle.model.specs.Markings.{Marking}
 use Rattle.model.specs.WellFormed.{WellFormed}
 use Rattle.model.specs.Complement.{finite, boundedBelow, complementPair, complementRow, newPlaces, less, boundedPairs, allPairs, complement, firstArc, inhibitsUnbounded, refusal15, Corresponds}
-use Rattle.model.specs.Lists.{listIf}
+use Rattle.model.specs.Lists.{joined, listIf}
 use Rattle.model.proofs.First.{below-or, first-each, only-if-none}
-use Rattle.model.proofs.Bounded.{below-none, below-split, bounded-at, bounded-number}
+use Rattle.model.proofs.Joined.{joined-front, joined-ext}
+use Rattle.model.proofs.Bounded.{below-none, below-at-most, below-split, bounded-at, bounded-number}
 use Rattle.model.proofs.WrittenRows.{written-row}
 
 total-append : (xs ys : List ℕ) → total (xs ++ ys) ≡ total xs + total ys
@@ -31,13 +33,45 @@ total-append (x ∷ xs) ys = omega (arith, total-append xs ys)
 total-new : (K : Capacities) (cs : List ℕ) → total (newPlaces K cs) ≡ boundedBelow K (total cs)
 unfolding newPlaces
 total-new K [] = sym (below-none K)
-total-new K (c ∷ cs) =
-    total-append (listIf (ltb 0 (boundedBelow K c)) (boundedBelow K c)) (newPlaces (λ p. K (c + p)) cs)
-    ∙ omega (arith, one (ltb 0 (boundedBelow K c)) refl, total-new (λ p. K (c + p)) cs, below-split K c (total cs))
+total-new K (c ∷ cs) = simp total-append (omega (arith, one (ltb 0 (boundedBelow K c)) refl, total-new (λ p. K (c + p)) cs, below-split K c (total cs)))
   where
     one : (b : Bool) → ltb 0 (boundedBelow K c) ≡ b → total (listIf b (boundedBelow K c)) ≡ boundedBelow K c
     one true e = omega arith
     one false e = omega (arith, ltb-false 0 (boundedBelow K c) e)
+
+-- where the pairs of the next place start
+total-next : (cs : List ℕ) (i : ℕ) → i < length cs → total (take (suc i) cs) ≡ total (take i cs) + getD cs i 0
+total-next [] i h = absurd (not-suc-le-zero h)
+total-next (c ∷ cs) zero h = omega arith
+total-next (c ∷ cs) (suc i) h = omega (arith, total-next cs i (omega arith))
+
+abbrev pub newColours : Capacities → List ℕ → ℕ → ℕ
+newColours K cs i = boundedBelow K (total (take (suc i) cs)) - boundedBelow K (total (take i cs))
+
+pub colours-at-most : (K : Capacities) (cs : List ℕ) (i : ℕ) → i < length cs → newColours K cs i ≤ getD cs i 0
+colours-at-most K cs i h =
+    let first = total (take i cs) in
+    let more = getD cs i 0 in
+    omega (arith, ap (boundedBelow K) (total-next cs i h), below-split K first more, below-at-most (λ p. K (first + p)) more)
+
+-- "one for each place with a finite pair, with as many colours as it has finite pairs"
+abbrev pub newPlace : Capacities → List ℕ → ℕ → List ℕ
+newPlace K cs i = listIf (ltb 0 (newColours K cs i)) (newColours K cs i)
+
+pub new-places : (K : Capacities) (cs : List ℕ) → newPlaces K cs ≡ joined (length cs) (newPlace K cs)
+unfolding newPlaces joined
+new-places K [] = refl
+new-places K (c ∷ cs) =
+    let first : boundedBelow K (c + 0) - boundedBelow K 0 ≡ boundedBelow K c = let e : c + 0 ≡ c = omega arith in rw (e, below-none K) (omega arith) in
+    rw (joined-front (length cs) (newPlace K (c ∷ cs)), ← joined-ext (length cs) _ _ later, ← new-places (λ p. K (c + p)) cs) (simp (first, append-nil))
+  where
+    later : (i : ℕ) → i < length cs → newPlace (λ p. K (c + p)) cs i ≡ newPlace K (c ∷ cs) (suc i)
+    later i h =
+        let first = total (take i cs) in
+        let end = total (take (suc i) cs) in
+        let e : boundedBelow (λ p. K (c + p)) end - boundedBelow (λ p. K (c + p)) first ≡ boundedBelow K (c + end) - boundedBelow K (c + first) =
+        omega (arith, below-split K c end, below-split K c first) in
+        ap (λ n. listIf (ltb 0 n) n) e
 
 map-at : {A B : Type 0} (f : A → B) (l : List A) (n : ℕ) (d : B) (c : A) → n < length l → getD (map f l) n d ≡ f (getD l n c)
 map-at f [] n d c h = absurd (not-suc-le-zero h)
@@ -97,13 +131,13 @@ uninhibited net offset e t p u = entry-holds (λ e. e .inhibitor ≡ ∞) t p re
         go ∞ f d = f
 
 -- the first markings correspond
-pub start-corresponds : (net : PNet) → WellFormed net → Corresponds net (net .start) (complement net .start)
+pub first-corresponds : (net : PNet) → Marking net (net .start) → Corresponds net (net .start) (complement net .start)
 unfolding complement
-start-corresponds net wf =
+first-corresponds net marks =
     record {
-      oneEach = wf .start .oneEach;
-      oneEach′ = length-append (net .start) _ ∙ rw (wf .start .oneEach, length-map) (sym (pairs-complement net));
-      equal = λ p h. List·getD-append (net .start) _ 0 p (rw (wf .start .oneEach) h);
+      oneEach = marks .oneEach;
+      oneEach′ = length-append (net .start) _ ∙ rw (marks .oneEach, length-map) (sym (pairs-complement net));
+      equal = λ p h. List·getD-append (net .start) _ 0 p (rw (marks .oneEach) h);
       addUp = λ p k h. addUp p k (omega arith);
     }
   where
@@ -113,11 +147,14 @@ start-corresponds net wf =
     addUp : (p k : ℕ) → p < pairs net → K net p ≡ fin k
         → count (net .start) p + count (net .start ++ map rest (boundedPairs net)) (complementPair (pairs net) (K net) p) ≡ k
     addUp p k h e =
-        let less : count (net .start) p ≤ k = rw e at (wf .start .within p h) in
+        let less : count (net .start) p ≤ k = rw e at (marks .within p h) in
         let is : count (net .start ++ map rest (boundedPairs net)) (complementPair (pairs net) (K net) p) ≡ k - count (net .start) p =
-        ap (λ n. count (net .start ++ map rest (boundedPairs net)) (n + boundedBelow (K net) p)) (sym (wf .start .oneEach))
+        ap (λ n. count (net .start ++ map rest (boundedPairs net)) (n + boundedBelow (K net) p)) (sym (marks .oneEach))
         ∙ getD-append-add (net .start) (map rest (boundedPairs net)) (boundedBelow (K net) p) 0
         ∙ map-at rest (boundedPairs net) (boundedBelow (K net) p) 0 0 (bounded-number (K net) (pairs net) p k h e)
         ∙ rw (bounded-at (K net) (pairs net) p k h e, e)
         in
         omega arith
+
+pub start-corresponds : (net : PNet) → WellFormed net → Corresponds net (net .start) (complement net .start)
+start-corresponds net wf = first-corresponds net (wf .start)

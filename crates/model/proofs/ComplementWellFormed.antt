@@ -20,11 +20,11 @@ use Rattle.model.specs.Complement.{boundedBelow, complementEntry, comple
 use Rattle.model.specs.Lists.{listIf}
 use Rattle.model.proofs.Both.{and-both, or-neither}
 use Rattle.model.proofs.Numbers.{above-false}
-use Rattle.model.proofs.Bounded.{below-at-most, original-or}
+use Rattle.model.proofs.Bounded.{original-or}
 use Rattle.model.proofs.ComplementRow.{row-original, row-complement, row-uninhibited}
-use Rattle.model.proofs.Each.{Each, each-append, each-at, at-each, sorted-rising}
+use Rattle.model.proofs.Each.{Each, each-append, each-joined, each-at, at-each, sorted-rising}
 use Rattle.model.proofs.WrittenRows.{not-blank, each-row, sorted-rows}
-use Rattle.model.proofs.ComplementNet.{modes-complement, pairs-complement, capacity-complement, entry-holds, arc-passes, start-corresponds}
+use Rattle.model.proofs.ComplementNet.{newColours, newPlace, new-places, colours-at-most, modes-complement, pairs-complement, capacity-complement, entry-holds, arc-passes, start-corresponds}
 
 -- a marking's correspondent is a marking of the complement
 pub corresponds-marking : (net : PNet) (m m′ : List ℕ) → WellFormed net → Marking net m → Corresponds net m m′ → Marking (complement net) m′
@@ -66,22 +66,21 @@ row-small net wf t p = entry-holds Small t p (omega arith) (net .arcs) (λ k h s
 abbrev Countable : ℕ → Type 0
 Countable c = (1 ≤ c) × (c ≤ 64)
 
-new-places : (K : Capacities) (cs : List ℕ) → Each Countable cs → Each Countable (newPlaces K cs)
-unfolding newPlaces
-new-places K [] h = tt
-new-places K (c ∷ cs) h =
-    each-append Countable (listIf (ltb 0 (boundedBelow K c)) (boundedBelow K c)) (newPlaces (λ p. K (c + p)) cs) (one (ltb 0 (boundedBelow K c)) refl)
-    (new-places (λ p. K (c + p)) cs (h .1))
+new-place : (colours most : ℕ) → colours ≤ most → most ≤ 64 → Each Countable (listIf (ltb 0 colours) colours)
+new-place colours most h l = go (ltb 0 colours) refl
   where
-    one : (b : Bool) → ltb 0 (boundedBelow K c) ≡ b → Each Countable (listIf b (boundedBelow K c))
-    one true e = (omega (arith, ltb-true 0 (boundedBelow K c) e, below-at-most K c, h .0), tt)
-    one false e = tt
+    go : (b : Bool) → ltb 0 colours ≡ b → Each Countable (listIf b colours)
+    go true e = (omega (arith, ltb-true 0 colours e), tt)
+    go false e = tt
 
 places : (net : PNet) → WellFormed net → Each Countable (complement net .colours)
 unfolding complement
 places net wf =
     let old = at-each Countable 0 (net .colours) (wf .places .each) in
-    each-append Countable (net .colours) (newPlaces (K net) (net .colours)) old (new-places (K net) (net .colours) old)
+    each-append Countable (net .colours) (newPlaces (K net) (net .colours)) old
+    (rw (new-places (K net) (net .colours))
+    (each-joined Countable (length (net .colours)) (newPlace (K net) (net .colours))
+    (λ i h. new-place (newColours (K net) (net .colours) i) _ (colours-at-most (K net) (net .colours) i h) (wf .places .each i h .1))))
 
 module _ (net : PNet) (wf : WellFormed net) (offset : ℕ → ℕ) (no16 : refusal16 offset net ≡ none) where
   -- complement numbers never pass 1,000,000 where 16 was not given

@@ -2,7 +2,7 @@
 use Prim.Native.Nat.{ℕ, _+_, _≤_, _<_}
 use mathlib.Core.Path.{_≡_, refl, sym, _∙_, ap}
 use mathlib.Core.List.{List, [], _∷_}
-use mathlib.Core.Logic.{⊎-elim}
+use mathlib.Core.Logic.{_↔_, ⊎-elim}
 use mathlib.Core.Option.{Option, none, some, Option·none-ne-some}
 use lib.ListN.{length, take, getD}
 use borrow.Author.Tests.{not-false}
@@ -49,22 +49,23 @@ module _ (net : PNet) (wf : WellFormed net) (offset : ℕ → ℕ) (no15 : refus
       go (some r) none e e′ next = absurd (Option·none-ne-some r (sym (accepts-back net wf offset no15 Movements t m m′ c e′) ∙ e))
       go (some r) (some s) e e′ next = record { accepted = refl; marking = c }
 
-  alike-start : (ts : List Mode) → Alike net (run net ts (net .start)) (run (complement net) ts (complement net .start))
-  alike-start ts = alike 0 ts (net .start) (complement net .start) (start-corresponds net wf)
-
-  module _ (ts : List Mode) where
+  -- two runs of one list from corresponding markings
+  module _ (ts : List Mode) (m m′ : List ℕ) (c : Corresponds net m m′) where
     abbrev o : Outcome
-    o = run net ts (net .start)
+    o = run net ts m
 
     abbrev o′ : Outcome
-    o′ = run (complement net) ts (complement net .start)
+    o′ = run (complement net) ts m′
 
-    refusals : o′ .refusal ≡ becomes Movements net (getD ts (o .accepted) (modeNo 0)) (o .marking) (o .refusal)
+    pub runs-alike : Alike net o o′
+    runs-alike = alike 0 ts m m′ c
+
+    pub refusals : o′ .refusal ≡ becomes Movements net (getD ts (o .accepted) (modeNo 0)) (o .marking) (o .refusal)
     unfolding becomes
     refusals =
-        let both = alike-start ts in
-        let r = runs net ts (net .start) in
-        let r′ = runs (complement net) ts (complement net .start) in
+        let both = runs-alike in
+        let r = runs net ts m in
+        let r′ = runs (complement net) ts m′ in
         ⊎-elim
         (λ (h : o .accepted < length ts).
         let t = getD ts (o .accepted) (modeNo 0) in
@@ -76,17 +77,22 @@ module _ (net : PNet) (wf : WellFormed net) (offset : ℕ → ℕ) (no15 : refus
         r′ .whole .1 (both .accepted ∙ end) ∙ rw (r .whole .1 end))
         (below-or (o .accepted) (length ts))
 
-    pub agreement : Agreement net ts
-    agreement =
-        let same = alike-start ts .accepted in
-        let r = runs net ts (net .start) in
-        let r′ = runs (complement net) ts (complement net .start) in
-        record {
-          accepted = same;
-          whole = (λ e. r .whole .1 (sym same ∙ r′ .whole .0 e), λ e. r′ .whole .1 (same ∙ r .whole .0 e));
-          refusal = refusals;
-          agree = λ j h. alike-start (take j ts) .marking;
-        }
+    pub both-whole : (o′ .refusal ≡ none) ↔ (o .refusal ≡ none)
+    both-whole =
+        let same = runs-alike .accepted in
+        let r = runs net ts m in
+        let r′ = runs (complement net) ts m′ in
+        (λ e. r .whole .1 (sym same ∙ r′ .whole .0 e), λ e. r′ .whole .1 (same ∙ r .whole .0 e))
+
+  agreement : (ts : List Mode) → Agreement net ts
+  agreement ts =
+      let c = start-corresponds net wf in
+      record {
+        accepted = runs-alike ts _ _ c .accepted;
+        whole = both-whole ts _ _ c;
+        refusal = refusals ts _ _ c;
+        agree = λ j h. runs-alike (take j ts) _ _ c .marking;
+      }
 
 pub demand3 : Demand3
 unfolding complementRefusal

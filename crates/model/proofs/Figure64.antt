@@ -1,20 +1,26 @@
--- Document 01's lines for the complement are figure 6.4 of source document 000, over the integers.
+-- The complemented net is figure 6.4's of source document 000: document 01's lines are its, over the integers, and stand at its pairs.
 use Prim.Native.Nat.{ℕ, _+_, _-_, _≤_, _<_, max}
 use mathlib.Core.Path.{_≡_, refl, sym, _∙_, ap}
 use mathlib.Core.Bool.{Bool, true, false, true≢false}
+use mathlib.Core.List.{_++_}
 use mathlib.Core.Logic.{⊎-elim}
+use lib.ListN.{replicate}
 use lib.IntN.{ℤ, pos, negℤ, _+ℤ_, _-ℤ_, +ℤ-assoc, +ℤ-comm, +ℤ-idl, +ℤ-invr, negℤ-+ℤ, negℤ-negℤ}
 use lib.Signed.{ltZ}
 use native.Mathlib.Omega.{arith}
 use borrow.Author.Tests.{ltb-true, ltb-false}
 use Rattle.model.specs.Numbers.{ℕ∞, fin, ∞}
+use Rattle.model.specs.Rows.{Entry}
+use Rattle.model.specs.Nets.{pairs, K, row}
 use Rattle.model.specs.Billington.{_∩_, IK}
-use Rattle.model.specs.Complement.{reserve, complementPre, complementPost}
-use Rattle.model.specs.Promises.{Figure64}
+use Rattle.model.specs.Complement.{complementPair, reserve, complementPre, complementPost, complementEntry, complement}
+use Rattle.model.specs.Promises.{Beside, Figure64}
 use Rattle.model.proofs.First.{below-or}
 use Rattle.model.proofs.Numbers.{minus-is, minus-below}
 use Rattle.model.proofs.Integers.{pos-after}
-use Rattle.model.proofs.ComplementRow.{reserve-is}
+use Rattle.model.proofs.Bounded.{bounded-number}
+use Rattle.model.proofs.ComplementRow.{reserve-is, row-original, row-complement}
+use Rattle.model.proofs.ComplementNet.{new-places, pairs-complement, rows-complement, first-corresponds}
 
 -- a - (a - b) is b
 minus-back : (a b : ℤ) → a -ℤ (a -ℤ b) ≡ b
@@ -41,14 +47,31 @@ larger-is k post (fin i) = rw reserve-is (go (ltZ (pos k -ℤ pos post) (pos i))
     go false e = let h = room-above k post i e in rw e (ap pos (omega arith) ∙ sym (minus-is k i (omega arith)))
 larger-is k post ∞ = ap pos (omega arith) ∙ sym (minus-back (pos k) (pos post))
 
-pub figure-64 : Figure64
-figure-64 =
+-- document 01's lines at one complement pair
+beside : (k : ℕ) (e : Entry) → Beside k e (complementEntry (fin k) e)
+beside k e =
     record {
-      pre = λ k e. larger-is k (e .post) (e .inhibitor);
-      post = λ k e.
+      pre = larger-is k (e .post) (e .inhibitor);
+      post =
           let order : complementPost k e ≡ complementPre k e - e .post + e .pre = omega arith in
           ap pos order ∙ pos-after (complementPre k e) (e .post) (e .pre) (omega arith)
           ∙ ap (λ x. x +ℤ (pos (e .pre) -ℤ pos (e .post))) (larger-is k (e .post) (e .inhibitor))
           ∙ +ℤ-comm (pos k -ℤ IK k e) (pos (e .pre) -ℤ pos (e .post));
-      start = λ k m h. sym (minus-is k m h);
+      inhibitor = refl;
+    }
+
+pub figure-64 : Figure64
+unfolding complement
+figure-64 net =
+    let n = pairs net in
+    record {
+      places = ap (λ new. net .colours ++ new) (new-places (K net) (net .colours));
+      sameModes = refl;
+      unbounded = ap (λ n. replicate n ∞) (sym (pairs-complement net));
+      start = first-corresponds net;
+      originals = λ t p h l. rows-complement net t p h (omega arith) ∙ row-original n (K net) (row net t) p l;
+      besides = λ t p k h l e.
+          let pair = complementPair n (K net) p in
+          let is = rows-complement net t pair h (omega (arith, bounded-number (K net) n p k l e)) ∙ row-complement n (K net) (row net t) p k l e in
+          rw is (beside k (row net t p));
     }

@@ -3,12 +3,12 @@ pub mod Both
 pub mod Joined
 pub mod Bounded
 pub mod ComplementRow
-pub mod Figure64
 pub mod ComplementStep
 pub mod RefusalsCorrespond
 pub mod Each
 pub mod WrittenRows
 pub mod ComplementNet
+pub mod Figure64
 pub mod CorrespondingMoves
 pub mod ComplementWellFormed
 pub mod Demand3

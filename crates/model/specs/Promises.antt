@@ -1,12 +1,13 @@
 -- What is promised of the model; more of it stands in DemandThree, Edges and WorkedExamples. promises/specs/Promises.antt lists all promises, those over bytes too.
 -- Each statement is a type; docs/ARCHITECTURE.md names the one term of proofs/ that has it, and the order to read the definitions in.
-use Prim.Native.Nat.{ℕ, _≤_, _<_}
+use Prim.Native.Nat.{ℕ, suc, _-_, _≤_, _<_}
 use mathlib.Core.Path.{_≡_}
 use mathlib.Core.Bool.{true}
-use mathlib.Core.List.{List, [], _∷_}
-use mathlib.Core.Logic.{_↔_}
+use mathlib.Core.List.{List, [], _∷_, _++_, List·Memᴰ}
+use mathlib.Core.Logic.{_↔_, _⊎_, _≢_}
 use mathlib.Core.Option.{none, some}
-use lib.ListN.{length, take, getD}
+use lib.Dec.{ltb}
+use lib.ListN.{length, take, getD, replicate}
 use lib.IntN.{ℤ, pos, _+ℤ_, _-ℤ_}
 use Rattle.model.specs.declared.Mode.{Mode}
 use Rattle.model.specs.declared.Thing.{Thing}
@@ -14,16 +15,18 @@ use Rattle.model.specs.declared.Thing.the-variants.{Movements}
 use Rattle.model.specs.First.{Lowest, NoneBelow}
 use Rattle.model.specs.Refusals.{thingNumber}
 use Rattle.model.specs.RefusalTables.{markingTable, modeTable, Reads}
-use Rattle.model.specs.Numbers.{fin, limit}
+use Rattle.model.specs.Numbers.{fin, ∞, limit}
 use Rattle.model.specs.Rows.{Entry, Row, Capacities, Counts}
 use Rattle.model.specs.Billington.{Enables, Follows, IK}
-use Rattle.model.specs.Nets.{PNet, pairs, modes, pairNo, modeNo, K, count, arcNo, row}
+use Rattle.model.specs.Lists.{joined, listIf}
+use Rattle.model.specs.Nets.{NetArc, PNet, pairs, modes, firstPair, pairNo, modeNo, K, count, arcNo, row}
 use Rattle.model.specs.Markings.{Marking, markingRefusal}
+use Rattle.model.specs.WellFormed.{Blank, WellFormed}
 use Rattle.model.specs.Firing.{ruleRefusal, modeRefusal, fired}
 use Rattle.model.specs.Runs.{run, certificateRefusal}
 use Rattle.model.specs.Figures.{figure, changes}
 use Rattle.model.specs.Dead.{Kills, isDead, firstDead}
-use Rattle.model.specs.Complement.{complementPre, complementPost, less}
+use Rattle.model.specs.Complement.{boundedBelow, complementPair, original, complementEntry, complement, Corresponds}
 
 -- 1. The exact refusal tables of a marking and of a mode; those of sheets and calls are in sheets/specs/RefusalTables.antt and promises/specs/CallTables.antt.
 pub record RefusalTable : Type 0 where
@@ -94,9 +97,41 @@ FirstDead = (net : PNet) (t p : ℕ)
     → (firstDead net ≡ some (record { mode = modeNo t; pair = pairNo p }))
     ↔ (Lowest (modes net) (λ u. isDead net (modeNo u) ≡ true) t × Lowest (pairs net) (KillsAt net (modeNo t)) p)
 
--- 7. Complementing is figure 6.4: at the complement of a pair of finite K, Pre is K - IK, Post is Pre - Post + K - IK, and the first marking is K - M, all
--- over the integers. It holds where Post is above K too, as document 01's lines have it.
-pub record Figure64 : Type 0 where
-  pub pre : (k : ℕ) (e : Entry) → pos (complementPre k e) ≡ pos k -ℤ IK k e
-  pub post : (k : ℕ) (e : Entry) → pos (complementPost k e) ≡ (pos (e .pre) -ℤ pos (e .post)) +ℤ (pos k -ℤ IK k e)
-  pub start : (k m : ℕ) → m ≤ k → pos (less (fin k) m) ≡ pos k -ℤ pos m
+-- 7. At the complement of a pair of finite K stand K - IK and Pre - Post + K - IK, over the integers: figure 6.4, also where Post is above K.
+pub record Beside (k : ℕ) (e c : Entry) : Type 0 where
+  pub pre : pos (c .pre) ≡ pos k -ℤ IK k e
+  pub post : pos (c .post) ≡ (pos (e .pre) -ℤ pos (e .post)) +ℤ (pos k -ℤ IK k e)
+  pub inhibitor : c .inhibitor ≡ ∞
+
+module _ (net : PNet) where
+  -- how many pairs of a place have a finite K
+  abbrev pub finitePairs : ℕ → ℕ
+  finitePairs s = boundedBelow (K net) (firstPair net (suc s)) - boundedBelow (K net) (firstPair net s)
+
+  -- The complemented net is figure 6.4's: "The new places follow the old: one for each place with a finite pair, with as many colours as it has finite pairs.
+  -- Modes are unchanged. All K and I become unbounded. Original Pre, Post and first marking stay."
+  pub record IsFigure64 : Type 0 where
+    pub places : complement net .colours ≡ net .colours ++ joined (length (net .colours)) (λ s. listIf (ltb 0 (finitePairs s)) (finitePairs s))
+    pub sameModes : complement net .modesOf ≡ net .modesOf
+    pub unbounded : complement net .capacity ≡ replicate (pairs (complement net)) ∞
+    pub start : Marking net (net .start) → Corresponds net (net .start) (complement net .start)
+    pub originals : (t : Mode) (p : ℕ) → t .0 < modes net → p < pairs net → row (complement net) t p ≡ original (row net t p)
+    pub besides : (t : Mode) (p k : ℕ) → t .0 < modes net → p < pairs net → K net p ≡ fin k
+        → Beside k (row net t p) (row (complement net) t (complementPair (pairs net) (K net) p))
+
+abbrev pub Figure64 : Type 0
+Figure64 = (net : PNet) → IsFigure64 net
+
+-- 8. Arc by arc: the complement's arcs are those that the net's arcs become, with their I unbounded on the original pair, and on the complement pair where K is
+-- finite. "Blank arcs are left out." (`List·Memᴰ a arcs`: a is one of them; they rise, by `Demand3`.)
+abbrev pub onOriginal : NetArc → NetArc
+onOriginal a = record { mode = a .mode; pair = a .pair; entry = original (a .entry) }
+
+abbrev pub onComplement : PNet → NetArc → NetArc
+onComplement net a =
+    record { mode = a .mode; pair = pairNo (complementPair (pairs net) (K net) (a .pair .0)); entry = complementEntry (K net (a .pair .0)) (a .entry) }
+
+abbrev pub ArcByArc : Type 0
+ArcByArc = (net : PNet) → WellFormed net → (b : NetArc)
+    → List·Memᴰ b (complement net .arcs)
+    ↔ ((¬ Blank (b .entry)) × ((a : NetArc) × List·Memᴰ a (net .arcs) × ((b ≡ onOriginal a) ⊎ (b ≡ onComplement net a))))

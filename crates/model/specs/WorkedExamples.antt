@@ -4,6 +4,7 @@ use Prim.Native.Nat.{ℕ}
 use mathlib.Core.Path.{_≡_}
 use mathlib.Core.List.{List, [], _∷_, map}
 use mathlib.Core.Option.{none}
+use lib.ListN.{replicate}
 use Rattle.model.specs.Numbers.{ℕ∞, fin, ∞}
 use Rattle.model.specs.Nets.{NetArc, PNet, pairNo, modeNo}
 use Rattle.model.specs.Complement.{complement, complementRefusal}
@@ -25,69 +26,64 @@ inhibitorExample =
           record { colours = 1 ∷ 1 ∷ []; modesOf = 1 ∷ []; capacity = ∞ ∷ ∞ ∷ []; start = 3 ∷ 2 ∷ []; arcs = arc 0 0 1 0 ∞ ∷ arc 0 1 1 2 ∞ ∷ [] };
     }
 
--- Section 6.5, nets P1 to P5: s1 has capacity 5 and s2 is unbounded, t1 and t2 have one mode each. The first markings and the arcs differ.
-abbrev billington : List ℕ → List NetArc → List ℕ → List NetArc → Worked
-billington start arcs start′ arcs′ =
+-- s1 has capacity 5 and s2 is unbounded, of one colour each. The transitions, the first markings and the arcs differ.
+abbrev twoPlaces : List ℕ → List ℕ → List NetArc → List ℕ → List NetArc → Worked
+twoPlaces modesOf start arcs start′ arcs′ =
     record {
-      net = record { colours = 1 ∷ 1 ∷ []; modesOf = 1 ∷ 1 ∷ []; capacity = fin 5 ∷ ∞ ∷ []; start = start; arcs = arcs };
-      printed =
-          record { colours = 1 ∷ 1 ∷ 1 ∷ []; modesOf = 1 ∷ 1 ∷ []; capacity = ∞ ∷ ∞ ∷ ∞ ∷ []; start = start′; arcs = arcs′ };
+      net = record { colours = 1 ∷ 1 ∷ []; modesOf = modesOf; capacity = fin 5 ∷ ∞ ∷ []; start = start; arcs = arcs };
+      printed = record { colours = 1 ∷ 1 ∷ 1 ∷ []; modesOf = modesOf; capacity = ∞ ∷ ∞ ∷ ∞ ∷ []; start = start′; arcs = arcs′ };
     }
 
--- figures 6.7 and 6.9
+-- Section 6.5, nets P1 to P5, where t1 and t2 have one mode each: figures 6.7 and 6.9
 abbrev P1 : Worked
 P1 =
-    billington (3 ∷ 1 ∷ []) (arc 0 0 1 0 (fin 3) ∷ arc 1 0 1 0 ∞ ∷ arc 1 1 1 0 ∞ ∷ []) (3 ∷ 1 ∷ 2 ∷ [])
+    twoPlaces (1 ∷ 1 ∷ []) (3 ∷ 1 ∷ []) (arc 0 0 1 0 (fin 3) ∷ arc 1 0 1 0 ∞ ∷ arc 1 1 1 0 ∞ ∷ []) (3 ∷ 1 ∷ 2 ∷ [])
     (arc 0 0 1 0 ∞ ∷ arc 0 2 2 3 ∞ ∷ arc 1 0 1 0 ∞ ∷ arc 1 1 1 0 ∞ ∷ arc 1 2 0 1 ∞ ∷ [])
 
 -- figures 6.11 and 6.12
 abbrev P2 : Worked
 P2 =
-    billington (3 ∷ 1 ∷ []) (arc 0 0 2 0 (fin 3) ∷ arc 1 0 1 0 ∞ ∷ arc 1 1 1 0 ∞ ∷ []) (3 ∷ 1 ∷ 2 ∷ [])
+    twoPlaces (1 ∷ 1 ∷ []) (3 ∷ 1 ∷ []) (arc 0 0 2 0 (fin 3) ∷ arc 1 0 1 0 ∞ ∷ arc 1 1 1 0 ∞ ∷ []) (3 ∷ 1 ∷ 2 ∷ [])
     (arc 0 0 2 0 ∞ ∷ arc 0 2 2 4 ∞ ∷ arc 1 0 1 0 ∞ ∷ arc 1 1 1 0 ∞ ∷ arc 1 2 0 1 ∞ ∷ [])
 
 -- figures 6.14 and 6.16
 abbrev P3 : Worked
 P3 =
-    billington (3 ∷ 1 ∷ []) (arc 0 0 2 0 (fin 3) ∷ arc 1 0 0 1 ∞ ∷ arc 1 1 1 0 ∞ ∷ []) (3 ∷ 1 ∷ 2 ∷ [])
+    twoPlaces (1 ∷ 1 ∷ []) (3 ∷ 1 ∷ []) (arc 0 0 2 0 (fin 3) ∷ arc 1 0 0 1 ∞ ∷ arc 1 1 1 0 ∞ ∷ []) (3 ∷ 1 ∷ 2 ∷ [])
     (arc 0 0 2 0 ∞ ∷ arc 0 2 2 4 ∞ ∷ arc 1 0 0 1 ∞ ∷ arc 1 1 1 0 ∞ ∷ arc 1 2 1 0 ∞ ∷ [])
 
 -- figures 6.18 and 6.19
 abbrev P4 : Worked
 P4 =
-    billington (2 ∷ 1 ∷ []) (arc 0 0 2 0 (fin 3) ∷ arc 1 0 0 0 (fin 2) ∷ arc 1 1 1 0 ∞ ∷ []) (2 ∷ 1 ∷ 3 ∷ [])
+    twoPlaces (1 ∷ 1 ∷ []) (2 ∷ 1 ∷ []) (arc 0 0 2 0 (fin 3) ∷ arc 1 0 0 0 (fin 2) ∷ arc 1 1 1 0 ∞ ∷ []) (2 ∷ 1 ∷ 3 ∷ [])
     (arc 0 0 2 0 ∞ ∷ arc 0 2 2 4 ∞ ∷ arc 1 1 1 0 ∞ ∷ arc 1 2 3 3 ∞ ∷ [])
 
 -- figures 6.21 and 6.22
 abbrev P5 : Worked
 P5 =
-    billington (2 ∷ 1 ∷ []) (arc 0 0 2 0 (fin 3) ∷ arc 1 0 2 0 (fin 2) ∷ arc 1 1 1 0 ∞ ∷ []) (2 ∷ 1 ∷ 3 ∷ [])
+    twoPlaces (1 ∷ 1 ∷ []) (2 ∷ 1 ∷ []) (arc 0 0 2 0 (fin 3) ∷ arc 1 0 2 0 (fin 2) ∷ arc 1 1 1 0 ∞ ∷ []) (2 ∷ 1 ∷ 3 ∷ [])
     (arc 0 0 2 0 ∞ ∷ arc 0 2 2 4 ∞ ∷ arc 1 0 2 0 ∞ ∷ arc 1 1 1 0 ∞ ∷ arc 1 2 3 5 ∞ ∷ [])
 
 -- Document 01's own example, aboard and ashore: "first marking 3, 0, 2, and a third arc 0,2 with Pre 1, Post 2"
 abbrev pub ownExample : Worked
 ownExample =
+    twoPlaces (1 ∷ []) (3 ∷ 0 ∷ []) (arc 0 0 1 0 (fin 4) ∷ arc 0 1 0 1 ∞ ∷ []) (3 ∷ 0 ∷ 2 ∷ [])
+    (arc 0 0 1 0 ∞ ∷ arc 0 1 0 1 ∞ ∷ arc 0 2 1 2 ∞ ∷ [])
+
+-- Three places of three colours, one and two, and several bounded pairs: 0 and 2 of the first place, 4 of the last.
+abbrev severalColours : Worked
+severalColours =
+    let capacity : List ℕ∞ = fin 5 ∷ ∞ ∷ fin 7 ∷ ∞ ∷ fin 4 ∷ ∞ ∷ [] in
+    let arcs : List NetArc = arc 0 2 2 1 (fin 3) ∷ arc 1 0 0 0 (fin 4) ∷ arc 1 4 1 0 ∞ ∷ [] in
+    let arcs′ : List NetArc = arc 0 2 2 1 ∞ ∷ arc 0 7 4 5 ∞ ∷ arc 1 4 1 0 ∞ ∷ arc 1 6 1 1 ∞ ∷ arc 1 8 0 1 ∞ ∷ [] in
     record {
-      net =
-          record {
-            colours = 1 ∷ 1 ∷ [];
-            modesOf = 1 ∷ [];
-            capacity = fin 5 ∷ ∞ ∷ [];
-            start = 3 ∷ 0 ∷ [];
-            arcs = arc 0 0 1 0 (fin 4) ∷ arc 0 1 0 1 ∞ ∷ [];
-          };
+      net = record { colours = 3 ∷ 1 ∷ 2 ∷ []; modesOf = 2 ∷ []; capacity = capacity; start = 1 ∷ 2 ∷ 3 ∷ 4 ∷ 0 ∷ 5 ∷ []; arcs = arcs };
       printed =
-          record {
-            colours = 1 ∷ 1 ∷ 1 ∷ [];
-            modesOf = 1 ∷ [];
-            capacity = ∞ ∷ ∞ ∷ ∞ ∷ [];
-            start = 3 ∷ 0 ∷ 2 ∷ [];
-            arcs = arc 0 0 1 0 ∞ ∷ arc 0 1 0 1 ∞ ∷ arc 0 2 1 2 ∞ ∷ [];
-          };
+          record { colours = 3 ∷ 1 ∷ 2 ∷ 2 ∷ 1 ∷ []; modesOf = 2 ∷ []; capacity = replicate 9 ∞; start = 1 ∷ 2 ∷ 3 ∷ 4 ∷ 0 ∷ 5 ∷ 4 ∷ 4 ∷ 4 ∷ []; arcs = arcs′ };
     }
 
 abbrev worked : List Worked
-worked = inhibitorExample ∷ P1 ∷ P2 ∷ P3 ∷ P4 ∷ P5 ∷ ownExample ∷ []
+worked = inhibitorExample ∷ P1 ∷ P2 ∷ P3 ∷ P4 ∷ P5 ∷ ownExample ∷ severalColours ∷ []
 
 -- complementing accepts each, and its complement is the printed one
 pub record WorkedExamples : Type 0 where

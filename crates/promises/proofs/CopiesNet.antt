@@ -2,15 +2,14 @@
 use Prim.Native.Nat.{ℕ, _≤_, _<_}
 use mathlib.Core.Path.{_≡_, refl, sym, _∙_, ap}
 use mathlib.Core.List.{List, [], _∷_, _++_, append-nil}
-use mathlib.Core.Logic.{_≢_}
 use mathlib.Core.Option.{Option, none, some}
-use lib.ListN.{length, take, length-append, List·getD-eq-default}
+use lib.ListN.{length, take, length-append}
 use lib.Seq.{getD-take}
 use native.Mathlib.Omega.{arith}
 use Rattle.model.specs.declared.Refusal.{Refusal}
 use Rattle.model.specs.Numbers.{fin}
-use Rattle.model.specs.Nets.{PNet, pairs, K, count}
-use Rattle.model.specs.Complement.{complementPair, newPlaces, complement}
+use Rattle.model.specs.Nets.{PNet, pairs, K}
+use Rattle.model.specs.Complement.{newPlaces, complement}
 use Rattle.model.proofs.First.{left-none}
 use Rattle.model.proofs.Bounded.{bounded-number}
 use Rattle.model.proofs.ComplementNet.{pairs-complement}
@@ -24,8 +23,7 @@ use Rattle.sheets.proofs.Meaning.{counts-length, colours-are}
 use Rattle.nets.proofs.Valid.{counts-hold}
 use Rattle.written.proofs.RoundTrip.{written-then-read}
 use Rattle.complement.specs.Complemented.{told, complementSheet, complemented, complementingRefusal, outputOf}
-use Rattle.promises.specs.Frauds.{AddUp, CopiesNet}
-use Rattle.promises.specs.OwnExample as own
+use Rattle.promises.specs.Frauds.{CopiesNet}
 use Rattle.promises.proofs.Accepting.{number-none}
 use Rattle.promises.proofs.DemandThree.{complementable}
 
@@ -66,11 +64,6 @@ written-places net out e =
     let back = written-then-read (complement (netOf net)) (demand3 (netOf net) (complementable net (length out) e) .isNet) in
     rw e (places-are _ ∙ ap (λ n. length (n .colours)) (back .sameFirst _))
 
-no-sum : (net : PNet) (m : List ℕ) → length m ≡ pairs net → (p k : ℕ) → p < pairs net → K net p ≡ fin k → count m p ≢ k → ¬ AddUp net m m
-no-sum net m each p k h e apart sums =
-    let beyond : count m (complementPair (pairs net) (K net) p) ≡ 0 = List·getD-eq-default m 0 (omega arith) in
-    apart (omega (arith, sums p k h e))
-
 pub copies-net : CopiesNet
 copies-net =
     record {
@@ -83,6 +76,5 @@ copies-net =
             places-are net,
             more-places (netOf net) p k h e,
           );
-      noSum = no-sum;
-      onExample = no-sum own.example (3 ∷ 0 ∷ []) refl 0 5 (omega arith) refl (λ e. omega arith);
+      noSum = λ net m m′ each p k h e c. omega (arith, c .oneEach′, pairs-complement net, bounded-number (K net) (pairs net) p k h e);
     }

@@ -5,21 +5,24 @@ use Rattle.model.proofs.Runs.{runs, certificates}
 use Rattle.model.proofs.Figures.{figure-after}
 use Rattle.model.proofs.Dead.{dead-modes, first-dead}
 use Rattle.model.proofs.Figure64.{figure-64}
+use Rattle.model.proofs.ArcByArc.{arc-by-arc}
 use Rattle.model.proofs.WorkedExamples.{worked-examples}
 use Rattle.model.proofs.Demand3.{demand3}
 use Rattle.model.proofs.Edges.{starred}
+use Rattle.sheets.proofs.RefusalTables.{sheet-tables}
 use Rattle.sheets.proofs.Accepted.{well-formed}
 use Rattle.sheets.proofs.Lists.{movements-within, weights-within}
 use Rattle.lists.proofs.Signs.{signed-weights}
 use Rattle.written.proofs.RoundTrip.{written-then-read, read-then-written}
 use Rattle.written.proofs.Largest.{largest-sheet, example-lengths}
-use Rattle.fire.proofs.Promises.{accepted-begin, accepted-fire, refused-fire, marking-stays}
+use Rattle.fire.proofs.Promises.{accepted-begin, accepted-fire, marking-stays}
 use Rattle.run.proofs.Promises.{runs-leave, runs-keep, certified}
 use Rattle.weigh.proofs.Promises.{figure-is-sum, change-is-sum, figure-fired}
 use Rattle.dead.proofs.Promises.{says-dead, names-first}
 use Rattle.promises.specs.Promises.{Promises}
 use Rattle.promises.proofs.DemandOne.{demand-one, demand-one-for-c}
 use Rattle.promises.proofs.DemandThree.{over-bytes}
+use Rattle.text.proofs.Decimals.{decimals}
 use Rattle.statement.proofs.TextOfRun.{text-of-run}
 use Rattle.statement.proofs.Example.{printed}
 use Rattle.promises.proofs.TwoRuns.{two-runs}
@@ -47,12 +50,14 @@ promises =
             deadModes = dead-modes;
             firstDead = first-dead;
             figure64 = figure-64;
+            arcByArc = arc-by-arc;
             workedExamples = worked-examples;
             demand3 = demand3;
             edges = starred;
           };
       sheets =
           record {
+            sheetTables = sheet-tables;
             acceptedNet = well-formed;
             acceptedMovements = movements-within;
             acceptedWeights = weights-within;
@@ -66,7 +71,6 @@ promises =
           record {
             acceptedBegin = accepted-begin;
             acceptedFire = accepted-fire;
-            refusedFire = refused-fire;
             markingStays = marking-stays;
             runsLeave = runs-leave;
             runsKeep = runs-keep;
@@ -79,6 +83,7 @@ promises =
             namesFirst = names-first;
             overBytes = over-bytes;
             twoRuns = two-runs;
+            decimals = decimals;
             textOfRun = text-of-run;
             printed = printed;
           };

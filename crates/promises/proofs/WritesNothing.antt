@@ -16,7 +16,6 @@ use Rattle.fire.proofs.Promises.{mode-accepted}
 use Rattle.fire.specs.Calls.{testRefusal, firedBy}
 use Rattle.promises.specs.Frauds.{WritesNothing}
 use Rattle.promises.proofs.Accepting.{number-none}
-use Rattle.promises.proofs.OwnExample.{own-example}
 
 fired-moves : (net : PNet) (t : Mode) (m : List ℕ) (p : ℕ) → p < pairs net → modeRefusal Argument net t m ≡ none
     → row net t p .pre ≢ row net t p .post → fired net t m ≢ m
@@ -24,11 +23,7 @@ fired-moves net t m p h e apart same =
     apart (omega (arith, marking-after Argument net t m e .0 p h, ap (λ m. count m p) same))
 
 pub writes-nothing : WritesNothing
-writes-nothing =
-    record {
-      excluded = λ net marking t p h apart o a n same.
-          let e = number-none (testRefusal net marking t) (sym (ap number (a .0)) ∙ n) in
-          let left : firedBy net marking t ≡ fired (netOf net) t marking = rw e in
-          fired-moves (netOf net) t marking p h (mode-accepted net marking t e) apart (sym (a .1 ∙ left) ∙ same);
-      onExample = λ o a same. omega (arith, ap (λ m. count m 0) (sym (own-example .fire o a .1) ∙ same));
-    }
+writes-nothing net marking t p h apart o a n same =
+    let e = number-none (testRefusal net marking t) (sym (ap number (a .0)) ∙ n) in
+    let left : firedBy net marking t ≡ fired (netOf net) t marking = rw e in
+    fired-moves (netOf net) t marking p h (mode-accepted net marking t e) apart (sym (a .1 ∙ left) ∙ same)

@@ -3,15 +3,17 @@ use Rattle.model.specs.Promises as model
 use Rattle.model.specs.Edges.{Edges}
 use Rattle.model.specs.WorkedExamples.{WorkedExamples}
 use Rattle.model.specs.DemandThree.{Demand3}
+use Rattle.sheets.specs.RefusalTables.{SheetTables}
 use Rattle.sheets.specs.Accepted.{AcceptedNet, AcceptedMovements, AcceptedWeights}
 use Rattle.lists.specs.Promises.{SignedWeights}
 use Rattle.written.specs.Promises.{WrittenThenRead, ReadThenWritten, LargestSheet, ExampleLengths}
-use Rattle.fire.specs.Promises.{AcceptedBegin, AcceptedFire, RefusedFire, MarkingStays}
+use Rattle.fire.specs.Promises.{AcceptedBegin, AcceptedFire, MarkingStays}
 use Rattle.run.specs.Promises.{RunsLeave, RunsKeep, Certified}
 use Rattle.weigh.specs.Promises.{FigureIsSum, ChangeIsSum, FigureFired}
 use Rattle.dead.specs.Promises.{SaysDead, NamesFirst}
 use Rattle.promises.specs.DemandOne.{DemandOne, DemandOneForC}
 use Rattle.promises.specs.DemandThree.{OverBytes}
+use Rattle.text.specs.Promises.{Decimals}
 use Rattle.statement.specs.Promises.{TextOfRun}
 use Rattle.statement.specs.Example.{Printed}
 use Rattle.promises.specs.TwoRuns.{TwoRuns}
@@ -36,12 +38,14 @@ pub record OfNets : Type 0 where
   pub deadModes : model.DeadModes
   pub firstDead : model.FirstDead
   pub figure64 : model.Figure64
+  pub arcByArc : model.ArcByArc
   pub workedExamples : WorkedExamples
   pub demand3 : Demand3
   pub edges : Edges
 
 -- of sheets, read and written
 pub record OfSheets : Type 0 where
+  pub sheetTables : SheetTables
   pub acceptedNet : AcceptedNet
   pub acceptedMovements : AcceptedMovements
   pub acceptedWeights : AcceptedWeights
@@ -55,7 +59,6 @@ pub record OfSheets : Type 0 where
 pub record OfCalls : Type 0 where
   pub acceptedBegin : AcceptedBegin
   pub acceptedFire : AcceptedFire
-  pub refusedFire : RefusedFire
   pub markingStays : MarkingStays
   pub runsLeave : RunsLeave
   pub runsKeep : RunsKeep
@@ -68,6 +71,7 @@ pub record OfCalls : Type 0 where
   pub namesFirst : NamesFirst
   pub overBytes : OverBytes
   pub twoRuns : TwoRuns
+  pub decimals : Decimals
   pub textOfRun : TextOfRun
   pub printed : Printed
 

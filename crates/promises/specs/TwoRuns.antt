@@ -1,5 +1,5 @@
 -- Demand 3 of the calls: the run call over a net sheet and over its complement's, as the complementing call wrote it. One movement sheet, any bytes; two
--- markings lent, each begun from its net's first marking.
+-- lent markings that correspond, so that what one pair of runs leaves may be lent to the next: a list of any length is run sheet after sheet, or movement by movement.
 use Prim.Native.Nat.{ℕ}
 use mathlib.Core.Path.{_≡_}
 use mathlib.Core.List.{List}
@@ -12,6 +12,7 @@ use Rattle.model.specs.declared.Refusal.{Refusal}
 use Rattle.model.specs.Nets.{modeNo}
 use Rattle.model.specs.Runs.{Outcome}
 use Rattle.model.specs.Replies.{yields}
+use Rattle.model.specs.Markings.{markingRefusal}
 use Rattle.model.specs.Complement.{Corresponds}
 use Rattle.model.specs.DemandThree.{becomes}
 use Rattle.sheets.specs.Whole.{wholeMovements}
@@ -23,16 +24,15 @@ use Rattle.promises.specs.DemandThree.{asWritten}
 
 module _ (net complement movements marking marking′ : List ℕ) where
   abbrev inNet : Outcome
-  inNet = runOf net movements (begun net marking)
+  inNet = runOf net movements marking
 
   abbrev inComplement : Outcome
-  inComplement = runOf complement movements (begun complement marking′)
+  inComplement = runOf complement movements marking′
 
   abbrev nextMode : Mode
   nextMode = getD (movementsOf movements) (inNet .accepted) (modeNo 0)
 
   pub record RunsAgree : Type 0 where
-    pub atStart : Corresponds (netOf net) (begun net marking) (begun complement marking′)
     -- "both accept the same movements and stop at the same one", or run whole
     pub accepted : inComplement .accepted ≡ inNet .accepted
     pub whole : (inComplement .refusal ≡ none) ↔ (inNet .refusal ≡ none)
@@ -41,10 +41,14 @@ module _ (net complement movements marking marking′ : List ℕ) where
         → (inNet .refusal ≡ some r) × (inComplement .refusal ≡ some r) × (inNet .accepted ≡ 0)
     -- "11, 12 and 13 in the net become 11 in its complement; 6 and 14 stay"
     pub refusal : wholeMovements movements ≡ none → inComplement .refusal ≡ becomes Movements (netOf net) nextMode (inNet .marking) (inNet .refusal)
-    -- "after each accepted movement": a first part of the list is a movement sheet too, of which this says the same
     pub atEnd : Corresponds (netOf net) (inNet .marking) (inComplement .marking)
 
+-- a marking that begin wrote is accepted (`MarkingStays`), and so is one that a run leaves (`RunsKeep`)
+pub record RunAlike (net complement : List ℕ) : Type 0 where
+  pub atStart : (marking marking′ : List ℕ) → beginRefusal net marking ≡ none → beginRefusal complement marking′ ≡ none
+      → Corresponds (netOf net) (begun net marking) (begun complement marking′)
+  pub onwards : (movements marking marking′ : List ℕ) → markingRefusal (netOf net) marking ≡ none → Corresponds (netOf net) marking marking′
+      → RunsAgree net complement movements marking marking′
+
 abbrev pub TwoRuns : Type 0
-TwoRuns = (net out : List ℕ) (n : ℕ) → told (complementOf net out) ≡ yields n
-    → (movements marking marking′ : List ℕ) → beginRefusal net marking ≡ none → beginRefusal (asWritten net out n) marking′ ≡ none
-    → RunsAgree net (asWritten net out n) movements marking marking′
+TwoRuns = (net out : List ℕ) (n : ℕ) → told (complementOf net out) ≡ yields n → RunAlike net (asWritten net out n)

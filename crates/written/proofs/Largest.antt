@@ -1,11 +1,83 @@
 -- How long a net sheet can be, and how long document 01's example is.
-use mathlib.Core.Path.{refl}
+use Prim.Native.Nat.{ℕ, _<_}
+use mathlib.Core.Path.{_≡_, refl, _∙_}
+use mathlib.Core.List.{List}
+use lib.ListN.{length, getD, replicate, getD-replicate}
 use native.Mathlib.Omega.{arith}
-use Rattle.nets.proofs.Valid.{counts-hold, arcs-within}
+use Rattle.model.specs.declared.Mode.{Mode}
+use Rattle.model.specs.Numbers.{ℕ∞, ∞}
+use Rattle.model.specs.Rows.{Entry, Row}
+use Rattle.model.specs.Nets.{PNet, arcNo, modeNo}
+use Rattle.model.specs.WellFormed.{ArcOf, Counted, WellFormed}
+use Rattle.model.specs.Complement.{written, arcsOf}
 use Rattle.model.specs.WorkedExamples.{ownExample}
+use Rattle.model.proofs.Each.{each-at, sorted-rising}
+use Rattle.model.proofs.WrittenRows.{not-blank, each-row, sorted-rows}
+use Rattle.nets.proofs.Valid.{counts-hold, arcs-within}
+use Rattle.written.specs.Written.{sheetOf}
 use Rattle.written.specs.Promises.{LargestSheet, ExampleLengths}
-use Rattle.written.proofs.RoundTrip.{fields-end}
-use Rattle.written.proofs.SheetLength.{fields-length}
+use Rattle.written.proofs.RoundTrip.{fields-end, written-then-read}
+use Rattle.written.proofs.Sections.{joined-length}
+use Rattle.written.proofs.SheetLength.{fields-length, sheet-size}
+
+-- A net at every limit: 64 places of 4 colours, 64 transitions of 4 modes, and an arc at each pair of the first 8 modes.
+one : Entry
+one = record { pre = 1; post = 0; inhibitor = ∞ }
+
+rows : Mode → Row
+rows t p = one
+
+abbrev fours : List ℕ
+fours = replicate 64 4
+
+largest : PNet
+largest =
+    record {
+      colours = fours;
+      modesOf = fours;
+      capacity = replicate 256 ∞;
+      start = replicate 256 0;
+      arcs = arcsOf 8 256 rows;
+    }
+
+counted : Counted fours
+counted =
+    record {
+      many = omega arith;
+      each = λ i h. let is : getD fours i 0 ≡ 4 = getD-replicate 64 i 4 0 (omega arith) in omega arith;
+      inTotal = omega arith;
+    }
+
+arcs-many : length (arcsOf 8 256 rows) ≡ 2048
+unfolding arcsOf rows one
+arcs-many = joined-length 256 _ (λ t. joined-length 1 (λ p. written (modeNo t) p (rows (modeNo t) p)) (λ p. refl) 256 ∙ omega arith) 8 ∙ omega arith
+
+arc-of : (k : ℕ) → k < length (largest .arcs) → ArcOf largest (arcNo (largest .arcs) k)
+unfolding largest rows one
+arc-of =
+    each-at (ArcOf largest) _ (arcsOf 8 256 rows)
+    (each-row (ArcOf largest) 8 256 rows
+    (λ t p h l d.
+    record { mode = omega arith; pair = omega arith; pre = omega arith; post = omega arith; inhibitor = tt; notBlank = not-blank one d }))
+
+well-formed : WellFormed largest
+unfolding largest
+well-formed =
+    record {
+      somePlace = omega arith;
+      places = counted;
+      transitions = counted;
+      capacities = refl;
+      capacityInRange = λ p h. rw (getD-replicate {A = ℕ∞} 256 p ∞ ∞ h) tt;
+      start = record { oneEach = refl; inRange = λ p h. rw (getD-replicate {A = ℕ} 256 p 0 0 h) (omega arith); within = λ p h. rw (getD-replicate {A = ℕ∞} 256 p ∞ ∞ h) tt };
+      arcCount = omega (arith, arcs-many);
+      eachArc = arc-of;
+      rising = sorted-rising (arcsOf 8 256 rows) (sorted-rows 8 256 rows);
+    }
+
+size : length (sheetOf largest) ≡ 35083
+unfolding largest
+size = sheet-size largest ∙ omega (arith, arcs-many)
 
 pub largest-sheet : LargestSheet
 largest-sheet =
@@ -13,7 +85,7 @@ largest-sheet =
       most = λ s e.
           let counts = counts-hold s e in
           omega (arith, fields-end s e, counts .sized .places, counts .sized .transitions, counts .pairs, arcs-within s e);
-      is = refl;
+      reached = (sheetOf largest, written-then-read largest well-formed .accepted, size);
     }
 
 pub example-lengths : ExampleLengths

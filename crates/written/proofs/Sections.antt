@@ -50,18 +50,18 @@ joined-room f (suc n) i h =
     ⊎-elim (λ (q : i ≡ n). rw (q, length-append) (omega arith)) (λ (q : i < n). omega (arith, length-append (joined n f) (f n), joined-room f n i q))
     (eq-or-lt-of-le (le-of-suc-le-suc h))
 
-module _ (size : ℕ) (f : ℕ → List ℕ) (sized : (i : ℕ) → length (f i) ≡ size) where
-  pub joined-length : (n : ℕ) → length (joined n f) ≡ size * n
-  unfolding joined
-  joined-length zero = sym (mul-zero size)
-  joined-length (suc n) = rw (mul-suc, length-append) (omega (arith, sized n, joined-length n))
+pub joined-length : {B : Type 0} (size : ℕ) (f : ℕ → List B) → ((i : ℕ) → length (f i) ≡ size) → (n : ℕ) → length (joined n f) ≡ size * n
+unfolding joined
+joined-length size f sized zero = sym (mul-zero size)
+joined-length size f sized (suc n) = rw (mul-suc, length-append) (omega (arith, sized n, joined-length size f sized n))
 
+module _ (size : ℕ) (f : ℕ → List ℕ) (sized : (i : ℕ) → length (f i) ≡ size) where
   module _ {s : List ℕ} {at : ℕ} where
     pub joined-each : (n : ℕ) → Stands s at (joined n f) → (i k : ℕ) → i < n → k ≡ at + size * i → Stands s k (f i)
     unfolding joined
     joined-each zero h i k l e = absurd (omega arith)
     joined-each (suc n) h i k l e =
-        ⊎-elim (λ (q : i ≡ n). rw q (stands-right (joined n f) (f n) h k (rw (joined-length n, ← q) e)))
+        ⊎-elim (λ (q : i ≡ n). rw q (stands-right (joined n f) (f n) h k (rw (joined-length size f sized n, ← q) e)))
         (λ (q : i < n). joined-each n (stands-left (joined n f) (f n) h) i k q e)
         (eq-or-lt-of-le (le-of-suc-le-suc l))
 
@@ -69,7 +69,7 @@ module _ (size : ℕ) (f : ℕ → List ℕ) (sized : (i : ℕ) → length (f i)
     unfolding joined
     joined-stand zero h = record { each = λ j k l e. absurd (omega arith) }
     joined-stand (suc n) h =
-        stands-both (joined-stand n (λ i k l e. h i k (omega arith) e)) (h n (at + size * n) (omega arith) refl) (omega (arith, joined-length n))
+        stands-both (joined-stand n (λ i k l e. h i k (omega arith) e)) (h n (at + size * n) (omega arith) refl) (omega (arith, joined-length size f sized n))
 
 module _ {A : Type 0} (size : ℕ) (f : A → List ℕ) (sized : (a : A) → length (f a) ≡ size) where
   pub section-length : (d : A) (xs : List A) → length (flatMap f xs) ≡ size * length xs

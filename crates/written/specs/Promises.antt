@@ -14,7 +14,6 @@ use Rattle.nets.specs.Nets.{netRefusal}
 use Rattle.sheets.specs.Whole.{wholeNet, rest}
 use Rattle.sheets.specs.Decoded.{netOf}
 use Rattle.written.specs.Written.{lengthOf, sheetOf}
-use Rattle.written.specs.Puts.{sheetSize}
 
 -- Both directions of a net sheet. A net that is written can be read back, alone and with bytes after it, which are handed back.
 pub record ReadBack (net : PNet) : Type 0 where
@@ -31,10 +30,10 @@ WrittenThenRead = (net : PNet) → WellFormed net → ReadBack net
 abbrev pub ReadThenWritten : Type 0
 ReadThenWritten = (s : List ℕ) → ((i : ℕ) → i < length s → byteAt s i < 256) → wholeNet s ≡ none → s ≡ sheetOf (netOf s)
 
--- "The largest net sheet is 35,083 bytes."
+-- "The largest net sheet is 35,083 bytes.": none is longer, and one is as long
 pub record LargestSheet : Type 0 where
-  pub most : (s : List ℕ) → netRefusal s ≡ none → sheetEnd s ≤ sheetSize 64 64 256 2048
-  pub is : sheetSize 64 64 256 2048 ≡ 35083
+  pub most : (s : List ℕ) → netRefusal s ≡ none → sheetEnd s ≤ 35083
+  pub reached : (s : List ℕ) × (wholeNet s ≡ none) × (length s ≡ 35083)
 
 -- Document 01's own example: "(L = 61)", and its complement "has L = 87".
 pub record ExampleLengths : Type 0 where

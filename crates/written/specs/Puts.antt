@@ -1,5 +1,5 @@
 -- What a put leaves in a lent slice: its bytes stored from a place on, and nothing else touched.
--- A reader of the promises needs `sheetSize` alone.
+-- A reader of the promises may skip this file.
 use Prim.Native.Nat.{ℕ, _+_}
 use mathlib.Core.Path.{_≡_}
 use mathlib.Core.List.{List}
