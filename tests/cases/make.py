@@ -1,62 +1,194 @@
-"""Prints crates/cases/src/example_sheets.rt: the sheets of the program `cases` as byte strings, a part, a pair or an arc to a line.
+#!/usr/bin/env python3
+"""Turns the lists of this folder (*.txt, in the order of their names) into what the program `cases` reads and must write: crates/cases/stdin and stdout.
 
-    python3 tests/cases/make.py > crates/cases/src/example_sheets.rt"""
-import pathlib, sys
+    python3 tests/cases/make.py           writes both
+    python3 tests/cases/make.py --check   compares them with what is stored, and the longest run with longest_run.py: the gate
 
-sys.path.insert(0, str(pathlib.Path(__file__).parent.parent.parent / "examples"))
-from sheets import UNBOUNDED, encode_net as net, movements
+A list has, each with its lines below it, indented; `#` starts a comment, which says where an expected value stands:
 
-ANY = UNBOUNDED
+    net NAME            places (colours of each), transitions (modes of each), `pair 0: K 5, first 3`, `mode 0, pair 0: Pre 1, Post 0, I 4`
+    weights, movements, marking NAME: numbers
+    case NAME           `call fire, net P1, marking 3 1, mode 0`; then what it answers: `accepted` or `refused by 13, thing 3, at 0`, then what the call yields, `value 91`, `yes`, `no` or
+                        `mode 1 pair 1`; `leaves 2 1`, the marking after (else it is as before); `writes NAME`, the sheet, or `prints` a text, `/` for a
+                        line's end (else nothing is written). Numbers that are not said are 0.
+    both NET, COMPLEMENT   a row is a marking, `|` and the counts of its complement pairs, a mode, and `to` the marking after, or the refusals: `13 at 0 | 11 at 2`.
+                        Each is tested and fired, in the net and in its complement: four cases.
+
+Sheets at the limits are made by limits.py, by name. A call is added in two places: a row of CALLS, and an arm with its number in crates/cases/src/calls.rt, in the
+group that tells what it tells. A call that tells something new gets a group, a put in src/told.rt and a line in answer_of.
+
+A case in stdin is the length of what follows, then eight parts, a length before each: call, number and room; name; first and second run of bytes; counts lent; what
+is told; counts after; bytes written. Lengths and numbers are 4 bytes, big-endian."""
+import pathlib, re, struct, sys
+
+here = pathlib.Path(__file__).resolve().parent
+top = here.parent.parent
+sys.path[:0] = [str(here), str(top / "examples")]
+import limits, longest_run
+from sheets import UNBOUNDED, encode_movements as movements, encode_net as net, encode_weights as weights
+
+# The call's number, and the words that name its first and its second run of bytes.
+CALLS = {
+    "begin": (0, "net", ""),
+    "test": (1, "net", ""),
+    "fire": (2, "net", ""),
+    "certify": (3, "net", "movements"),
+    "read_net": (16, "net", ""),
+    "read_weights": (17, "weights", ""),
+    "read_movements": (18, "movements", ""),
+    "run": (19, "net", "movements"),
+    "complement": (20, "net", ""),
+    "statement": (21, "input", ""),
+    "figure": (32, "net", "weights"),
+    "change": (33, "net", "weights"),
+    "is_dead": (48, "net", ""),
+    "first_dead": (49, "net", ""),
+    "adds_up": (50, "net", ""),
+}
+
+sheets = dict(limits.SHEETS)
+markings = dict(limits.MARKINGS)
+capacities = {}
+cases = []
 
 
-def fields(sheet, places, transitions, pairs):
-    """The sheet in parts: length and version, counts, colours, modes, each pair, arc count, each arc."""
-    sizes = [5, 4, 2 * places, 2 * transitions] + [8] * pairs + [2]
-    parts, at = [], 0
-    while at < len(sheet):
-        size = sizes.pop(0) if sizes else 16
-        parts.append(sheet[at : at + size])
-        at += size
-    return parts
+def number(word):
+    return UNBOUNDED if word == "unbounded" else int(word)
 
 
-def show(name, comment, parts):
-    print(f"\n// {comment}\npub(crate) const {name}: [u8; {sum(map(len, parts))}] = *b\"\\")
-    lines = ["    " + "".join(f"\\x{byte:02x}" for byte in part) for part in parts]
-    print("\\\n".join(lines) + '";')
+def counts(words):
+    """Numbers, or the name of a marking."""
+    return markings[words] if words in markings else [int(word) for word in words.split()]
 
 
-def constant(name, comment, colours, modes, pairs, arcs):
-    show(name, comment, fields(net(colours, modes, pairs, arcs), len(colours), len(modes), len(pairs)))
+def bytes_of(names):
+    return b"".join(sheets[name] for name in names.split())
 
 
-def worked(name, figures, first, arcs, first_complement, arcs_complement):
-    """s1 has capacity 5 and s2 none: pairs 0 and 1, and pair 2 the complement of s1."""
-    constant(name, f"Figure {figures[0]}.", [1, 1], [1, 1], [(5, first[0]), (ANY, first[1])], arcs)
-    constant(name + "_COMPLEMENT", f"Figure {figures[1]}.", [1, 1, 1], [1, 1], [(ANY, count) for count in first_complement], arcs_complement)
+def parse_net(name, lines):
+    given, pairs, arcs = {}, [], []
+    for line in lines:
+        arc = re.fullmatch(r"mode (\d+), pair (\d+): Pre (\d+), Post (\d+), I (\w+)", line)
+        pair = re.fullmatch(r"pair (\d+): K (\w+), first (\d+)", line)
+        if arc:
+            arcs.append(tuple(map(number, arc.groups())))
+        elif pair:
+            assert int(pair[1]) == len(pairs), line
+            pairs.append((number(pair[2]), int(pair[3])))
+        else:
+            word, *numbers = line.split()
+            given[word] = [int(n) for n in numbers]
+    assert len(given) == 2 and sum(given["places"]) == len(pairs), lines
+    sheets[name] = net(given["places"], given["transitions"], pairs, arcs)
+    capacities[name] = [pair[0] for pair in pairs]
 
 
-print("// Sheets: source document 000's figures, document 01's own example, and its largest number of modes. Written by tests/cases/make.py.")
-print("// The figures print s1, the complement of s1, s2; here the complement comes last (document 01, \"numbered after all originals\").")
-constant("SIMPLE", "Figure 6.5: one place, K 5, marked with 3; Pre 1 and I 4.", [1], [1], [(5, 3)], [(0, 0, 1, 0, 4)])
-constant("SIMPLE_COMPLEMENT", "Figure 6.6.", [1, 1], [1], [(ANY, 3), (ANY, 2)], [(0, 0, 1, 0, ANY), (0, 1, 1, 2, ANY)])
-for count in (3, 4):
-    show(f"MOVEMENTS_{count}", f"Mode 0, {count} times.", [movements([0] * count)])
-T2 = [(1, 0, 1, 0, ANY), (1, 1, 1, 0, ANY)]
-T2_COMPLEMENT = T2 + [(1, 2, 0, 1, ANY)]
-T1_COMPLEMENT = [(0, 0, 2, 0, ANY), (0, 2, 2, 4, ANY)]
-worked("P1", ("6.7", "6.9"), (3, 1), [(0, 0, 1, 0, 3)] + T2, (3, 1, 2), [(0, 0, 1, 0, ANY), (0, 2, 2, 3, ANY)] + T2_COMPLEMENT)
-worked("P2", ("6.11", "6.12"), (3, 1), [(0, 0, 2, 0, 3)] + T2, (3, 1, 2), T1_COMPLEMENT + T2_COMPLEMENT)
-worked("P3", ("6.14", "6.16"), (3, 1), [(0, 0, 2, 0, 3), (1, 0, 0, 1, ANY), (1, 1, 1, 0, ANY)],
-       (3, 1, 2), T1_COMPLEMENT + [(1, 0, 0, 1, ANY), (1, 1, 1, 0, ANY), (1, 2, 1, 0, ANY)])
-worked("P4", ("6.18", "6.19"), (2, 1), [(0, 0, 2, 0, 3), (1, 0, 0, 0, 2), (1, 1, 1, 0, ANY)],
-       (2, 1, 3), T1_COMPLEMENT + [(1, 1, 1, 0, ANY), (1, 2, 3, 3, ANY)])
-worked("P5", ("6.21", "6.22"), (2, 1), [(0, 0, 2, 0, 3), (1, 0, 2, 0, 2), (1, 1, 1, 0, ANY)],
-       (2, 1, 3), T1_COMPLEMENT + [(1, 0, 2, 0, ANY), (1, 1, 1, 0, ANY), (1, 2, 3, 5, ANY)])
-LANDING = [(0, 0, 1, 0, ANY), (0, 1, 0, 1, ANY)]
-constant("LANDING", "Document 01, \"replay\": aboard (K 5, first 3) and ashore (unbounded, first 0); \"arcs 0,0 with Pre 1, Post 0, I 4 and 0,1 with Pre 0, Post 1, I unbounded\".",
-         [1, 1], [1], [(5, 3), (ANY, 0)], [(0, 0, 1, 0, 4), (0, 1, 0, 1, ANY)])
-constant("LANDING_COMPLEMENT", "Document 01: \"L = 87, first marking 3, 0, 2, and a third arc 0,2 with Pre 1, Post 2\".",
-         [1, 1, 1], [1], [(ANY, 3), (ANY, 0), (ANY, 2)], LANDING + [(0, 2, 1, 2, ANY)])
-constant("MODES_256", "Four transitions of 64 modes.", [1], [64, 64, 64, 64], [(ANY, 0)], [])
-constant("MODES_257", "One transition of one mode more, its count at 9 + 2 + 2 * 4 = 19.", [1], [64, 64, 64, 64, 1], [(ANY, 0)], [])
+def pack(numbers):
+    return struct.pack(f">{len(numbers)}I", *numbers)
+
+
+def add(name, call, arguments, told, after, written):
+    code, first, second = CALLS[call]
+    known = {first, second, "marking", "mode", "pairs", "room"}
+    lent = counts(arguments.get("marking", ""))
+    left = lent if after is None else after
+    room = int(arguments.get("room", 0))
+    assert len(left) == len(lent) and len(written) <= room and set(arguments) <= known, name
+    runs = [bytes_of(arguments.get(word, "")) for word in (first, second)]
+    if call == "adds_up":
+        runs, lent, left = [pack(capacities[arguments["net"]]), pack(lent)], [], []
+    argument = int(arguments.get("mode", arguments.get("pairs", 0)))
+    parts = [pack([code, argument, room]), name.encode(), *runs, pack(lent), pack(told), pack(left), written]
+    body = b"".join(pack([len(part)]) + part for part in parts)
+    cases.append((name, pack([len(body)]) + body))
+
+
+def answer_of(call, line):
+    """What is told, as src/told.rt and src/sums.rt put it."""
+    broken = re.fullmatch(r"pair (\d+) adds up to (\d+) and not (\d+)", line)
+    found = re.fullmatch(r"(?:accepted|adds up|refused by (\d+)(?:, thing (\d+))?(?:, at (\d+))?)(?:, (value -?\d+|yes|no|mode \d+ pair \d+))?", line)
+    assert broken or found, line
+    if broken:
+        pair, total, capacity = map(int, broken.groups())
+        told = [1, 0, pair, 0, capacity, total]
+    else:
+        word, *rest = (found[4] or "no").split()
+        told = [int(number or 0) for number in found.groups()[:3]]
+        if word == "value":
+            told += [rest[0].startswith("-"), *divmod(abs(int(rest[0])), 2**32)]
+        elif word == "mode":
+            told += [1, int(rest[0]), int(rest[2])]
+        else:
+            told += [word == "yes"]
+    return [*told, *[0] * (16 - len(told))]
+
+
+def parse_case(name, lines):
+    call, *rest = [part.strip() for part in lines[0].removeprefix("call ").split(",")]
+    after, written = None, b""
+    for line in lines[2:]:
+        word, _, what = line.partition(" ")
+        if word == "leaves":
+            after = counts(what)
+        elif word == "writes":
+            written = sheets[what]
+        else:
+            assert word == "prints", line
+            written = "".join(text.strip() + "\n" for text in what.split("/")).encode()
+    add(name, call, dict(part.split(" ", 1) for part in rest), answer_of(call, lines[1]), after, written)
+
+
+def parse_both(names, lines):
+    original, complement = names.split(", ")
+    for line in lines:
+        start, mode, rest = re.fullmatch(r"(.*?)\s+mode (\d+)\s+(.*)", line).groups()
+        here, beside = rest.split("|")
+        own, other = start.split("|")
+        for title, sheet, marking, last in ((original, original, own, here), ("complement of " + original, complement, own + " " + other, beside)):
+            lent = " ".join(marking.split())
+            if here.startswith("to "):
+                answer, after = "accepted", counts(here[3:] + (beside if sheet == complement else ""))
+            else:
+                answer, after = "refused by {}, thing 3, at {}".format(*last.strip().split(" at ")), None
+            for call in ("test", "fire"):
+                name = f"{title} at {lent.replace(' ', ',')}, mode {mode}, {call}"
+                add(name, call, {"net": sheet, "marking": lent, "mode": mode}, answer_of(call, answer), after if call == "fire" else None, b"")
+
+
+def parse(block):
+    first, *lines = [line.strip() for line in block]
+    kind, name = first.split(" ", 1)
+    name, _, numbers = name.partition(":") if kind in ("weights", "movements", "marking") else (name, "", "")
+    if kind == "net":
+        parse_net(name, lines)
+    elif kind == "marking":
+        markings[name] = counts(" ".join([numbers, *lines]))
+    elif kind in ("weights", "movements"):
+        sheets[name] = {"weights": weights, "movements": movements}[kind](counts(numbers))
+    else:
+        {"case": parse_case, "both": parse_both}[kind](name, lines)
+
+
+for file in sorted(here.glob("*.txt")):
+    block = []
+    for line in file.read_text().splitlines() + ["end"]:
+        if line.partition("#")[0].strip():
+            if not line.startswith(" ") and block:
+                parse(block)
+                block = []
+            block.append(line.partition("#")[0])
+
+names = [name for name, _ in cases]
+assert len(set(names)) == len(names), [name for name in names if names.count(name) > 1]
+made = {
+    "stdin": b"".join(case for _, case in cases),
+    "stdout": "".join(f"{name}: ok\n" for name in names).encode() + b"%d cases, 0 differ\n" % len(cases),
+}
+longest_run.check(markings)
+for name, data in made.items():
+    stored = top / "crates/cases" / name
+    if sys.argv[1:] != ["--check"]:
+        stored.write_bytes(data)
+    elif not stored.exists() or stored.read_bytes() != data:
+        sys.exit(f"crates/cases/{name} is not what tests/cases/make.py writes")
+print(f"cases: {len(cases)} cases, {len(made['stdin'])} bytes")

@@ -1,0 +1,20 @@
+-- The size of a signed number: nothing wraps, for the least one either.
+use borrow.Author.Needs.{needs}
+use Rattle.text.proofs.Sizes.{not-below-read, less-is, less-read}
+use Rattle.cases.proofs.told.size.Statement.{statement}
+use Rattle.cases.proofs.told.size.Tie as tie
+
+sub-result : tie.Need-sub-result
+sub-result c = rw (less-is (c .before .fits .value) (c .if1 .taken)) (search needs)
+
+cast-result : tie.Need-cast-result
+cast-result c = rw (less-read (c .before .fits .value) (c .if1 .taken)) (tt, search needs)
+
+add-result : tie.Need-add-result
+add-result c = rw (less-read (c .before .fits .value) (c .if1 .taken)) (search needs)
+
+cast-result-2 : tie.Need-cast-result-2
+cast-result-2 c = not-below-read (c .before .fits .value) (c .if1 .left)
+
+pub size-spec : {M : Type 1} → statement M
+size-spec = tie.close (tie.spec sub-result cast-result add-result cast-result-2 (λ c. search needs) (λ c. search needs))

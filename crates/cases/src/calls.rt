@@ -1,0 +1,108 @@
+// The calls, by the numbers that tests/cases/make.py gives them, 16 to each group that tells alike. `first` is the net or the sheet that is read, `second` the
+// weights or the movements.
+use crate::parts::count_in;
+use crate::parts::part;
+use crate::sums::add_up;
+use crate::told::put_answer;
+use crate::told::put_count;
+use crate::told::put_decided;
+use crate::told::put_kilograms;
+use crate::told::put_named;
+use abi::complementing::pnet_complement;
+use abi::dying::pnet_first_dead;
+use abi::dying::pnet_is_dead;
+use abi::moving::pnet_begin;
+use abi::moving::pnet_certify;
+use abi::moving::pnet_fire;
+use abi::moving::pnet_run;
+use abi::moving::pnet_test;
+use abi::reading::pnet_read_movements;
+use abi::reading::pnet_read_net;
+use abi::reading::pnet_read_weights;
+use abi::stating::pnet_statement;
+use abi::weighing::pnet_change;
+use abi::weighing::pnet_figure;
+use answers::Answered;
+use answers::Counted;
+use answers::Weighed;
+use answers::accepted;
+use model::Mode;
+
+fn answer(call: u32, mode: Mode, first: &[u8], second: &[u8], marking: &mut [u32]) -> Answered {
+    match call {
+        0 => pnet_begin(first, marking),
+        1 => pnet_test(first, marking, mode),
+        2 => pnet_fire(first, marking, mode),
+        3 => pnet_certify(first, second, marking),
+        _ => accepted(),
+    }
+}
+
+fn count(
+    call: u32,
+    pairs: usize,
+    first: &[u8],
+    second: &[u8],
+    marking: &mut [u32],
+    out: &mut [u8],
+) -> Counted {
+    match call {
+        16 => pnet_read_net(first),
+        17 => pnet_read_weights(first, pairs),
+        18 => pnet_read_movements(first),
+        19 => pnet_run(first, second, marking),
+        20 => pnet_complement(first, out),
+        _ => pnet_statement(first, out),
+    }
+}
+
+fn weigh(call: u32, mode: Mode, first: &[u8], second: &[u8], marking: &[u32]) -> Weighed {
+    match call {
+        32 => pnet_figure(first, second, marking),
+        _ => pnet_change(first, second, mode),
+    }
+}
+
+fn look(call: u32, mode: Mode, first: &[u8], second: &[u8], told: &mut [u32; 16]) {
+    match call {
+        48 => put_decided(told, pnet_is_dead(first, mode)),
+        49 => put_named(told, pnet_first_dead(first)),
+        _ => add_up(first, second, told),
+    }
+}
+
+fn tell(
+    call: u32,
+    number: u32,
+    first: &[u8],
+    second: &[u8],
+    marking: &mut [u32],
+    out: &mut [u8],
+    told: &mut [u32; 16],
+) {
+    let mode = Mode((number % 65536) as u16);
+    match call / 16 {
+        0 => put_answer(told, answer(call, mode, first, second, marking)),
+        1 => put_count(
+            told,
+            count(call, number as usize, first, second, marking, out),
+        ),
+        2 => put_kilograms(told, weigh(call, mode, first, second, marking)),
+        _ => look(call, mode, first, second, told),
+    }
+}
+
+pub(crate) fn call(body: &[u8], marking: &mut [u32], out: &mut [u8], told: &mut [u32; 16]) {
+    let numbers = part(body, 0);
+    let first = part(body, 2);
+    let second = part(body, 3);
+    tell(
+        count_in(numbers, 0),
+        count_in(numbers, 1),
+        first,
+        second,
+        marking,
+        out,
+        told,
+    );
+}
