@@ -1,22 +1,16 @@
 -- Which numbers of a sheet are bounds, and which one is none.
 use Prim.Native.Nat.{ℕ}
 use mathlib.Core.Path.{_≡_, refl, sym, _∙_, ap}
-use mathlib.Core.Bool.{Bool, true, false}
+use mathlib.Core.Bool.{true, false}
 use mathlib.Core.Logic.{_⊎_, inl, inr, ⊎-elim}
-use lib.Dec.{eqb}
 use native.Mathlib.Omega.{arith}
-use borrow.Author.Tests.{eqb-true, eqb-false}
 use Rattle.model.specs.Numbers.{fin, ∞}
 use Rattle.model.specs.Complement.{finite}
 use Rattle.fields.specs.Numbers.{unbounded, bound}
-use Rattle.fields.proofs.Bounds.{bound-unbounded, bound-finite}
+use Rattle.fields.proofs.Bounds.{bound-unbounded, by-bound}
 
 unbounded-or-not : (x : ℕ) → (x ≡ unbounded) ⊎ (bound x ≡ fin x)
-unbounded-or-not x = go (eqb x unbounded) refl
-  where
-    go : (t : Bool) → eqb x unbounded ≡ t → (x ≡ unbounded) ⊎ (bound x ≡ fin x)
-    go true h = inl (eqb-true x unbounded h)
-    go false h = inr (bound-finite x (eqb-false x unbounded h))
+unbounded-or-not x = by-bound (λ b. (x ≡ unbounded) ⊎ (b ≡ fin x)) x inl (inr refl)
 
 pub unbounded-only : (x : ℕ) → bound x ≡ ∞ → x ≡ unbounded
 unbounded-only x e =

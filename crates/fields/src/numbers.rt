@@ -1,5 +1,6 @@
 // Numbers of a net sheet: 0..1,000,000, and for K and I also 4,294,967,295, which means unbounded.
 ghost use mathlib.Core.Path.{_≡_};
+ghost use Prim.Native.Nat.{min};
 ghost use Rattle.model.specs.Numbers.{above};
 ghost use Rattle.fields.specs.Numbers.{bound, outside};
 
@@ -20,4 +21,14 @@ pub fn above_bound(count: u32, x: u32) -> bool
         return false;
     }
     x < count
+}
+
+// The lesser of two numbers, and so of two bounds: 4,294,967,295 is the largest of 32 bits.
+pub fn least(a: u32, b: u32) -> u32
+    ensures { λ r. ⌜ r ≡ min a b ⌝ }
+{
+    if a < b {
+        return a;
+    }
+    b
 }

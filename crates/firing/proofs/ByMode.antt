@@ -14,9 +14,10 @@ use Rattle.model.specs.declared.Answer.{Answer}
 use Rattle.model.specs.declared.Answer.the-variants.{Accepted}
 use Rattle.model.specs.First.{_▸_, first}
 use Rattle.model.specs.Refusals.{answer}
-use Rattle.model.specs.Nets.{NetArc, PNet, pairs, K, count, arcNo, row}
+use Rattle.model.specs.Numbers.{ℕ∞}
+use Rattle.model.specs.Nets.{NetArc, PNet, pairs, count, arcNo, row}
 use Rattle.model.specs.Markings.{markingRefusal}
-use Rattle.model.specs.Firing.{ruleRefusal, rowRefusal, fired}
+use Rattle.model.specs.Firing.{ruleRefusal, rowRefusal, roomAt, fired}
 use Rattle.model.proofs.First.{then-assoc}
 use Rattle.model.proofs.Markings.{marking-test}
 use Rattle.model.proofs.Refusals.{answer-none}
@@ -38,10 +39,13 @@ module _ {s : List ℕ} {net : NetShape} {arcs : Segment} {m : List ℕ} (h : At
   pub listing : Listing (pairs (netOf s)) (row (netOf s) t) (arcs .count) (λ i. arcNo (netOf s .arcs) (arcs .start + i))
   listing = mode-lists (netOf s) (sizes (h .opened) .wellFormed) t (arcs .start) (arcs .count) own
 
+  abbrev rooms-at : ℕ → ℕ∞
+  rooms-at i = roomAt (netOf s) (arcNo (netOf s .arcs) (arcs .start + i))
+
   pub stop-by-arcs : (thing : Thing) (why : Why)
       → stopOf thing why (netOf s) m t ≡ first (arcs .count) (λ i. stopAt thing why (netOf s) m (arcs .start + i))
   unfolding stopAt stopOf
-  stop-by-arcs thing why = arcs-stop listing thing (K (netOf s)) (count m) (h .marking .inRange) (h .marking .within) why
+  stop-by-arcs thing why = arcs-stop listing thing _ (count m) (h .marking .inRange) (h .marking .within) rooms-at (λ i l. refl) why
 
   -- nothing is found exactly when each arc is free
   abbrev Each : Type 0
@@ -49,7 +53,7 @@ module _ {s : List ℕ} {net : NetShape} {arcs : Segment} {m : List ℕ} (h : At
 
   accepts : (thing : Thing) → (refusalOf thing (netOf s) m t ≡ none) ↔ Each
   unfolding Free refusalOf
-  accepts thing = arcs-accept listing thing (K (netOf s)) (count m) (h .marking .inRange) (h .marking .within)
+  accepts thing = arcs-accept listing thing _ (count m) (h .marking .inRange) (h .marking .within) rooms-at (λ i l. refl)
 
   pub one-not-free : {free : Bool} (i : ℕ) → i < arcs .count → (free ≡ true) ↔ Free (netOf s) m (arcs .start + i) → free ≡ false
       → Decides false (netOf s) m t

@@ -14,8 +14,8 @@ use Rattle.model.specs.declared.Answer.the-variants.{Accepted, Refused}
 use Rattle.model.specs.Numbers.{ℕ∞}
 use Rattle.model.specs.Rows.{Entry}
 use Rattle.model.specs.Refusals.{answer, wrong}
-use Rattle.model.specs.Nets.{NetArc, PNet, K, count, arcNo}
-use Rattle.model.specs.Firing.{after, stops}
+use Rattle.model.specs.Nets.{NetArc, PNet, count, arcNo}
+use Rattle.model.specs.Firing.{after, stops, roomAt}
 use Rattle.fields.specs.Numbers.{bound}
 use Rattle.sheets.specs.Decoded.{netArc}
 use Rattle.rule.specs.declared.AtPair.{AtPair}
@@ -27,16 +27,16 @@ module _ {net : PNet} {m : List ℕ} {k : ℕ} {at : AtPair} (h : Meets net m k 
   a = arcNo (net .arcs) k
 
   pub meets-as : (P : Entry → ℕ∞ → ℕ → Type 0) → P (netArc (at .arc) .entry) (bound (at .capacity)) (at .count)
-      → P (a .entry) (K net (a .pair .0)) (count m (a .pair .0))
+      → P (a .entry) (roomAt net a) (count m (a .pair .0))
   meets-as P p =
-      subst (λ (x : NetArc). P (x .entry) (K net (x .pair .0)) (count m (x .pair .0))) (h .arc) (rw (h .capacity, h .count) at p)
+      subst (λ (x : NetArc). P (x .entry) (roomAt net x) (count m (x .pair .0))) (h .arc) (rw (h .capacity, h .count) at p)
 
   pub meets-free : {free : Bool} → (free ≡ true) ↔ Unstopped (netArc (at .arc) .entry) (bound (at .capacity)) (at .count) → (free ≡ true) ↔ Free net m k
   unfolding Free
   meets-free {free} is = meets-as (λ e k m. (free ≡ true) ↔ Unstopped e k m) is
 
   module _ (thing : Thing) (why : Why) {test : Bool} (tested : test ≡ stops why (netArc (at .arc) .entry) (bound (at .capacity)) (at .count)) where
-    tests : test ≡ stops why (a .entry) (K net (a .pair .0)) (count m (a .pair .0))
+    tests : test ≡ stops why (a .entry) (roomAt net a) (count m (a .pair .0))
     tests = meets-as (λ e k m. test ≡ stops why e k m) tested
 
     pub stop-found : {x : Answer} → test ≡ true → x ≡ Refused (wrong thing (Stopped why (at .arc .pair))) → x ≡ answer (stopAt thing why net m k)

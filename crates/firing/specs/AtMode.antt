@@ -13,9 +13,9 @@ use Rattle.model.specs.declared.Thing.{Thing}
 use Rattle.model.specs.declared.Refusal.{Refusal}
 use Rattle.model.specs.First.{onlyIf}
 use Rattle.model.specs.Numbers.{limit}
-use Rattle.model.specs.Nets.{PNet, pairs, K, count, arcNo, row}
+use Rattle.model.specs.Nets.{PNet, pairs, count, arcNo, row}
 use Rattle.model.specs.Markings.{Marking}
-use Rattle.model.specs.Firing.{after, stops, stopped, lowestStop, rowRefusal}
+use Rattle.model.specs.Firing.{after, stops, stopped, lowestStop, rowRefusal, rooms, roomAt}
 use Rattle.opened.specs.declared.shape.NetShape.{NetShape}
 use Rattle.opened.specs.declared.starts.Segment.{Segment}
 use Rattle.fields.specs.Numbers.{bound}
@@ -23,21 +23,20 @@ use Rattle.sheets.specs.Decoded.{netOf, netArc}
 use Rattle.opened.specs.Shape.{Open}
 use Rattle.opened.specs.Starts.{ModeArcs}
 use Rattle.rule.specs.declared.AtPair.{AtPair}
-use Rattle.rule.specs.AtPair.{Counted, Unstopped}
+use Rattle.rule.specs.AtPair.{Unstopped}
 
 -- what the k-th arc of a net meets at a marking
 pub record Meets (net : PNet) (m : List ℕ) (k : ℕ) (at : AtPair) : Type 0 where
   pub arc : netArc (at .arc) ≡ arcNo (net .arcs) k
   pub inside : at .arc .pair .0 < pairs net
-  pub capacity : bound (at .capacity) ≡ K net (at .arc .pair .0)
+  pub capacity : bound (at .capacity) ≡ roomAt net (netArc (at .arc))
   pub count : at .count ≡ count m (at .arc .pair .0)
-  pub counted : Counted at
+  pub post : at .arc .post ≤ limit
+  pub inRange : at .count ≤ limit
 
 -- nothing stops a mode where the k-th arc of a net stands
 unfoldable pub Free : PNet → List ℕ → ℕ → Type 0
-Free net m k =
-    let a = arcNo (net .arcs) k in
-    Unstopped (a .entry) (K net (a .pair .0)) (count m (a .pair .0))
+Free net m k = let a = arcNo (net .arcs) k in Unstopped (a .entry) (roomAt net a) (count m (a .pair .0))
 
 -- the k-th arc can be written: its pair has a count, which is in range
 pub record Writable (net : PNet) (m : List ℕ) (k : ℕ) : Type 0 where
@@ -46,9 +45,7 @@ pub record Writable (net : PNet) (m : List ℕ) (k : ℕ) : Type 0 where
 
 -- M - Pre + Post where the k-th arc of a net stands
 unfoldable pub writtenAt : PNet → List ℕ → ℕ → List ℕ
-writtenAt net m k =
-    let a = arcNo (net .arcs) k in
-    set m (a .pair .0) (after (a .entry) (count m (a .pair .0)))
+writtenAt net m k = let a = arcNo (net .arcs) k in set m (a .pair .0) (after (a .entry) (count m (a .pair .0)))
 
 -- the arcs of a mode of an open net, at a marking that was accepted
 pub record AtMode (s : List ℕ) (net : NetShape) (arcs : Segment) (m : List ℕ) : Type 0 where
@@ -66,14 +63,14 @@ OfMode s arcs P = (t : Mode) → ModeArcs (netOf s .arcs) t (arcs .start) (arcs 
 unfoldable pub stopAt : Thing → Why → PNet → List ℕ → ℕ → Option Refusal
 stopAt thing why net m k =
     let a = arcNo (net .arcs) k in
-    onlyIf (stops why (a .entry) (K net (a .pair .0)) (count m (a .pair .0))) (stopped thing why (a .pair .0))
+    onlyIf (stops why (a .entry) (roomAt net a) (count m (a .pair .0))) (stopped thing why (a .pair .0))
 
 -- what is found of a mode at a marking, over all pairs
 unfoldable pub stopOf : Thing → Why → PNet → List ℕ → Mode → Option Refusal
-stopOf thing why net m t = lowestStop thing (pairs net) (K net) (row net t) (count m) why
+stopOf thing why net m t = lowestStop thing (pairs net) (rooms net (row net t)) (row net t) (count m) why
 
 unfoldable pub refusalOf : Thing → PNet → List ℕ → Mode → Option Refusal
-refusalOf thing net m t = rowRefusal thing (pairs net) (K net) (row net t) (count m)
+refusalOf thing net m t = rowRefusal thing (pairs net) (rooms net (row net t)) (row net t) (count m)
 
 -- a test that passes exactly when none of 11 to 14 is found
 pub record Decides (test : Bool) (net : PNet) (m : List ℕ) (t : Mode) : Type 0 where

@@ -3,7 +3,8 @@ use model::Arc;
 use model::Pair;
 use opened::finite::is_finite;
 ghost use mathlib.Core.Path.{_≡_};
-ghost use Prim.Native.Nat.{max};
+ghost use Prim.Native.Nat.{_+_, _-_, _≤_, max};
+ghost use Rattle.model.specs.Numbers.{limit};
 ghost use Rattle.model.specs.Complement.{reserve, blank, tooLarge};
 ghost use Rattle.fields.specs.Numbers.{bound};
 ghost use Rattle.sheets.specs.Decoded.{netArc};
@@ -43,7 +44,15 @@ pub fn original_arc(arc: Arc) -> Arc
     }
 }
 
-// "Pre: the larger of Post and (K less I ..)"; "Post: that number plus the original Pre less the original Post". Nothing where K is unbounded.
+// "Post: that number plus the original Pre less the original Post".
+fn given_back(pre: u32, arc: Arc) -> u32
+    requires { ⌜ (pre ≤ limit) × (arc .pre ≤ limit) × (arc .post ≤ pre) ⌝ }
+    ensures { λ r. ⌜ r ≡ pre + arc .pre - arc .post ⌝ }
+{
+    pre + arc.pre - arc.post
+}
+
+// "Pre: the larger of Post and (K less I ..)". Nothing where K is unbounded.
 pub fn complement_arc(arc: Arc, capacity: u32, pair: Pair) -> Arc
     requires { ⌜ Small arc capacity ⌝ }
     ensures { λ r. ⌜ netArc r ≡ complementAt pair (bound capacity) (netArc arc) ⌝ }
@@ -63,7 +72,7 @@ pub fn complement_arc(arc: Arc, capacity: u32, pair: Pair) -> Arc
         mode,
         pair,
         pre,
-        post: pre + arc.pre - arc.post,
+        post: given_back(pre, arc),
         inhibitor: 0xffff_ffff,
     }
 }

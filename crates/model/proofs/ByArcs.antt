@@ -23,14 +23,11 @@ use Rattle.model.specs.Rows.{noArc, Row, Capacities, Counts}
 use Rattle.model.specs.Nets.{NetArc, PNet, pairs, K, count, arcNo, row}
 use Rattle.model.specs.WellFormed.{WellFormed}
 use Rattle.model.specs.Markings.{Marking}
-use Rattle.model.specs.Firing.{after, stops, stopped, lowestStop, ruleRefusal, rowRefusal, fired}
-use Rattle.model.specs.Lists.{table}
+use Rattle.model.specs.Firing.{after, stops, stopped, lowestStop, ruleRefusal, rowRefusal, firedRow, fired}
 use Rattle.model.proofs.First.{then-assoc, left-none, right-none, none-then, first-each, first-all, first-ext, first-sparse, only-if-none, lowest-or-none}
 use Rattle.model.proofs.Numbers.{false-above}
 use Rattle.model.proofs.Nets.{rises-all, rises-in-mode, entry-written, entry-unwritten}
-use Rattle.model.proofs.PassBelow.{pass-is}
-use Rattle.model.specs.PassBelow.{passBelow}
-use Rattle.model.proofs.Tables.{table-length, table-at}
+use Rattle.model.proofs.Markings.{row-fired-at, row-fired-length}
 
 -- c arcs, rising by pair, write a row over n pairs: theirs are its entries, and elsewhere it has no arc
 pub record Listing (n : ℕ) (r : Row) (c : ℕ) (arc : ℕ → NetArc) : Type 0 where
@@ -52,10 +49,11 @@ in-order-none find = (
   λ h. none-then (h Lacking) (none-then (h OverCapacity) (none-then (h Inhibited) (h OverLimit))),
 )
 
-module _ (about : Thing) (c : ℕ) (arc : ℕ → NetArc) (K : Capacities) (M : Counts) where
+-- `room k` is what 12 compares with at the k-th arc
+module _ (about : Thing) (c : ℕ) (arc : ℕ → NetArc) (room : ℕ → ℕ∞) (M : Counts) where
   -- the test at one arc
   abbrev arcStops : Why → ℕ → Bool
-  arcStops why k = stops why (arc k .entry) (K (arc k .pair .0)) (M (arc k .pair .0))
+  arcStops why k = stops why (arc k .entry) (room k) (M (arc k .pair .0))
 
   abbrev pub arcsStop : Why → Option Refusal
   arcsStop why = lowest c (arcStops why) (λ k. stopped about why (arc k .pair .0))
@@ -82,28 +80,20 @@ no-arc-passes Inhibited k m h l = refl
 no-arc-passes OverLimit k m h l = false-above (after noArc m) (fin limit) (omega arith)
 
 module _ {n c : ℕ} {r : Row} {arc : ℕ → NetArc} (listing : Listing n r c arc) (about : Thing) (K : Capacities) (M : Counts)
-    (inRange : (p : ℕ) → p < n → M p ≤ limit) (within : (p : ℕ) → p < n → M p ≤∞ K p) where
-  pub arcs-stop : (why : Why) → lowestStop about n K r M why ≡ arcsStop about c arc K M why
+    (inRange : (p : ℕ) → p < n → M p ≤ limit) (within : (p : ℕ) → p < n → M p ≤∞ K p)
+    (room : ℕ → ℕ∞) (sameRoom : (k : ℕ) → k < c → K (arc k .pair .0) ≡ room k) where
+  pub arcs-stop : (why : Why) → lowestStop about n K r M why ≡ arcsStop about c arc room M why
   arcs-stop why =
       first-sparse n c (λ p. onlyIf (stops why (r p) (K p) (M p)) (stopped about why p)) (λ k. arc k .pair .0) (listing .inside) (listing .rising)
       (λ p h elsewhere. rw (listing .unwritten p h elsewhere, no-arc-passes why (K p) (M p) (inRange p h) (within p h)))
-      ∙ first-ext c _ _ (λ k h. rw (listing .written k h))
+      ∙ first-ext c _ _ (λ k h. rw (listing .written k h, sameRoom k h))
 
-  pub arcs-refusal : rowRefusal about n K r M ≡ arcsRefusal about c arc K M
+  arcs-refusal : rowRefusal about n K r M ≡ arcsRefusal about c arc room M
   unfolding rowRefusal ruleRefusal arcsRefusal
   arcs-refusal = rw (then-assoc, then-assoc) (ap inOrder (fun-ext arcs-stop))
 
-  pub arcs-accept : (rowRefusal about n K r M ≡ none) ↔ ArcsPass about c arc K M
-  arcs-accept = rw arcs-refusal (arcs-pass about c arc K M)
-
-  -- one number for each arc says the same
-  pub numbers-accept : ((k : ℕ) → k < c → arc k .entry .post ≤ limit)
-      → (rowRefusal about n K r M ≡ none)
-      ↔ ((k : ℕ) → k < c → (arc k .entry .pre ≤ M (arc k .pair .0)) × (M (arc k .pair .0) < passBelow (arc k .entry) (K (arc k .pair .0))))
-  numbers-accept post = (
-    λ e k h. pass-is (arc k .entry) _ _ (post k h) .0 (arcs-accept .0 e k h),
-    λ low. arcs-accept .1 (λ k h. pass-is (arc k .entry) _ _ (post k h) .1 (low k h)),
-  )
+  pub arcs-accept : (rowRefusal about n K r M ≡ none) ↔ ArcsPass about c arc room M
+  arcs-accept = rw arcs-refusal (arcs-pass about c arc room M)
 
 -- the arcs write one after the other, each its own pair
 unfoldable pub writeArcs : (ℕ → NetArc) → ℕ → List ℕ → List ℕ
@@ -162,19 +152,16 @@ module _ {n c : ℕ} {r : Row} {arc : ℕ → NetArc} (listing : Listing n r c a
       (λ (no : NoneBelow c (λ k. arc k .pair .0 ≡ p)). write-keeps arc m c p no ∙ rw (listing .unwritten p h no) (omega arith))
       (named-or-not c arc p)
 
-  pub arcs-write : writeArcs arc c m ≡ table n (λ p. after (r p) (count m p))
+  pub arcs-write : writeArcs arc c m ≡ firedRow n r m
   arcs-write =
-      ext-getD 0 (writeArcs arc c m) (table n (λ p. after (r p) (count m p))) (write-length arc m c ∙ oneEach ∙ sym (table-length n _))
-      (λ p h. let l : p < n = omega (arith, write-length arc m c) in write-each p l ∙ sym (table-at n (λ p. after (r p) (count m p)) 0 p l))
+      ext-getD 0 (writeArcs arc c m) (firedRow n r m) (write-length arc m c ∙ oneEach ∙ sym (row-fired-length n r m))
+      (λ p h. let l : p < n = omega (arith, write-length arc m c) in write-each p l ∙ sym (row-fired-at n r m p l))
 
--- For a mode of a net, from a marking that a call takes: the marking after, and what is found.
+-- For a mode of a net, from a marking that a call takes: the marking after.
 module _ (net : PNet) (t : Mode) (m : List ℕ) (marking : Marking net m) {c : ℕ} {arc : ℕ → NetArc} (listing : Listing (pairs net) (row net t) c arc) where
   pub fired-by-arcs : fired net t m ≡ writeArcs arc c m
   unfolding fired
   fired-by-arcs = sym (arcs-write listing m (marking .oneEach))
-
-  pub refusal-by-arcs : (about : Thing) → rowRefusal about (pairs net) (K net) (row net t) (count m) ≡ arcsRefusal about c arc (K net) (count m)
-  refusal-by-arcs about = arcs-refusal listing about (K net) (count m) (marking .inRange) (marking .within)
 
 -- The arcs of a mode stand together in a net: c of them from `start` on, and no other.
 module _ (net : PNet) (wellFormed : WellFormed net) (t : Mode) (start c : ℕ) (fits : start + c ≤ length (net .arcs))

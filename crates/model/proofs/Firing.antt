@@ -3,7 +3,7 @@ use Prim.Native.Nat.{ℕ, _+_, _≤_, _<_}
 use mathlib.Core.Path.{_≡_, refl, _∙_, ap, subst⁻¹, subst₂}
 use mathlib.Core.Bool.{cond}
 use mathlib.Core.List.{List}
-use mathlib.Core.Logic.{_≢_, _⊎_, ⊎-elim}
+use mathlib.Core.Logic.{_≢_, _↔_, _⊎_, ⊎-elim}
 use mathlib.Core.Option.{Option, none, some}
 use lib.Dec.{eqb}
 use native.Mathlib.Omega.{arith}
@@ -16,14 +16,29 @@ use Rattle.model.specs.declared.Fault.the-variants.{NotThere}
 use Rattle.model.specs.declared.Refusal.{Refusal}
 use Rattle.model.specs.First.{Lowest, NoneBelow}
 use Rattle.model.specs.Refusals.{answer, number, thing, position, thingNumber}
-use Rattle.model.specs.Numbers.{fin, limit}
+use Rattle.model.specs.Numbers.{_≤∞_, limit}
 use Rattle.model.specs.Billington.{Enables}
 use Rattle.model.specs.Rows.{Row, Capacities, Counts}
 use Rattle.model.specs.Nets.{PNet, pairs, modes, K, count, row}
-use Rattle.model.specs.Firing.{after, compared, Stops, stops, stopped, lowestStop, ruleRefusal, rowRefusal, absent, modeRefusal}
+use Rattle.model.specs.Firing.{after, compared, Stops, stops, stopped, lowestStop, ruleRefusal, rowRefusal, absent, rooms, modeRefusal}
 use Rattle.model.specs.Promises.{FiringTable, RefusalTable, Rule}
 use Rattle.model.proofs.First.{Decides, below-or, only-if-none, left-none, right-none, none-then, some-then, lowest-none, lowest-some, none-lowest, lowest-or-none}
 use Rattle.model.proofs.Numbers.{above-true, true-above, not-above, le-not-above, le-room, room-le}
+
+-- an accepted row is four facts at each pair: 11 to 14 in document 01's words
+pub record Passes (n : ℕ) (k : Capacities) (r : Row) (M : Counts) : Type 0 where
+  pub enough : (p : ℕ) → p < n → r p .pre ≤ M p
+  pub room : (p : ℕ) → p < n → M p + r p .post ≤∞ k p
+  pub low : (p : ℕ) → p < n → M p ≤∞ r p .inhibitor
+  pub small : (p : ℕ) → p < n → after (r p) (M p) ≤ limit
+
+module _ {n : ℕ} {k : Capacities} {r : Row} {M : Counts} where
+  pub passes-enables : Passes n k r M → Enables n k r M
+  passes-enables h = record { enough = h .enough; room = λ p l. le-room (M p) (r p .post) (k p) (h .room p l); uninhibited = h .low }
+
+  pub enables-passes : Enables n k r M → ((p : ℕ) → p < n → after (r p) (M p) ≤ limit) → Passes n k r M
+  enables-passes h small =
+      record { enough = h .enough; room = λ p l. room-le (M p) (r p .post) (k p) (h .room p l); low = h .uninhibited; small = small }
 
 module _ (about : Thing) (n : ℕ) (k : Capacities) (r : Row) (M : Counts) where
   abbrev pub At : Why → ℕ → Type 0
@@ -79,22 +94,38 @@ module _ (about : Thing) (n : ℕ) (k : Capacities) (r : Row) (M : Counts) where
   unfolding rowRefusal
   row0 a b c d = none-then (allowed a b c) (none-stop OverLimit d)
 
+  -- none of one number is found: at each pair, what it compares is not above its bound
+  stays-within : (why : Why)
+      → (lowestStop about n k r M why ≡ none)
+      ↔ ((p : ℕ) → p < n → compared why (r p) (k p) (M p) .number ≤∞ compared why (r p) (k p) (M p) .bound)
+  stays-within why = (
+    λ e p h. let c = compared why (r p) (k p) (M p) in le-not-above (c .number) (c .bound) (stop-none why e p h),
+    λ f. none-stop why (λ p h. let c = compared why (r p) (k p) (M p) in not-above (c .number) (c .bound) (f p h)),
+  )
+
   -- source document 000's rule, 14 aside
-  pub accepted-enables : ruleRefusal about n k r M ≡ none → Enables n k r M
+  accepted-enables : ruleRefusal about n k r M ≡ none → Enables n k r M
   unfolding ruleRefusal
   accepted-enables e =
       let over = right-none (lowestStop about n k r M Lacking) _ e in
       record {
-        enough = λ p h. le-not-above (r p .pre) (fin (M p)) (stop-none Lacking (left-none _ _ e) p h);
-        room = λ p h. le-room (M p) (r p .post) (k p) (le-not-above (M p + r p .post) (k p) (stop-none OverCapacity (left-none _ _ over) p h));
-        uninhibited = λ p h. le-not-above (M p) (r p .inhibitor) (stop-none Inhibited (right-none _ _ over) p h);
+        enough = stays-within Lacking .0 (left-none _ _ e);
+        room = λ p h. le-room (M p) (r p .post) (k p) (stays-within OverCapacity .0 (left-none _ _ over) p h);
+        uninhibited = stays-within Inhibited .0 (right-none _ _ over);
       }
 
-  pub enables-accepted : Enables n k r M → ruleRefusal about n k r M ≡ none
+  enables-accepted : Enables n k r M → ruleRefusal about n k r M ≡ none
+  unfolding ruleRefusal
   enables-accepted h =
-      allowed (λ p l. not-above (r p .pre) (fin (M p)) (h .enough p l))
-      (λ p l. not-above (M p + r p .post) (k p) (room-le (M p) (r p .post) (k p) (h .room p l)))
-      (λ p l. not-above (M p) (r p .inhibitor) (h .uninhibited p l))
+      none-then (stays-within Lacking .1 (h .enough))
+      (none-then (stays-within OverCapacity .1 (λ p l. room-le (M p) (r p .post) (k p) (h .room p l))) (stays-within Inhibited .1 (h .uninhibited)))
+
+  pub row-passes : (rowRefusal about n k r M ≡ none) ↔ Passes n k r M
+  unfolding rowRefusal
+  row-passes = (
+    λ e. enables-passes (accepted-enables (left-none _ _ e)) (stays-within OverLimit .0 (right-none _ _ e)),
+    λ h. none-then (enables-accepted (passes-enables h)) (stays-within OverLimit .1 (h .small)),
+  )
 
 -- 6: whether a mode is there
 pub mode-there : (about : Thing) (n : ℕ) (t : Mode) → t .0 < n → absent about n t ≡ none
@@ -216,29 +247,17 @@ module _ (about : Thing) (net : PNet) (t : Mode) (m : List ℕ) (e : modeRefusal
   unfolding modeRefusal
   accepted-there = leb-false (modes net) (t .0) (only-if-none _ _ (left-none _ _ e))
 
-  accepted-row : rowRefusal about (pairs net) (K net) (row net t) (count m) ≡ none
+  pub accepted-passes : Passes (pairs net) (rooms net (row net t)) (row net t) (count m)
   unfolding modeRefusal
-  accepted-row = right-none _ _ e
+  accepted-passes = row-passes about (pairs net) _ (row net t) (count m) .0 (right-none _ _ e)
 
   pub accepted-allows : Enables (pairs net) (K net) (row net t) (count m)
-  unfolding rowRefusal
-  accepted-allows = rule about (pairs net) (K net) (row net t) (count m) .0 (left-none _ _ accepted-row)
+  accepted-allows = passes-enables accepted-passes
 
   pub accepted-enough : (p : ℕ) → p < pairs net → row net t p .pre ≤ count m p
-  accepted-enough = accepted-allows .enough
-
-  pub accepted-limit : (p : ℕ) → p < pairs net → after (row net t p) (count m p) ≤ limit
-  unfolding rowRefusal
-  accepted-limit p h =
-      le-not-above (after (row net t p) (count m p)) (fin limit)
-      (stop-none about (pairs net) (K net) (row net t) (count m) OverLimit (right-none _ _ accepted-row) p h)
+  accepted-enough = accepted-passes .enough
 
 -- and what shows it accepted
-pub enabled-accepted : (about : Thing) (net : PNet) (t : Mode) (m : List ℕ) → t .0 < modes net → Enables (pairs net) (K net) (row net t) (count m)
-    → ((p : ℕ) → p < pairs net → after (row net t p) (count m p) ≤ limit) → modeRefusal about net t m ≡ none
-unfolding rowRefusal
-enabled-accepted about net t m h enabled small =
-    there about net t m h
-    ∙ none-then (rule about (pairs net) (K net) (row net t) (count m) .1 enabled)
-    (none-stop about (pairs net) (K net) (row net t) (count m) OverLimit
-    (λ p l. not-above (after (row net t p) (count m p)) (fin limit) (small p l)))
+pub passes-accepted : (about : Thing) (net : PNet) (t : Mode) (m : List ℕ) → t .0 < modes net
+    → Passes (pairs net) (rooms net (row net t)) (row net t) (count m) → modeRefusal about net t m ≡ none
+passes-accepted about net t m h passes = there about net t m h ∙ row-passes about (pairs net) _ (row net t) (count m) .1 passes

@@ -9,16 +9,16 @@ use native.Mathlib.Omega.{arith}
 use borrow.Author.Tests.{eqb-true, eq-eqb, not-false}
 use Rattle.model.specs.declared.Mode.{Mode}
 use Rattle.model.specs.Numbers.{fin, limit}
-use Rattle.model.specs.Rows.{noArc}
+use Rattle.model.specs.Rows.{noArc, Row}
 use Rattle.model.specs.Nets.{PNet, pairs, K, count, row}
 use Rattle.model.specs.Markings.{markingRefusal, Marking}
-use Rattle.model.specs.Firing.{after, fired}
+use Rattle.model.specs.Firing.{after, firedRow, fired}
 use Rattle.model.specs.Promises.{ModeRule, MarkingAfter, WithoutArcs, MarkingTest, MarkingKept}
 use Rattle.model.proofs.First.{left-none, right-none, none-then, first-each, first-all, only-if-none}
-use Rattle.model.proofs.Numbers.{above-false, false-above, le-le∞, le-room, room-le}
+use Rattle.model.proofs.Numbers.{above-false, false-above, le-le∞}
 use Rattle.model.proofs.Nets.{entry-unwritten}
 use Rattle.model.proofs.Tables.{table-length, table-at}
-use Rattle.model.proofs.Firing.{accepted-there, accepted-allows, accepted-enough, accepted-limit, enabled-accepted}
+use Rattle.model.proofs.Firing.{enables-passes, accepted-there, accepted-passes, accepted-allows, accepted-enough, passes-accepted}
 
 accepted-marking : (net : PNet) (m : List ℕ) → markingRefusal net m ≡ none → Marking net m
 unfolding markingRefusal
@@ -41,45 +41,51 @@ pub marking-test : MarkingTest
 marking-test net m = (accepted-marking net m, marking-accepted net m)
 
 -- what firing writes, accepted or not
+module _ (n : ℕ) (r : Row) (m : List ℕ) where
+  pub row-fired-at : (p : ℕ) → p < n → count (firedRow n r m) p ≡ after (r p) (count m p)
+  row-fired-at p h = table-at n _ 0 p h
+
+  pub row-fired-length : length (firedRow n r m) ≡ n
+  row-fired-length = table-length n _
+
 module _ (net : PNet) (t : Mode) (m : List ℕ) where
   pub fired-at : (p : ℕ) → p < pairs net → count (fired net t m) p ≡ after (row net t p) (count m p)
   unfolding fired
-  fired-at p h = table-at (pairs net) _ 0 p h
+  fired-at = row-fired-at (pairs net) (row net t) m
 
   pub fired-length : length (fired net t m) ≡ pairs net
   unfolding fired
-  fired-length = table-length (pairs net) _
+  fired-length = row-fired-length (pairs net) (row net t) m
 
 pub marking-after : MarkingAfter
 marking-after about net t m e = (λ p h. rw (fired-at net t m p h) (omega (arith, accepted-enough about net t m e p h)), fired-length net t m)
 
 pub mode-rule : ModeRule
 mode-rule about net t m = (
-  λ e. (accepted-there about net t m e, accepted-allows about net t m e, λ p h. rw (fired-at net t m p h) (accepted-limit about net t m e p h)),
-  λ r. enabled-accepted about net t m (r .0) (r .1) (λ p h. rw (fired-at net t m p h) at (r .2 p h)),
+  λ e. (accepted-there about net t m e, accepted-allows about net t m e, λ p h. rw (fired-at net t m p h) (accepted-passes about net t m e .small p h)),
+  λ r. passes-accepted about net t m (r .0) (enables-passes (r .1) (λ p h. rw (fired-at net t m p h) at (r .2 p h))),
 )
 
 pub marking-kept : MarkingKept
 marking-kept about net t m h e =
     record {
       oneEach = fired-length net t m;
-      inRange = λ p l. rw (fired-at net t m p l) (accepted-limit about net t m e p l);
+      inRange = λ p l. rw (fired-at net t m p l) (accepted-passes about net t m e .small p l);
       within = λ p l.
           rw (fired-at net t m p l)
-          (le-le∞ (after (row net t p) (count m p)) (count m p + row net t p .post) (K net p) (omega arith)
-          (room-le (count m p) (row net t p .post) (K net p) (accepted-allows about net t m e .room p l)));
+          (le-le∞ (after (row net t p) (count m p)) (count m p + row net t p .post) (K net p) (omega arith) (accepted-passes about net t m e .room p l));
     }
 
 -- nothing stands anywhere in the row of a mode without arcs
 pub without-arcs : WithoutArcs
 without-arcs about net t m there none-own h = (
-  enabled-accepted about net t m there
+  passes-accepted about net t m there
       (record {
         enough = λ p l. rw (bare p) (omega arith);
-        room = λ p l. rw (bare p) (le-room (count m p) 0 (K net p) (le-le∞ (count m p + 0) (count m p) (K net p) (omega arith) (h .within p l)));
-        uninhibited = λ p l. rw (bare p) tt;
-      })
-      (λ p l. rw (bare p) (omega (arith, h .inRange p l))),
+        room = λ p l. rw (bare p) (le-le∞ (count m p + 0) (count m p) (K net p) (omega arith) (h .within p l));
+        low = λ p l. rw (bare p) tt;
+        small = λ p l. rw (bare p) (omega (arith, h .inRange p l));
+      }),
   ext-getD 0 (fired net t m) m (fired-length net t m ∙ sym (h .oneEach))
       (λ p l. fired-at net t m p (rw (fired-length net t m) at l) ∙ rw (bare p) (omega arith)),
 )

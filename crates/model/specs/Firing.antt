@@ -15,7 +15,7 @@ use Rattle.model.specs.First.{_▸_, onlyIf, lowest}
 use Rattle.model.specs.Numbers.{ℕ∞, fin, Above, above, limit}
 use Rattle.model.specs.Rows.{Entry, Row, Capacities, Counts}
 use Rattle.model.specs.Lists.{table}
-use Rattle.model.specs.Nets.{PNet, pairs, modes, pairNo, K, count, row}
+use Rattle.model.specs.Nets.{NetArc, PNet, pairs, modes, pairNo, K, count, row}
 
 -- "Firing gives M - Pre + Post."
 abbrev pub after : Entry → ℕ → ℕ
@@ -63,9 +63,20 @@ module _ (thing : Thing) (n : ℕ) (K : Capacities) (row : Row) (M : Counts) whe
 abbrev pub absent : Thing → ℕ → Mode → Option Refusal
 absent thing modes t = onlyIf (leb modes (t .0)) (wrong thing NotThere)
 
+-- what 12 compares with in a net: at each pair, for a row; and where an arc stands
+abbrev pub rooms : PNet → Row → Capacities
+rooms net r = K net
+
+abbrev pub roomAt : PNet → NetArc → ℕ∞
+roomAt net a = K net (a .pair .0)
+
 -- "then the mode (6, 11 over all pairs, 12, 13, 14)"
 unfoldable pub modeRefusal : Thing → PNet → Mode → List ℕ → Option Refusal
-modeRefusal thing net t m = absent thing (modes net) t ▸ rowRefusal thing (pairs net) (K net) (row net t) (count m)
+modeRefusal thing net t m = absent thing (modes net) t ▸ rowRefusal thing (pairs net) (rooms net (row net t)) (row net t) (count m)
+
+-- the marking after, for a row over n pairs and for a mode of a net
+abbrev pub firedRow : ℕ → Row → List ℕ → List ℕ
+firedRow n r m = table n (λ p. after (r p) (count m p))
 
 unfoldable pub fired : PNet → Mode → List ℕ → List ℕ
-fired net t m = table (pairs net) (λ p. after (row net t p) (count m p))
+fired net t m = firedRow (pairs net) (row net t) m

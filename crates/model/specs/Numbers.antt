@@ -1,5 +1,5 @@
 -- Numbers with ∞ (source document 000, Appendix A.1 and A.2.6), and the largest number of document 01.
-use Prim.Native.Nat.{ℕ, _≤_, _<_}
+use Prim.Native.Nat.{ℕ, _-_, _≤_, _<_, min}
 use mathlib.Core.Bool.{Bool, false}
 use lib.Dec.{ltb}
 use lib.IntN.{ℤ, pos, _-ℤ_}
@@ -26,6 +26,20 @@ Above n ∞ = ⊥
 abbrev pub above : ℕ → ℕ∞ → Bool
 above n (fin k) = ltb k n
 above n ∞ = false
+
+-- the lesser of a bound and a number, and of two bounds
+abbrev pub least : ℕ∞ → ℕ → ℕ
+least (fin k) n = min k n
+least ∞ n = n
+
+abbrev pub leastOf : ℕ∞ → ℕ∞ → ℕ∞
+leastOf k (fin n) = fin (least k n)
+leastOf k ∞ = k
+
+-- k less n, or 0 where n is above k
+abbrev pub lessThan : ℕ∞ → ℕ → ℕ∞
+lessThan (fin k) n = fin (k - n)
+lessThan ∞ n = ∞
 
 -- A.2.6 and A.3: ∞ - n = ∞, and a vector's difference may be below zero
 infixl 6 _-∞_

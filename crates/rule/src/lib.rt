@@ -5,12 +5,11 @@ use model::Why;
 ghost use mathlib.Core.Path.{_≡_};
 ghost use mathlib.Core.Bool.{true};
 ghost use mathlib.Core.Logic.{_↔_};
-ghost use Prim.Native.Nat.{_+_, _≤_};
-ghost use Rattle.model.specs.Numbers.{limit};
+ghost use Prim.Native.Nat.{_+_};
 ghost use Rattle.model.specs.Firing.{after, stops};
 ghost use Rattle.fields.specs.Numbers.{bound};
 ghost use Rattle.sheets.specs.Decoded.{netArc};
-ghost use Rattle.rule.specs.AtPair.{InRange, Counted, Unstopped};
+ghost use Rattle.rule.specs.AtPair.{Counted, Unstopped};
 
 // An arc, K of its pair as the sheet writes it, and the count there.
 pub struct AtPair {
@@ -21,8 +20,7 @@ pub struct AtPair {
 
 // "Firing gives M - Pre + Post."
 pub fn moved(arc: Arc, count: u32) -> u32
-    requires { ⌜ InRange arc ⌝ }
-    requires { ⌜ count ≤ limit ⌝ }
+    requires { ⌜ Counted arc count ⌝ }
     ensures { λ r. ⌜ r ≡ after (netArc arc .entry) count ⌝ }
 {
     if count < arc.pre {
@@ -33,15 +31,14 @@ pub fn moved(arc: Arc, count: u32) -> u32
 
 // "Pre is not taken off before the capacity test."
 fn with_post(arc: Arc, count: u32) -> u32
-    requires { ⌜ InRange arc ⌝ }
-    requires { ⌜ count ≤ limit ⌝ }
+    requires { ⌜ Counted arc count ⌝ }
     ensures { λ r. ⌜ r ≡ count + arc .post ⌝ }
 {
     count + arc.post
 }
 
 pub fn is_stopped(why: Why, at: AtPair) -> bool
-    requires { ⌜ Counted at ⌝ }
+    requires { ⌜ Counted (at .arc) (at .count) ⌝ }
     ensures { λ r. ⌜ r ≡ stops why (netArc (at .arc) .entry) (bound (at .capacity)) (at .count) ⌝ }
 {
     let arc = at.arc;
@@ -55,7 +52,7 @@ pub fn is_stopped(why: Why, at: AtPair) -> bool
 
 // All four tests.
 pub fn is_free(at: AtPair) -> bool
-    requires { ⌜ Counted at ⌝ }
+    requires { ⌜ Counted (at .arc) (at .count) ⌝ }
     ensures { λ r. ⌜ (r ≡ true) ↔ Unstopped (netArc (at .arc) .entry) (bound (at .capacity)) (at .count) ⌝ }
 {
     if is_stopped(Why::Lacking, at) {

@@ -8,7 +8,8 @@ use lib.Dec.{ltb}
 use native.Mathlib.Omega.{arith}
 use borrow.Author.Tests.{ltb-true, lt-ltb}
 use Rattle.model.specs.declared.Arc.{Arc}
-use Rattle.model.specs.Nets.{NetArc, PNet, K}
+use Rattle.model.specs.Nets.{NetArc, PNet}
+use Rattle.model.specs.Firing.{roomAt}
 use Rattle.model.proofs.PassBelow.{pass-is}
 use Rattle.model.specs.PassBelow.{passBelow}
 use Rattle.opened.specs.declared.shape.NetShape.{NetShape}
@@ -23,17 +24,17 @@ use Rattle.rule.proofs.FourTests.{clash}
 use Rattle.firing.proofs.Meets.{meets-as}
 
 -- the number of an arc that was read is that of the arc of the net
-pub number-is : {s : List ℕ} {net : NetShape} {k : ℕ} {a : Arc} (x : ℕ) {r : ℕ} → ArcIs s net k a → bound x ≡ K (netOf s) (a .pair .0)
+pub number-is : {s : List ℕ} {net : NetShape} {k : ℕ} {a : Arc} (x : ℕ) {r : ℕ} → ArcIs s net k a → bound x ≡ roomAt (netOf s) (netArc a)
     → r ≡ passBelow (netArc a .entry) (bound x) → r ≡ numberOf (netOf s) k
 unfolding numberOf
-number-is {s} x {r} arc e q = subst (λ (b : NetArc). r ≡ passBelow (b .entry) (K (netOf s) (b .pair .0))) (arc .is) (rw e at q)
+number-is {s} x {r} arc e q = subst (λ (b : NetArc). r ≡ passBelow (b .entry) (roomAt (netOf s) b)) (arc .is) (rw e at q)
 
 module _ {net : PNet} {m : List ℕ} {k : ℕ} {at : AtPair} (h : Meets net m k at) where
   decides : Free net m k ↔ ((at .arc .pre ≤ at .count) × (at .count < numberOf net k))
   unfolding Free numberOf
   decides =
       meets-as h (λ e k m. Unstopped e k m ↔ ((at .arc .pre ≤ at .count) × (at .count < passBelow e k)))
-      (pass-is (netArc (at .arc) .entry) (bound (at .capacity)) (at .count) (h .counted .arc .post))
+      (pass-is (netArc (at .arc) .entry) (bound (at .capacity)) (at .count) (h .post))
 
   pub below-pre : at .count < at .arc .pre → (false ≡ true) ↔ Free net m k
   below-pre l = (λ z. clash (sym z), λ free. absurd (omega (arith, decides .0 free)))

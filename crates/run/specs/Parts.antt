@@ -12,7 +12,8 @@ use Rattle.model.specs.declared.Thing.the-variants.{Argument}
 use Rattle.model.specs.declared.Fault.the-variants.{EndsElsewhere}
 use Rattle.model.specs.declared.Refusal.{Refusal}
 use Rattle.model.specs.First.{_▸_, first, onlyIf}
-use Rattle.model.specs.Nets.{PNet, pairs, pairNo, K, count, arcNo}
+use Rattle.model.specs.Nets.{PNet, pairs, pairNo, count, arcNo}
+use Rattle.model.specs.Firing.{roomAt}
 use Rattle.model.specs.Runs.{Outcome, goOn, run}
 use Rattle.model.specs.PassBelow.{passBelow}
 use Rattle.opened.specs.declared.shape.NetShape.{NetShape}
@@ -25,9 +26,7 @@ use Rattle.run.specs.Calls.{ranOf}
 
 -- the number of the k-th arc of a net, below which its counts pass; and a table of them
 unfoldable pub numberOf : PNet → ℕ → ℕ
-numberOf net k =
-    let a = arcNo (net .arcs) k in
-    passBelow (a .entry) (K net (a .pair .0))
+numberOf net k = let a = arcNo (net .arcs) k in passBelow (a .entry) (roomAt net a)
 
 pub record NumbersAre (net : PNet) (numbers : List ℕ) : Type 0 where
   pub long : length (net .arcs) ≤ length numbers

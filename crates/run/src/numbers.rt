@@ -1,4 +1,5 @@
 // One number for each arc of a net, made once for a run: a count passes all four tests when it is at least Pre and below that number.
+use fields::numbers::least;
 use firing::arcs::meet;
 use firing::mode::find_refusal;
 use firing::mode::write_arcs;
@@ -12,32 +13,23 @@ use opened::starts::Segment;
 ghost use mathlib.Core.Path.{_≡_};
 ghost use mathlib.Core.Bool.{true};
 ghost use mathlib.Core.Logic.{_↔_};
-ghost use Prim.Native.Nat.{_<_, min};
+ghost use Prim.Native.Nat.{_<_, _≤_};
 ghost use lib.ListN.{length};
 ghost use Rattle.model.specs.declared.Thing.the-variants.{Movements};
+ghost use Rattle.model.specs.Numbers.{limit};
 ghost use Rattle.model.specs.Markings.{Marking};
 ghost use Rattle.model.specs.Firing.{fired};
 ghost use Rattle.model.specs.PassBelow.{passBelow};
 ghost use Rattle.fields.specs.Numbers.{bound};
 ghost use Rattle.sheets.specs.Decoded.{netOf, netArc};
 ghost use Rattle.opened.specs.Shape.{Open};
-ghost use Rattle.rule.specs.AtPair.{InRange};
 ghost use Rattle.firing.specs.AtMode.{Free, AtMode, OfMode, refusalOf, Decides};
 ghost use Rattle.firing.specs.Leaving.{Leaves};
 ghost use Rattle.run.specs.Parts.{numberOf, NumbersAre};
 
-fn least(a: u32, b: u32) -> u32
-    ensures { λ r. ⌜ r ≡ min a b ⌝ }
-{
-    if a < b {
-        return a;
-    }
-    b
-}
-
 // The counts below this number, from Pre on, are those that pass all four tests.
 fn pass_below(arc: Arc, capacity: u32) -> u32
-    requires { ⌜ InRange arc ⌝ }
+    requires { ⌜ (arc .pre ≤ limit) × (arc .post ≤ limit) ⌝ }
     ensures { λ r. ⌜ r ≡ passBelow (netArc arc .entry) (bound capacity) ⌝ }
 {
     if capacity < arc.post {

@@ -21,7 +21,8 @@ returns c =
       inside = inside;
       capacity = read .capacity .ensures;
       count = search needs;
-      counted = record { arc = search needs; count = pre .1 .0 .inRange _ inside };
+      post = arc .post;
+      inRange = pre .1 .0 .inRange _ inside;
     }
 
 pub meet-spec : {M : Type 1} → statement M

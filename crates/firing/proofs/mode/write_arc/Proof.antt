@@ -17,7 +17,7 @@ moved-requires : tie.Need-moved-requires
 moved-requires c κs =
     let read = c .before .before .arc .ensures in
     let start = c .before .before .before .before .before in
-    (record { pre = read .pre; post = read .post }, rw (← ap (λ (a : NetArc). a .pair .0) (read .is)) at (start .pre .1 .1 .inRange))
+    record { post = omega (arith, read .post); count = rw (← ap (λ (a : NetArc). a .pair .0) (read .is)) at (start .pre .1 .1 .inRange) }
 
 slice-write-marking : tie.Need-slice-write-marking
 slice-write-marking c =

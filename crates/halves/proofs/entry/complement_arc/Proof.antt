@@ -15,20 +15,21 @@ use Rattle.halves.proofs.entry.complement_arc.Tie as tie
 returns : tie.Need-returns
 returns c = rw (unbounded-is _ (sym (c .before .is-finite .ensures) ∙ not-true _ (c .if1 .taken)), bound-unbounded unbounded refl)
 
-add-t8 : tie.Need-add-t8
-add-t8 c =
-    let start = c .before .before .before .before .before .before in
+given-back-requires : tie.Need-given-back-requires
+given-back-requires c κs =
+    let start = c .before .before .before .before .before in
     let k = start .args .capacity in
-    let within : k ≤ limit = rw (finite-is k (sym (c .before .before .before .before .is-finite .ensures) ∙ not-false _ (c .before .before .before .if1 .left))) at (start .pre .capacity) in
+    let within : k ≤ limit = rw (finite-is k (sym (c .before .before .before .is-finite .ensures) ∙ not-false _ (c .before .before .if1 .left))) at (start .pre .capacity) in
     omega (arith, reserve-within k (bound (start .args .arc .inhibitor)))
 
 returns-2 : tie.Need-returns-2
 returns-2 c =
     rw (
-      finite-is _ (sym (c .before .before .before .before .before .is-finite .ensures) ∙ not-false _ (c .before .before .before .before .if1 .left)),
+      finite-is _ (sym (c .before .before .before .before .is-finite .ensures) ∙ not-false _ (c .before .before .before .if1 .left)),
       bound-unbounded unbounded refl,
-      ← c .before .before .before .reserved .ensures,
-      ← c .before .before .larger .ensures,
+      ← c .before .before .reserved .ensures,
+      ← c .before .larger .ensures,
+      c .given-back .ensures,
     )
 
 pub complement-arc-spec : {M : Type 1} → statement M
@@ -39,6 +40,5 @@ complement-arc-spec =
     returns
     (λ c κs. search needs)
     (λ c κs. search needs)
-    add-t8
-    (λ c. search needs)
+    given-back-requires
     returns-2)

@@ -6,12 +6,13 @@ use Rattle.run.proofs.numbers.pass_below.Statement.{statement}
 use Rattle.run.proofs.numbers.pass_below.Tie as tie
 
 returns : tie.Need-returns
-returns c = sym (never-passes _ _ (c .before .before .pre) (c .if1 .taken))
+returns c = sym (never-passes (c .before .before .args .arc) _ (c .before .before .pre) (c .if1 .taken))
 
 returns-2 : tie.Need-returns-2
 returns-2 c =
     let test = c .before .before .before .before .before in
-    rw (c .least2 .ensures, c .before .before .least .ensures) (sym (passes-below _ _ (test .before .before .pre) (test .if1 .left)))
+    let start = test .before .before in
+    rw (c .least2 .ensures, c .before .before .least .ensures) (sym (passes-below (start .args .arc) _ (start .pre) (test .if1 .left)))
 
 pub pass-below-spec : {M : Type 1} → statement M
 pass-below-spec =
