@@ -20,7 +20,7 @@ ghost use Rattle.model.specs.Markings.{Marking};
 ghost use Rattle.model.specs.Firing.{fired};
 ghost use Rattle.sheets.specs.Decoded.{netOf};
 ghost use Rattle.opened.specs.Shape.{Open};
-ghost use Rattle.firing.specs.AtMode.{Free, Writable, writtenAt, AtMode, OfMode, stopAt, stopOf, refusalOf, Decides};
+ghost use Rattle.firing.specs.AtMode.{Free, Writable, writtenAt, AtMode, OfMode, stopAt, stopOf, refusalOf, Decides, Fires};
 ghost use Rattle.firing.specs.Leaving.{Leaves};
 
 fn arc_stop(s: &[u8], net: NetShape, k: usize, thing: Thing, why: Why, marking: &[u32]) -> Answer
@@ -160,4 +160,16 @@ pub fn fire_arcs(
     }
     write_arcs(s, net, arcs, marking);
     Answer::Accepted
+}
+
+// The same where a caller asks only whether the mode has fired.
+pub fn fire_free(s: &[u8], net: NetShape, arcs: Segment, marking: &mut [u32]) -> bool
+    requires { ⌜ AtMode (now s) net arcs (now marking) ⌝ }
+    ensures { λ r. ⌜ OfMode (now (s .entry)) arcs (λ t. Fires r (netOf (now (s .entry))) (now (marking .entry)) t (now (marking .exit))) ⌝ }
+{
+    if !arcs_free(s, net, arcs, marking) {
+        return false;
+    }
+    write_arcs(s, net, arcs, marking);
+    true
 }

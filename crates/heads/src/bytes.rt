@@ -29,6 +29,15 @@ pub fn u16_at(s: &[u8], at: usize) -> u16
     wide16(s[at]) * 256 + wide16(s[at + 1])
 }
 
+// A number of 2 bytes that is below 256: its second byte.
+pub fn small_at(s: &[u8], at: usize) -> u16
+    requires { ⌜ at + 2 ≤ length (now s) ⌝ }
+    requires { ⌜ u16At (now s) at < 256 ⌝ }
+    ensures { λ r. ⌜ r ≡ u16At (now (s .entry)) at ⌝ }
+{
+    wide16(s[at + 1])
+}
+
 pub fn u32_at(s: &[u8], at: usize) -> u32
     requires { ⌜ at + 4 ≤ length (now s) ⌝ }
     ensures { λ r. ⌜ (r ≡ u32At (now (s .entry)) at) × (r < 4294967296) ⌝ }

@@ -26,8 +26,11 @@ unfoldable pub notRising : List ℕ → ℕ → ℕ → Bool
 notRising s start k = ltb 0 k && not (risesTo s (arcAt start (k - 1)) (arcAt start k))
 
 -- "An arc with Pre = Post = 0 and I unbounded is blank"
+abbrev pub blank : ℕ → ℕ → ℕ → Bool
+blank pre post inhibitor = eqb pre 0 && eqb post 0 && eqb inhibitor unbounded
+
 unfoldable pub isBlank : List ℕ → ℕ → Bool
-isBlank s at = eqb (u32At s (preAt at)) 0 && eqb (u32At s (postAt at)) 0 && eqb (u32At s (inhibitorAt at)) unbounded
+isBlank s at = blank (u32At s (preAt at)) (u32At s (postAt at)) (u32At s (inhibitorAt at))
 
 unfoldable pub arcNumbersRefusal : List ℕ → ℕ → Option Refusal
 arcNumbersRefusal s at =

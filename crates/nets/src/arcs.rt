@@ -15,60 +15,58 @@ ghost use Prim.Native.Nat.{_+_, _*_, _<_, _≤_};
 ghost use lib.ListN.{length};
 ghost use Rattle.model.specs.First.{first};
 ghost use Rattle.model.specs.Refusals.{answer};
+ghost use Rattle.heads.specs.Layout.{arcAt};
 ghost use Rattle.heads.specs.Held.{Headed};
-ghost use Rattle.nets.specs.Nets.{risesTo, notRising, isBlank, arcNamesRefusal, arcNumbersRefusal, arcRefusal, arcFields};
+ghost use Rattle.nets.specs.Names.{NamesAt};
+ghost use Rattle.nets.specs.Nets.{notRising, blank, arcNamesRefusal, arcNumbersRefusal, arcRefusal, arcFields};
 
-fn rises_to(s: &[u8], before: usize, at: usize) -> bool
-    requires { ⌜ (before + 4 ≤ length (now s)) × (at + 4 ≤ length (now s)) ⌝ }
-    ensures { λ r. ⌜ r ≡ risesTo (now (s .entry)) before at ⌝ }
+// The mode and the pair of an arc as one number, which rises as they do.
+fn names_at(s: &[u8], at: usize) -> u32
+    requires { ⌜ at + 4 ≤ length (now s) ⌝ }
+    ensures { λ r. ⌜ NamesAt (now (s .entry)) at r ⌝ }
 {
-    let last = u16_at(s, before);
     let mode = u16_at(s, at);
-    if last < mode {
-        return true;
-    }
-    if last != mode {
-        return false;
-    }
-    u16_at(s, before + 2) < u16_at(s, at + 2)
+    let pair = u16_at(s, at + 2);
+    mode as u32 * 65536 + pair as u32
 }
 
-fn not_rising(s: &[u8], start: usize, k: usize) -> bool
+fn not_rising(s: &[u8], start: usize, k: usize, names: u32) -> bool
     requires { ⌜ (k < 65536) × (start + 16 * k + 16 ≤ length (now s)) ⌝ }
+    requires { ⌜ NamesAt (now s) (arcAt start k) names ⌝ }
     ensures { λ r. ⌜ r ≡ notRising (now (s .entry)) start k ⌝ }
 {
     if k == 0 {
         return false;
     }
-    !rises_to(s, start + 16 * (k - 1), start + 16 * k)
+    names <= names_at(s, start + 16 * (k - 1))
 }
 
-fn is_blank(s: &[u8], at: usize) -> bool
-    requires { ⌜ at + 16 ≤ length (now s) ⌝ }
-    ensures { λ r. ⌜ r ≡ isBlank (now (s .entry)) at ⌝ }
+fn is_blank(pre: u32, post: u32, inhibitor: u32) -> bool
+    ensures { λ r. ⌜ r ≡ blank pre post inhibitor ⌝ }
 {
-    if u32_at(s, at + 4) != 0 {
+    if pre != 0 {
         return false;
     }
-    if u32_at(s, at + 8) != 0 {
+    if post != 0 {
         return false;
     }
-    u32_at(s, at + 12) == 0xffff_ffff
+    inhibitor == 0xffff_ffff
 }
 
 // 6 for the mode, 6 for the pair, 7.
 fn read_arc_names(s: &[u8], modes: usize, pairs: usize, start: usize, k: usize) -> Answer
-    requires { ⌜ (k < 65536) × (start + 16 * k + 16 ≤ length (now s)) ⌝ }
+    requires { ⌜ (k < 65536) × (start + 16 * k + 16 ≤ length (now s)) × (modes ≤ 256) ⌝ }
     ensures { λ r. ⌜ r ≡ answer (arcNamesRefusal (now (s .entry)) modes pairs start k) ⌝ }
 {
     let at = start + 16 * k;
-    if modes <= count_at(s, at) {
+    let names = names_at(s, at);
+    if modes * 65536 <= names as usize {
         return refused(Thing::Net, Fault::NotThereAt(at));
     }
-    if pairs <= count_at(s, at + 2) {
+    if pairs <= (names % 65536) as usize {
         return refused(Thing::Net, Fault::NotThereAt(at + 2));
     }
-    if not_rising(s, start, k) {
+    if not_rising(s, start, k, names) {
         return refused(Thing::Net, Fault::NotRising(at));
     }
     Answer::Accepted
@@ -79,16 +77,19 @@ fn read_arc_numbers(s: &[u8], at: usize) -> Answer
     requires { ⌜ at + 16 ≤ length (now s) ⌝ }
     ensures { λ r. ⌜ r ≡ answer (arcNumbersRefusal (now (s .entry)) at) ⌝ }
 {
-    if 1_000_000 < u32_at(s, at + 4) {
+    let pre = u32_at(s, at + 4);
+    let post = u32_at(s, at + 8);
+    let inhibitor = u32_at(s, at + 12);
+    if 1_000_000 < pre {
         return refused(Thing::Net, Fault::NumberOutside(at + 4));
     }
-    if 1_000_000 < u32_at(s, at + 8) {
+    if 1_000_000 < post {
         return refused(Thing::Net, Fault::NumberOutside(at + 8));
     }
-    if bound_outside(u32_at(s, at + 12)) {
+    if bound_outside(inhibitor) {
         return refused(Thing::Net, Fault::NumberOutside(at + 12));
     }
-    if is_blank(s, at) {
+    if is_blank(pre, post, inhibitor) {
         return refused(Thing::Net, Fault::Blank(at));
     }
     Answer::Accepted
@@ -96,7 +97,7 @@ fn read_arc_numbers(s: &[u8], at: usize) -> Answer
 
 fn read_arc(s: &[u8], modes: usize, pairs: usize, start: usize, k: usize) -> Answer
     requires { ⌜ Headed (now s) ⌝ }
-    requires { ⌜ (start < 4096) × (k < 65536) ⌝ }
+    requires { ⌜ (start < 4096) × (k < 65536) × (modes ≤ 256) ⌝ }
     ensures { λ r. ⌜ r ≡ answer (arcRefusal (now (s .entry)) modes pairs start k) ⌝ }
 {
     let at = start + 16 * k;
@@ -112,7 +113,7 @@ fn read_arc(s: &[u8], modes: usize, pairs: usize, start: usize, k: usize) -> Ans
 
 fn read_arcs(s: &[u8], modes: usize, pairs: usize, start: usize, n: usize) -> Answer
     requires { ⌜ Headed (now s) ⌝ }
-    requires { ⌜ (start < 4096) × (n < 65536) ⌝ }
+    requires { ⌜ (start < 4096) × (n < 65536) × (modes ≤ 256) ⌝ }
     ensures { λ r. ⌜ r ≡ answer (first n (arcRefusal (now (s .entry)) modes pairs start)) ⌝ }
 {
     let mut k = 0;
@@ -129,7 +130,7 @@ fn read_arcs(s: &[u8], modes: usize, pairs: usize, start: usize, n: usize) -> An
 // The arc count at `at`, the arcs, and nothing after them.
 pub(crate) fn arc_fields(s: &[u8], modes: usize, pairs: usize, at: usize) -> Answer
     requires { ⌜ Headed (now s) ⌝ }
-    requires { ⌜ at < 4000 ⌝ }
+    requires { ⌜ (at < 4000) × (modes ≤ 256) ⌝ }
     ensures { λ r. ⌜ r ≡ answer (arcFields (now (s .entry)) modes pairs at) ⌝ }
 {
     let count = read_count(s, at, 0, 2048);

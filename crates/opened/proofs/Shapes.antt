@@ -112,6 +112,15 @@ module _ {s : List ℕ} {net : NetShape} (o : Open s net) where
   unfolding arcOffset netArcAt
   arc-mode-is k h e = e ∙ sym (ap (λ a. a .mode .0) (arc-at s k (rw (← shaped .arcs) h)))
 
+  -- fewer than 256 modes and pairs: the mode and the pair of an arc are in their second bytes
+  pub arc-small : (k : ℕ) → k < net .arcs → (u16At s (arcModeAt (arcOffset s k)) < 256) × (u16At s (arcOffset s k + 2) < 256)
+  unfolding arcOffset netArcAt
+  arc-small k h =
+      let is = arc-at s k (rw (← shaped .arcs) h) in
+      let w = sizes .wellFormed .eachArc k (rw (← sizes .arcs) h) in
+      let z = sizes in
+      (omega (arith, ap (λ a. a .mode .0) is), omega (arith, ap (λ a. a .pair .0) is))
+
   pub arc-read : (k : ℕ) (a : Arc) → k < net .arcs → netArc a ≡ netArcAt s (arcOffset s k) → ArcIs s net k a
   unfolding arcOffset
   arc-read k a h e =

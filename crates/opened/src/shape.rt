@@ -1,6 +1,6 @@
 // A net sheet that has been accepted, looked into in place: where its parts stand is worked out once a call, and kept by value.
 use heads::bytes::count_at;
-use heads::bytes::u16_at;
+use heads::bytes::small_at;
 use heads::bytes::u32_at;
 use model::Arc;
 use model::Mode;
@@ -110,7 +110,7 @@ pub(crate) fn arc_mode(s: &[u8], net: NetShape, k: usize) -> usize
     requires { ⌜ k < net .arcs ⌝ }
     ensures { λ r. ⌜ r ≡ arcNo (netOf (now (s .entry)) .arcs) k .mode .0 ⌝ }
 {
-    count_at(s, arc_offset(s, net, k))
+    small_at(s, arc_offset(s, net, k)) as usize
 }
 
 pub fn arc(s: &[u8], net: NetShape, k: usize) -> Arc
@@ -119,8 +119,8 @@ pub fn arc(s: &[u8], net: NetShape, k: usize) -> Arc
     ensures { λ r. ⌜ ArcIs (now (s .entry)) net k r ⌝ }
 {
     let at = arc_offset(s, net, k);
-    let mode = Mode(u16_at(s, at));
-    let pair = Pair(u16_at(s, at + 2));
+    let mode = Mode(small_at(s, at));
+    let pair = Pair(small_at(s, at + 2));
     Arc {
         mode,
         pair,

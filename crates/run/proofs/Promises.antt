@@ -10,16 +10,16 @@ use Rattle.model.specs.declared.Mode.{Mode}
 use Rattle.model.specs.declared.Thing.the-variants.{Movements}
 use Rattle.model.specs.declared.Refusal.{Refusal}
 use Rattle.model.specs.Nets.{PNet, modeNo}
-use Rattle.model.specs.Markings.{Marking}
 use Rattle.model.specs.Firing.{modeRefusal}
 use Rattle.model.specs.Runs.{run}
-use Rattle.model.specs.Promises.{Leads, stays, moves}
+use Rattle.model.specs.Promises.{stays}
 use Rattle.model.proofs.First.{left-none, right-none, none-then}
-use Rattle.model.proofs.Markings.{marking-test, marking-kept}
+use Rattle.model.proofs.Markings.{marking-test}
 use Rattle.model.proofs.Runs.{runs, certificates}
 use Rattle.sheets.specs.Whole.{wholeNet, wholeMovements}
 use Rattle.sheets.specs.Decoded.{netOf, movementsOf}
 use Rattle.fire.proofs.Promises.{start-marks}
+use Rattle.run.proofs.Running.{leads-keep}
 use Rattle.run.specs.Calls.{beforeRun, runOf, certifyRefusal}
 use Rattle.run.specs.Promises.{RunLeaves, RunsLeave, RunsKeep, Certified}
 
@@ -56,10 +56,6 @@ runs-leave net movements marking = go (beforeRun net movements marking) refl
           before = rw e (λ r q. (q, refl, refl));
           stops = rw e (λ r q. inl q);
         }
-
-leads-keep : {net : PNet} {ts : List Mode} {m m′ : List ℕ} → Leads net ts m m′ → Marking net m → Marking net m′
-leads-keep stays h = h
-leads-keep {net} (moves {t = t} {m = m} e l) h = leads-keep l (marking-kept Movements net t m h e)
 
 pub runs-keep : RunsKeep
 runs-keep net movements marking h =

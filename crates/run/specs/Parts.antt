@@ -38,7 +38,11 @@ pub record Tables (s : List ℕ) (net : NetShape) (starts numbers : List ℕ) : 
   pub startsAre : StartsAre (netOf s .arcs) starts
   pub numbersAre : 0 < length numbers → NumbersAre (netOf s) numbers
 
--- a run with this outcome: what it tells, and what it leaves in the marking
+-- a run with this outcome: how many movements it accepts, or what it tells, and what it leaves in the marking
+pub record Accepts (o : Outcome) (k : ℕ) (left : List ℕ) : Type 0 where
+  pub accepted : k ≡ o .accepted
+  pub leaves : left ≡ o .marking
+
 pub record Reports (o : Outcome) (told : Ran) (left : List ℕ) : Type 0 where
   pub tells : told ≡ ranOf o
   pub leaves : left ≡ o .marking

@@ -2,8 +2,9 @@
 use crate::Ran;
 use crate::numbers::fire_within;
 use crate::numbers::write_numbers;
-use fire::advance::advance;
 use fire::advance::mode_answer;
+use firing::mode::find_refusal;
+use firing::mode::fire_free;
 use lists::movements::movement_count;
 use model::Answer;
 use model::Mode;
@@ -18,17 +19,19 @@ ghost use mathlib.Core.Option.{none};
 ghost use Prim.Native.Nat.{_<_};
 ghost use lib.ListN.{length};
 ghost use Rattle.model.specs.declared.Thing.the-variants.{Movements};
+ghost use Rattle.model.specs.Refusals.{answer};
 ghost use Rattle.model.specs.Markings.{Marking};
 ghost use Rattle.model.specs.Firing.{modeRefusal, fired};
 ghost use Rattle.model.specs.Runs.{run};
 ghost use Rattle.sheets.specs.Decoded.{netOf, movementsOf};
 ghost use Rattle.lists.specs.Movements.{movementsRefusal};
 ghost use Rattle.opened.specs.Shape.{Open};
+ghost use Rattle.opened.specs.Starts.{StartsAre};
 ghost use Rattle.sheets.specs.Listed.{modesFrom, ModesStand};
-ghost use Rattle.firing.specs.Leaving.{Leaves};
-ghost use Rattle.run.specs.Parts.{NumbersAre, Tables, Reports};
+ghost use Rattle.firing.specs.Leaving.{Makes};
+ghost use Rattle.run.specs.Parts.{NumbersAre, Tables, Accepts, Reports};
 
-// One movement, tested by the numbers of its mode's arcs; by all four tests where that table is empty, since only a run may hold it on the stack.
+// One movement: whether it was accepted. Tested by the numbers of its mode's arcs; by all four tests where that table is empty, since only a run may hold it on the stack.
 fn step(
     s: &[u8],
     net: NetShape,
@@ -36,20 +39,67 @@ fn step(
     numbers: &[u32],
     mode: Mode,
     marking: &mut [u32],
-) -> Answer
+) -> bool
     requires { ⌜ Tables (now s) net (now starts) (now numbers) ⌝ }
     requires { ⌜ Marking (netOf (now s)) (now marking) ⌝ }
-    ensures { λ r. ⌜ Leaves (modeRefusal Movements (netOf (now (s .entry))) mode (now (marking .entry))) (fired (netOf (now (s .entry))) mode (now (marking .entry))) (now (marking .entry)) r (now (marking .exit)) ⌝ }
+    ensures { λ r. ⌜ Makes (modeRefusal Movements (netOf (now (s .entry))) mode (now (marking .entry))) (fired (netOf (now (s .entry))) mode (now (marking .entry))) (now (marking .entry)) r (now (marking .exit)) ⌝ }
 {
-    if numbers.len() == 0 {
-        return advance(s, net, starts, Thing::Movements, mode, marking);
+    if net.modes <= mode.0 as usize {
+        return false;
     }
+    let arcs = arcs_of(s, net, starts, mode);
+    if numbers.len() == 0 {
+        return fire_free(s, net, arcs, marking);
+    }
+    fire_within(s, net, numbers, arcs, marking)
+}
+
+// How many movements are accepted, up to the first that is refused: which refusal it is, is looked for once, after the loop.
+fn count_accepted(
+    s: &[u8],
+    net: NetShape,
+    starts: &[u16; 257],
+    numbers: &[u32],
+    movements: &[u8],
+    start: usize,
+    count: usize,
+    marking: &mut [u32],
+) -> usize
+    requires { ⌜ Tables (now s) net (now starts) (now numbers) ⌝ }
+    requires { ⌜ ModesStand (now movements) start count ⌝ }
+    requires { ⌜ Marking (netOf (now s)) (now marking) ⌝ }
+    ensures { λ r. ⌜ Accepts (run (netOf (now (s .entry))) (modesFrom (now (movements .entry)) start count) (now (marking .entry))) r (now (marking .exit)) ⌝ }
+{
+    let mut k = 0;
+    while k < count {
+        if !step(
+            s,
+            net,
+            starts,
+            numbers,
+            mode_at(movements, start, k),
+            marking,
+        ) {
+            return k;
+        }
+        k += 1;
+    }
+    k
+}
+
+// Why a movement is refused.
+fn refusal_of(s: &[u8], net: NetShape, starts: &[u16; 257], mode: Mode, marking: &[u32]) -> Answer
+    requires { ⌜ Open (now s) net ⌝ }
+    requires { ⌜ StartsAre (netOf (now s) .arcs) (now starts) ⌝ }
+    requires { ⌜ Marking (netOf (now s)) (now marking) ⌝ }
+    ensures { λ r. ⌜ r ≡ answer (modeRefusal Movements (netOf (now (s .entry))) mode (now (marking .entry))) ⌝ }
+{
     let there = mode_answer(net, Thing::Movements, mode);
     if let Answer::Refused(_) = there {
         return there;
     }
     let arcs = arcs_of(s, net, starts, mode);
-    fire_within(s, net, numbers, arcs, marking)
+    find_refusal(s, net, arcs, Thing::Movements, marking)
 }
 
 // The inner part of a run: `count` mode numbers that stand in a run of bytes from `start` on.
@@ -68,23 +118,13 @@ pub fn run_modes(
     requires { ⌜ Marking (netOf (now s)) (now marking) ⌝ }
     ensures { λ r. ⌜ Reports (run (netOf (now (s .entry))) (modesFrom (now (movements .entry)) start count) (now (marking .entry))) r (now (marking .exit)) ⌝ }
 {
-    let mut k = 0;
-    while k < count {
-        let answer = step(
-            s,
-            net,
-            starts,
-            numbers,
-            mode_at(movements, start, k),
-            marking,
-        );
-        if let Answer::Refused(_) = answer {
-            return Ran {
-                accepted: k,
-                answer,
-            };
-        }
-        k += 1;
+    let k = count_accepted(s, net, starts, numbers, movements, start, count, marking);
+    if k < count {
+        let answer = refusal_of(s, net, starts, mode_at(movements, start, k), marking);
+        return Ran {
+            accepted: k,
+            answer,
+        };
     }
     Ran {
         accepted: k,

@@ -1,11 +1,8 @@
 // One number for each arc of a net, made once for a run: a count passes all four tests when it is at least Pre and below that number.
 use fields::numbers::least;
 use firing::arcs::meet;
-use firing::mode::find_refusal;
 use firing::mode::write_arcs;
-use model::Answer;
 use model::Arc;
-use model::Thing;
 use opened::shape::NetShape;
 use opened::shape::arc;
 use opened::shape::capacity;
@@ -15,16 +12,13 @@ ghost use mathlib.Core.Bool.{true};
 ghost use mathlib.Core.Logic.{_↔_};
 ghost use Prim.Native.Nat.{_<_, _≤_};
 ghost use lib.ListN.{length};
-ghost use Rattle.model.specs.declared.Thing.the-variants.{Movements};
 ghost use Rattle.model.specs.Numbers.{limit};
 ghost use Rattle.model.specs.Markings.{Marking};
-ghost use Rattle.model.specs.Firing.{fired};
 ghost use Rattle.model.specs.PassBelow.{passBelow};
 ghost use Rattle.fields.specs.Numbers.{bound};
 ghost use Rattle.sheets.specs.Decoded.{netOf, netArc};
 ghost use Rattle.opened.specs.Shape.{Open};
-ghost use Rattle.firing.specs.AtMode.{Free, AtMode, OfMode, refusalOf, Decides};
-ghost use Rattle.firing.specs.Leaving.{Leaves};
+ghost use Rattle.firing.specs.AtMode.{Free, AtMode, OfMode, Decides, Fires};
 ghost use Rattle.run.specs.Parts.{numberOf, NumbersAre};
 
 // The counts below this number, from Pre on, are those that pass all four tests.
@@ -95,21 +89,21 @@ fn arcs_within(s: &[u8], net: NetShape, numbers: &[u32], arcs: Segment, marking:
     true
 }
 
-// Tested by the numbers first, then written; only a refused movement is looked through again.
+// Tested by the numbers first, then written: whether the mode has fired.
 pub(crate) fn fire_within(
     s: &[u8],
     net: NetShape,
     numbers: &[u32],
     arcs: Segment,
     marking: &mut [u32],
-) -> Answer
+) -> bool
     requires { ⌜ NumbersAre (netOf (now s)) (now numbers) ⌝ }
     requires { ⌜ AtMode (now s) net arcs (now marking) ⌝ }
-    ensures { λ r. ⌜ OfMode (now (s .entry)) arcs (λ t. Leaves (refusalOf Movements (netOf (now (s .entry))) (now (marking .entry)) t) (fired (netOf (now (s .entry))) t (now (marking .entry))) (now (marking .entry)) r (now (marking .exit))) ⌝ }
+    ensures { λ r. ⌜ OfMode (now (s .entry)) arcs (λ t. Fires r (netOf (now (s .entry))) (now (marking .entry)) t (now (marking .exit))) ⌝ }
 {
     if !arcs_within(s, net, numbers, arcs, marking) {
-        return find_refusal(s, net, arcs, Thing::Movements, marking);
+        return false;
     }
     write_arcs(s, net, arcs, marking);
-    Answer::Accepted
+    true
 }

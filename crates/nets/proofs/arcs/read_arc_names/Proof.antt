@@ -1,4 +1,4 @@
--- The three tests as the definition has them.
+-- The three tests as the definition has them, mode and pair read once.
 use borrow.Author.Needs.{needs}
 use borrow.Author.Tests.{le-leb, lt-leb}
 use Prim.Native.Nat.{_+_}
@@ -20,7 +20,7 @@ returns c =
 returns-2 : tie.Need-returns-2
 unfolding arcNamesRefusal
 returns-2 c =
-    let a = c .before .before .before .before .before .before .args in
+    let a = c .before .before .before .before .before .args in
     let at = arcAt (a .start) (a .k) in
     answer-passes _ _ (lt-leb (a .modes) (u16At (a .s .now) at) (omega arith))
     (answer-fails _ (le-leb (a .pairs) (u16At (a .s .now) (at + 2)) (omega arith)) (c .refused2 .ensures))
@@ -28,7 +28,7 @@ returns-2 c =
 returns-3 : tie.Need-returns-3
 unfolding arcNamesRefusal
 returns-3 c =
-    let a = c .before .before .before .before .before .before .before .before .args in
+    let a = c .before .before .before .before .before .before .before .args in
     let at = arcAt (a .start) (a .k) in
     answer-passes _ _ (lt-leb (a .modes) (u16At (a .s .now) at) (omega arith))
     (answer-passes _ _ (lt-leb (a .pairs) (u16At (a .s .now) (at + 2)) (omega arith))
@@ -37,7 +37,7 @@ returns-3 c =
 returns-4 : tie.Need-returns-4
 unfolding arcNamesRefusal
 returns-4 c =
-    let a = c .before .before .before .before .before .before .before .args in
+    let a = c .before .before .before .before .before .before .args in
     let at = arcAt (a .start) (a .k) in
     answer-passes _ _ (lt-leb (a .modes) (u16At (a .s .now) at) (omega arith))
     (answer-passes _ _ (lt-leb (a .pairs) (u16At (a .s .now) (at + 2)) (omega arith))
@@ -50,10 +50,11 @@ read-arc-names-spec =
     (λ c. search needs)
     (λ c. search needs)
     (λ c κs. search needs)
+    (λ c. search needs)
+    (λ c. search needs)
     (λ c κs. search needs)
     returns
     (λ c. search needs)
-    (λ c κs. search needs)
     (λ c. search needs)
     (λ c κs. search needs)
     returns-2

@@ -1,7 +1,7 @@
 -- The five fields that stand at the arc's offset.
 use borrow.Author.Needs.{needs}
 use Rattle.sheets.specs.Decoded.{netArcAt}
-use Rattle.opened.proofs.Shapes.{arc-read}
+use Rattle.opened.proofs.Shapes.{arc-read, arc-small}
 use Rattle.opened.proofs.shape.arc.Statement.{statement}
 use Rattle.opened.proofs.shape.arc.Tie as tie
 
@@ -16,9 +16,9 @@ arc-spec =
     tie.close
     (tie.spec
     (λ c κs. search needs)
-    (λ c κs. search needs)
+    (λ c κs. let pre = c .before .before .pre in let small = arc-small (pre .0) _ (pre .1) in let e = c .arc-offset .ensures .0 in search (needs, small, e))
     (λ c. search needs)
-    (λ c κs. search needs)
+    (λ c κs. let pre = c .before .before .before .pre in let small = arc-small (pre .0) _ (pre .1) in let e = c .before .arc-offset .ensures .0 in search (needs, small, e))
     (λ c. search needs)
     (λ c κs. search needs)
     (λ c. search needs)

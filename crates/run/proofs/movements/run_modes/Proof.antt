@@ -1,61 +1,31 @@
--- k movements have been accepted, and what is left from here is the whole run.
+-- The movement after those accepted is refused by the marking that they left; or there is none.
 use borrow.Author.Needs.{needs}
-use Prim.Native.Nat.{_≤_, _-_}
-use mathlib.Core.Path.{sym, _∙_}
-use Rattle.sheets.specs.Decoded.{netOf}
-use Rattle.run.proofs.Running.{Along, along-none, along-more, along-stops, along-ends}
+use Rattle.run.proofs.Running.{marking-left, reports-refused, reports-whole}
 use Rattle.run.proofs.movements.run_modes.Statement.{statement}
 use Rattle.run.proofs.movements.run_modes.Tie as tie
 
-abbrev Inv-loop : tie.InvT-loop
-Inv-loop s net starts numbers movements start count marking₀ k₀ marking k =
-    (k ≤ count) × Along (netOf s) movements start count marking₀ k marking
+refusal-of-requires : tie.Need-refusal-of-requires
+refusal-of-requires c κs =
+    let run = c .before .before .before .before .before in
+    let pre = run .before .before .before .before .before .before .pre in
+    (pre .0 .opened, (pre .0 .startsAre, marking-left _ _ _ _ _ (run .count-accepted .ensures) (pre .1 .1)))
 
-abbrev μ-loop : tie.MeasureT-loop
-μ-loop s net starts numbers movements start count marking₀ k₀ marking k = count - k
-
-loop-holds : tie.Need-loop-holds Inv-loop μ-loop
-loop-holds c = (search needs, along-none (c .before .before .before .before .pre .1 .1))
-
-returns : tie.Need-returns Inv-loop μ-loop
+returns : tie.Need-returns
 returns c =
-    let done = c .before .before .before .before in
-    let read = done .before .before in
-    along-stops (read .before .before .loop .inv .1) (read .before .loop-test .taken) (read .mode-at .ensures) (done .step .ensures) (c .enum-told .given .1)
+    let read = c .before .before in
+    reports-refused _ _ _ _ _ (read .before .before .before .before .count-accepted .ensures) (read .before .if1 .taken) (read .mode-at .ensures) (c .refusal-of .ensures)
 
-loop-again : tie.Need-loop-again Inv-loop μ-loop
-loop-again c =
-    let done = c .before .before .before .before in
-    let read = done .before .before in
-    (search needs, along-more (read .before .before .loop .inv .1) (read .before .loop-test .taken) (read .mode-at .ensures) (done .step .ensures) (c .enum-told2 .given .1))
-
-same-length : tie.Need-same-length Inv-loop μ-loop
-same-length c =
-    let done = c .before .before .before .before in
-    let l = done .before .before .before .before in
-    done .step .kept .1 .1 .1 .1 .1 .0 ∙ l .loop .inv .1 .marking .oneEach ∙ sym (l .before .before .before .before .before .pre .1 .1 .oneEach)
-
-same-length-2 : tie.Need-same-length-2 Inv-loop μ-loop
-same-length-2 c = c .before .loop .inv .1 .marking .oneEach ∙ sym (c .before .before .before .before .before .before .pre .1 .1 .oneEach)
-
-returns-2 : tie.Need-returns-2 Inv-loop μ-loop
-returns-2 c = along-ends (c .before .loop .inv .1) (c .loop-test .left)
+returns-2 : tie.Need-returns-2
+returns-2 c = reports-whole _ _ _ _ _ (c .before .before .before .count-accepted .ensures) (c .if1 .left)
 
 pub run-modes-spec : {M : Type 1} → statement M
 run-modes-spec =
     tie.close
     (tie.spec
-    Inv-loop
-    μ-loop
-    loop-holds
     (λ c κs. search needs)
     (λ c κs. search needs)
+    refusal-of-requires
     (λ c. search needs)
-    same-length
     returns
     (λ c. search needs)
-    (λ c. search needs)
-    (λ c. search needs)
-    loop-again
-    same-length-2
     returns-2)

@@ -1,25 +1,22 @@
--- Refused, and nothing is written; or each count below its number, and the mode has fired.
+-- A count not below its number, and nothing is written; or each is, and the mode has fired.
 use borrow.Author.Needs.{needs}
 use borrow.Author.Tests.{not-true, not-false}
-use Rattle.firing.proofs.ByMode.{decides-not, decides-so}
+use Rattle.firing.proofs.ByMode.{fires-not, fires-so}
 use Rattle.run.proofs.numbers.fire_within.Statement.{statement}
 use Rattle.run.proofs.numbers.fire_within.Tie as tie
 
 returns : tie.Need-returns
-returns c = λ t own.
-    let test = c .before .before in
-    decides-not (test .before .arcs-within .ensures t own) _ (not-true _ (test .if1 .taken)) (c .find-refusal .ensures t own)
+returns c = λ t own. fires-not (c .before .arcs-within .ensures t own) (not-true _ (c .if1 .taken))
 
 returns-2 : tie.Need-returns-2
 returns-2 c = λ t own.
     let test = c .before .before .before .before in
-    decides-so (test .before .arcs-within .ensures t own) _ (not-false _ (test .if1 .left)) (c .before .before .write-arcs .ensures t own)
+    fires-so (test .before .arcs-within .ensures t own) (not-false _ (test .if1 .left)) (c .before .before .write-arcs .ensures t own)
 
 pub fire-within-spec : {M : Type 1} → statement M
 fire-within-spec =
     tie.close
     (tie.spec
-    (λ c κs. search needs)
     (λ c κs. search needs)
     (λ c. search needs)
     returns

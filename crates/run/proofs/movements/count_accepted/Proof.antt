@@ -1,0 +1,60 @@
+-- k movements have been accepted, and what is left from here is the whole run.
+use borrow.Author.Needs.{needs}
+use borrow.Author.Tests.{not-true, not-false}
+use Prim.Native.Nat.{_≤_, _-_}
+use mathlib.Core.Path.{sym, _∙_}
+use Rattle.sheets.specs.Decoded.{netOf}
+use Rattle.run.proofs.Running.{Along, along-none, along-more, along-stops, along-ends}
+use Rattle.run.proofs.movements.count_accepted.Statement.{statement}
+use Rattle.run.proofs.movements.count_accepted.Tie as tie
+
+abbrev Inv-loop : tie.InvT-loop
+Inv-loop s net starts numbers movements start count marking₀ k₀ marking k =
+    (k ≤ count) × Along (netOf s) movements start count marking₀ k marking
+
+abbrev μ-loop : tie.MeasureT-loop
+μ-loop s net starts numbers movements start count marking₀ k₀ marking k = count - k
+
+loop-holds : tie.Need-loop-holds Inv-loop μ-loop
+loop-holds c = (search needs, along-none (c .before .before .before .before .pre .1 .1))
+
+same-length : tie.Need-same-length Inv-loop μ-loop
+same-length c =
+    let done = c .before .before .before in
+    let l = done .before .before .before .before in
+    done .step .kept .1 .1 .1 .1 .1 .0 ∙ l .loop .inv .1 .marking .oneEach ∙ sym (l .before .before .before .before .before .pre .1 .1 .oneEach)
+
+returns : tie.Need-returns Inv-loop μ-loop
+returns c =
+    let done = c .before .before .before in
+    let read = done .before .before in
+    along-stops (read .before .before .loop .inv .1) (read .before .loop-test .taken) (read .mode-at .ensures) (done .step .ensures) (not-true _ (c .if1 .taken))
+
+loop-again : tie.Need-loop-again Inv-loop μ-loop
+loop-again c =
+    let done = c .before .before .before in
+    let read = done .before .before in
+    (search needs, along-more (read .before .before .loop .inv .1) (read .before .loop-test .taken) (read .mode-at .ensures) (done .step .ensures) (not-false _ (c .if1 .left)))
+
+same-length-2 : tie.Need-same-length-2 Inv-loop μ-loop
+same-length-2 c = c .before .loop .inv .1 .marking .oneEach ∙ sym (c .before .before .before .before .before .before .pre .1 .1 .oneEach)
+
+returns-2 : tie.Need-returns-2 Inv-loop μ-loop
+returns-2 c = along-ends (c .before .loop .inv .1) (c .loop-test .left)
+
+pub count-accepted-spec : {M : Type 1} → statement M
+count-accepted-spec =
+    tie.close
+    (tie.spec
+    Inv-loop
+    μ-loop
+    loop-holds
+    (λ c κs. search needs)
+    (λ c κs. search needs)
+    same-length
+    returns
+    (λ c. search needs)
+    (λ c. search needs)
+    loop-again
+    same-length-2
+    returns-2)
