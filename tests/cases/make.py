@@ -8,9 +8,9 @@ A list has, each with its lines below it, indented; `#` starts a comment, which 
 
     net NAME            places (colours of each), transitions (modes of each), `pair 0: K 5, first 3`, `mode 0, pair 0: Pre 1, Post 0, I 4`
     weights, movements, marking NAME: numbers
-    case NAME           `call fire, net P1, marking 3 1, mode 0`; then what it answers: `accepted` or `refused by 13, thing 3, at 0`, then what the call yields, `value 91`, `yes`, `no` or
-                        `mode 1 pair 1`; `leaves 2 1`, the marking after (else it is as before); `writes NAME`, the sheet, or `prints` a text, `/` for a
-                        line's end (else nothing is written). Numbers that are not said are 0.
+    case NAME           `call fire, net P1, marking 3 1, mode 0`; what it answers, `accepted` or `refused by 13, thing 3, at 0` (a number that is not said is 0),
+                        with what it yields, `value 91`, `yes`, `no` or `mode 1 pair 1`; `leaves 2 1`, the marking after (else it is as before);
+                        `writes NAME`, the sheet in the bytes lent, of which it has `room` (else nothing is written)
     both NET, COMPLEMENT   a row is a marking, `|` and the counts of its complement pairs, a mode, and `to` the marking after, or the refusals: `13 at 0 | 11 at 2`.
                         Each is tested and fired, in the net and in its complement: four cases.
 
@@ -38,7 +38,6 @@ CALLS = {
     "read_movements": (18, "movements", ""),
     "run": (19, "net", "movements"),
     "complement": (20, "net", ""),
-    "statement": (21, "input", ""),
     "figure": (32, "net", "weights"),
     "change": (33, "net", "weights"),
     "is_dead": (48, "net", ""),
@@ -120,7 +119,7 @@ def answer_of(call, line):
             told += [1, int(rest[0]), int(rest[2])]
         else:
             told += [word == "yes"]
-    return [*told, *[0] * (16 - len(told))]
+    return [*told, *[0] * (8 - len(told))]
 
 
 def parse_case(name, lines):
@@ -130,11 +129,9 @@ def parse_case(name, lines):
         word, _, what = line.partition(" ")
         if word == "leaves":
             after = counts(what)
-        elif word == "writes":
-            written = sheets[what]
         else:
-            assert word == "prints", line
-            written = "".join(text.strip() + "\n" for text in what.split("/")).encode()
+            assert word == "writes", line
+            written = sheets[what]
     add(name, call, dict(part.split(" ", 1) for part in rest), answer_of(call, lines[1]), after, written)
 
 

@@ -19,13 +19,11 @@ use abi::moving::pnet_test;
 use abi::reading::pnet_read_movements;
 use abi::reading::pnet_read_net;
 use abi::reading::pnet_read_weights;
-use abi::stating::pnet_statement;
 use abi::weighing::pnet_change;
 use abi::weighing::pnet_figure;
 use answers::Answered;
 use answers::Counted;
 use answers::Weighed;
-use answers::accepted;
 use model::Mode;
 
 fn answer(call: u32, mode: Mode, first: &[u8], second: &[u8], marking: &mut [u32]) -> Answered {
@@ -33,8 +31,7 @@ fn answer(call: u32, mode: Mode, first: &[u8], second: &[u8], marking: &mut [u32
         0 => pnet_begin(first, marking),
         1 => pnet_test(first, marking, mode),
         2 => pnet_fire(first, marking, mode),
-        3 => pnet_certify(first, second, marking),
-        _ => accepted(),
+        _ => pnet_certify(first, second, marking),
     }
 }
 
@@ -51,8 +48,7 @@ fn count(
         17 => pnet_read_weights(first, pairs),
         18 => pnet_read_movements(first),
         19 => pnet_run(first, second, marking),
-        20 => pnet_complement(first, out),
-        _ => pnet_statement(first, out),
+        _ => pnet_complement(first, out),
     }
 }
 
@@ -63,7 +59,7 @@ fn weigh(call: u32, mode: Mode, first: &[u8], second: &[u8], marking: &[u32]) ->
     }
 }
 
-fn look(call: u32, mode: Mode, first: &[u8], second: &[u8], told: &mut [u32; 16]) {
+fn look(call: u32, mode: Mode, first: &[u8], second: &[u8], told: &mut [u32; 8]) {
     match call {
         48 => put_decided(told, pnet_is_dead(first, mode)),
         49 => put_named(told, pnet_first_dead(first)),
@@ -78,7 +74,7 @@ fn tell(
     second: &[u8],
     marking: &mut [u32],
     out: &mut [u8],
-    told: &mut [u32; 16],
+    told: &mut [u32; 8],
 ) {
     let mode = Mode((number % 65536) as u16);
     match call / 16 {
@@ -92,7 +88,7 @@ fn tell(
     }
 }
 
-pub(crate) fn call(body: &[u8], marking: &mut [u32], out: &mut [u8], told: &mut [u32; 16]) {
+pub(crate) fn call(body: &[u8], marking: &mut [u32], out: &mut [u8], told: &mut [u32; 8]) {
     let numbers = part(body, 0);
     let first = part(body, 2);
     let second = part(body, 3);

@@ -13,6 +13,11 @@ pub(crate) fn say(words: &[u8]) {
     io::write_all(STDOUT_FILENO, words);
 }
 
+pub(crate) fn say_number(words: &[u8], number: u64) {
+    say(words);
+    io::print_decimal(STDOUT_FILENO, number);
+}
+
 fn agree(counts: &[u32], s: &[u8]) -> bool {
     let mut i = 0;
     while i < counts.len() {
@@ -25,8 +30,7 @@ fn agree(counts: &[u32], s: &[u8]) -> bool {
 }
 
 fn say_count(count: u32) {
-    say(b" ");
-    io::print_decimal(STDOUT_FILENO, count as u64);
+    say_number(b" ", count as u64);
 }
 
 fn say_counts(words: &[u8], counts: &[u32]) {
@@ -58,17 +62,19 @@ fn other_byte(out: &[u8], s: &[u8]) -> usize {
     i
 }
 
-pub(crate) fn compare(body: &[u8], told: &[u32; 16], marking: &[u32], out: &[u8]) -> usize {
-    say(part(body, 1));
+fn say_found(told: &[u32; 8], marking: &[u32], at: usize) -> usize {
+    say_counts(b": found", told);
+    say_counts(b", left", marking);
+    say_number(b", wrote as expected to byte ", at as u64);
+    say(b"\n");
+    OTHER
+}
+
+pub(crate) fn compare(body: &[u8], told: &[u32; 8], marking: &[u32], out: &[u8]) -> usize {
     let at = other_byte(out, part(body, 7));
     if at == out.len() && agree(told, part(body, 5)) && agree(marking, part(body, 6)) {
         say(b": ok\n");
         return SAME;
     }
-    say_counts(b": found", told);
-    say_counts(b", left", marking);
-    say(b", as expected to byte ");
-    io::print_decimal(STDOUT_FILENO, at as u64);
-    say(b"\n");
-    OTHER
+    say_found(told, marking, at)
 }

@@ -11,21 +11,22 @@ use crate::compared::DAMAGED;
 use crate::compared::SAME;
 use crate::compared::compare;
 use crate::compared::say;
+use crate::compared::say_number;
 use crate::parts::count_in;
 use crate::parts::is_whole;
 use crate::parts::load;
 use crate::parts::part;
 use libc::STDIN_FILENO;
-use libc::STDOUT_FILENO;
 ghost use Prim.Native.Nat.{_≤_};
 
 const ENDED: usize = 3;
 
 // The call is made on what is lent, and then all of it is compared.
 fn run_case(body: &[u8], marking: &mut [u32], out: &mut [u8]) -> usize {
-    let mut told = [0u32; 16];
+    let mut told = [0u32; 8];
     load(marking, part(body, 4));
     call(body, marking, out, &mut told);
+    say(part(body, 1));
     compare(body, &told, marking, out)
 }
 
@@ -47,8 +48,8 @@ fn try_case(body: &[u8]) -> usize {
     if !is_whole(body) {
         return DAMAGED;
     }
-    let mut marking = [0u32; 512];
-    let mut out = [0xeeu8; 262_144];
+    let mut marking = [0u32; 320];
+    let mut out = [0xeeu8; 36_864];
     lend(body, &mut marking, &mut out)
 }
 
@@ -75,7 +76,7 @@ fn read_case() -> usize {
     if read < 4 {
         return DAMAGED;
     }
-    let mut body = [0u8; 131_072];
+    let mut body = [0u8; 65_536];
     read_body(&mut body, size_in(&head))
 }
 
@@ -93,9 +94,8 @@ fn differs(found: usize) -> u64
 }
 
 fn say_end(cases: u64, differ: u64) {
-    io::print_decimal(STDOUT_FILENO, cases);
-    say(b" cases, ");
-    io::print_decimal(STDOUT_FILENO, differ);
+    say_number(b"", cases);
+    say_number(b" cases, ", differ);
     say(b" differ\n");
 }
 

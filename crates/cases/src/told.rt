@@ -6,18 +6,18 @@ use answers::Decided;
 use answers::Named;
 use answers::Weighed;
 
-pub(crate) fn put_answer(told: &mut [u32; 16], answer: Answered) {
+pub(crate) fn put_answer(told: &mut [u32; 8], answer: Answered) {
     told[0] = (answer.number % 4_294_967_296) as u32;
     told[1] = (answer.thing % 4_294_967_296) as u32;
     told[2] = (answer.position % 4_294_967_296) as u32;
 }
 
-fn put_size(told: &mut [u32; 16], size: u64) {
+fn put_size(told: &mut [u32; 8], size: u64) {
     told[4] = (size / 4_294_967_296) as u32;
     told[5] = (size % 4_294_967_296) as u32;
 }
 
-pub(crate) fn put_count(told: &mut [u32; 16], counted: Counted) {
+pub(crate) fn put_count(told: &mut [u32; 8], counted: Counted) {
     let answer = counted.answer;
     put_answer(told, answer);
     put_size(told, counted.value);
@@ -32,7 +32,7 @@ fn size(value: i64) -> u64 {
     }
 }
 
-pub(crate) fn put_kilograms(told: &mut [u32; 16], weighed: Weighed) {
+pub(crate) fn put_kilograms(told: &mut [u32; 8], weighed: Weighed) {
     let answer = weighed.answer;
     let value = weighed.value;
     put_answer(told, answer);
@@ -40,14 +40,14 @@ pub(crate) fn put_kilograms(told: &mut [u32; 16], weighed: Weighed) {
     put_size(told, size(value));
 }
 
-pub(crate) fn put_decided(told: &mut [u32; 16], decided: Decided) {
+pub(crate) fn put_decided(told: &mut [u32; 8], decided: Decided) {
     let answer = decided.answer;
     put_answer(told, answer);
     told[3] = decided.value as u32;
 }
 
 // Found or not, mode, pair.
-pub(crate) fn put_named(told: &mut [u32; 16], named: Named) {
+pub(crate) fn put_named(told: &mut [u32; 8], named: Named) {
     let answer = named.answer;
     let mode = named.mode;
     let pair = named.pair;
