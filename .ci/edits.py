@@ -1,8 +1,8 @@
 #!/usr/bin/env python3
 """Holds every must-fail edit to the log of its refusal: it is refused because the fact that its first line quotes fails.
 
-1. The first line is `# fails: ` with the fact between double quotes. Each piece so quoted stands word for word, white space folded, at the first error of the
-   edit's log: in the error, the lines indented under it and its notes, up to the next error. An error that only waits for what was not admitted elsewhere is
+1. The first line is `# fails: ` with the fact between double quotes. Each piece so quoted stands word for word, white space folded, after the one before it at the
+   first error of the edit's log: in the error, the lines indented under it and its notes, up to the next error. An error that only waits for what was not admitted elsewhere is
    passed over; of a function without a proof file the error is what the search left open.
 2. That error does not say that a name or a library cannot be found: such an edit did not reach what it tries.
 
@@ -39,7 +39,11 @@ def faults_of(first_line, log):
     if not error:
         return ['its log has no error']
     faults = [] if pieces else ['its first line quotes nothing']
-    faults += [f'its first line quotes {piece}, which does not stand at the first error of its log' for piece in pieces if folded(piece) not in error]
+    at = 0
+    for piece in map(folded, pieces):
+        if piece not in error[at:]:
+            faults.append(f'its first line quotes {piece}, which does not stand at the first error of its log, or not after the piece before it')
+        at = max(at, error.find(piece, at) + len(piece))
     return faults + ([f'refused for a name that is not there: {error[:300]}'] if LOST.search(error) else [])
 
 
@@ -61,7 +65,7 @@ fn a::next: no proof
     samples = [
         ('# fails: "the goal fails, at `m` = 1, `k` = 0": the sum', log, 0), ('# fails: "`rw` rewrote the goal" of "`kept`"', log, 0),
         ('# fails: "at `n` = 2"', log, 1), ('# fails: "at `m` = 1" and "at `n` = 2"', log, 1), ('# fails: "kept: not proved"', log, 1),
-        ('# fails: the sum is kept', log, 1), ('"at `m` = 1"', log, 1), ('# fails: "holds when it returns (`returns`)", "no proof of `r ≡ 1` was found"', searched, 0),
+        ('# fails: "`k` = 0" at "`m` = 1"', log, 1), ('# fails: the sum is kept', log, 1), ('"at `m` = 1"', log, 1), ('# fails: "holds when it returns (`returns`)", "no proof of `r ≡ 1` was found"', searched, 0),
         ('# fails: "`next` was not admitted"', searched, 1), ('# fails: "a::next"', searched, 1), ('# fails: "`keep`"', lost, 1), ('# fails: "`keep`"', 'logic=proved\n', 1),
     ]
     wrong = [(line, found) for line, text, faults in samples for found in [faults_of(line, text)] if len(found) != faults]
