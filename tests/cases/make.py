@@ -97,7 +97,7 @@ def add(name, call, arguments, told, after, written):
     if call == "adds_up":
         runs, lent, left = [pack(capacities[arguments["net"]]), pack(lent)], [], []
     argument = int(arguments.get("mode", arguments.get("pairs", 0)))
-    parts = [pack([code, argument, room]), name.encode(), *runs, pack(lent), pack(told), pack(left), written]
+    parts = [pack([code, argument, room]), name.encode(), *runs, pack(lent), pack([*told, len(lent), room]), pack(left), written]
     body = b"".join(pack([len(part)]) + part for part in parts)
     cases.append((name, pack([len(body)]) + body))
 
@@ -119,7 +119,7 @@ def answer_of(call, line):
             told += [1, int(rest[0]), int(rest[2])]
         else:
             told += [word == "yes"]
-    return [*told, *[0] * (8 - len(told))]
+    return [*told, *[0] * (6 - len(told))]
 
 
 def parse_case(name, lines):

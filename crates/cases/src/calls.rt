@@ -3,11 +3,12 @@
 use crate::parts::count_in;
 use crate::parts::part;
 use crate::sums::add_up;
-use crate::told::put_answer;
-use crate::told::put_count;
-use crate::told::put_decided;
-use crate::told::put_kilograms;
-use crate::told::put_named;
+use crate::told::Told;
+use crate::told::told_alone;
+use crate::told::told_count;
+use crate::told::told_decision;
+use crate::told::told_kilograms;
+use crate::told::told_name;
 use abi::complementing::pnet_complement;
 use abi::dying::pnet_first_dead;
 use abi::dying::pnet_is_dead;
@@ -59,11 +60,11 @@ fn weigh(call: u32, mode: Mode, first: &[u8], second: &[u8], marking: &[u32]) ->
     }
 }
 
-fn look(call: u32, mode: Mode, first: &[u8], second: &[u8], told: &mut [u32; 8]) {
+fn look(call: u32, mode: Mode, first: &[u8], second: &[u8]) -> Told {
     match call {
-        48 => put_decided(told, pnet_is_dead(first, mode)),
-        49 => put_named(told, pnet_first_dead(first)),
-        _ => add_up(first, second, told),
+        48 => told_decision(pnet_is_dead(first, mode)),
+        49 => told_name(pnet_first_dead(first)),
+        _ => add_up(first, second),
     }
 }
 
@@ -74,21 +75,17 @@ fn tell(
     second: &[u8],
     marking: &mut [u32],
     out: &mut [u8],
-    told: &mut [u32; 8],
-) {
+) -> Told {
     let mode = Mode((number % 65536) as u16);
     match call / 16 {
-        0 => put_answer(told, answer(call, mode, first, second, marking)),
-        1 => put_count(
-            told,
-            count(call, number as usize, first, second, marking, out),
-        ),
-        2 => put_kilograms(told, weigh(call, mode, first, second, marking)),
-        _ => look(call, mode, first, second, told),
+        0 => told_alone(answer(call, mode, first, second, marking)),
+        1 => told_count(count(call, number as usize, first, second, marking, out)),
+        2 => told_kilograms(weigh(call, mode, first, second, marking)),
+        _ => look(call, mode, first, second),
     }
 }
 
-pub(crate) fn call(body: &[u8], marking: &mut [u32], out: &mut [u8], told: &mut [u32; 8]) {
+pub(crate) fn call(body: &[u8], marking: &mut [u32], out: &mut [u8]) -> Told {
     let numbers = part(body, 0);
     let first = part(body, 2);
     let second = part(body, 3);
@@ -99,6 +96,5 @@ pub(crate) fn call(body: &[u8], marking: &mut [u32], out: &mut [u8], told: &mut 
         second,
         marking,
         out,
-        told,
-    );
+    )
 }

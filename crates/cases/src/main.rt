@@ -9,13 +9,16 @@ mod told;
 use crate::calls::call;
 use crate::compared::DAMAGED;
 use crate::compared::SAME;
-use crate::compared::compare;
+use crate::compared::other_byte;
+use crate::compared::other_count;
+use crate::compared::report;
 use crate::compared::say;
 use crate::compared::say_number;
 use crate::parts::count_in;
 use crate::parts::is_whole;
 use crate::parts::load;
 use crate::parts::part;
+use crate::told::numbers;
 use libc::STDIN_FILENO;
 ghost use Prim.Native.Nat.{_≤_};
 
@@ -23,11 +26,11 @@ const ENDED: usize = 3;
 
 // The call is made on what is lent, and then all of it is compared.
 fn run_case(body: &[u8], marking: &mut [u32], out: &mut [u8]) -> usize {
-    let mut told = [0u32; 8];
     load(marking, part(body, 4));
-    call(body, marking, out, &mut told);
-    say(part(body, 1));
-    compare(body, &told, marking, out)
+    let told = call(body, marking, out);
+    let pair = other_count(marking, part(body, 6));
+    let byte = other_byte(out, part(body, 7));
+    report(body, &numbers(told, pair, byte))
 }
 
 // As many counts and bytes are lent as the case says.

@@ -1,5 +1,9 @@
 // What a complement's marking keeps: a pair of finite K and its complement pair add up to K. The lowest pair that no longer does is told.
 use crate::parts::count_in;
+use crate::told::Told;
+use crate::told::told_alone;
+use answers::Answered;
+use answers::accepted;
 ghost use Prim.Native.Nat.{_≤_};
 
 fn is_broken(capacity: u32, sum: u32) -> bool {
@@ -16,7 +20,8 @@ fn one_if_finite(capacity: u32) -> usize
 }
 
 // K of each pair of the net, and a marking of its complement: "Each pair of finite K gets a complement pair, numbered after all originals in rising order."
-pub(crate) fn add_up(capacities: &[u8], marking: &[u8], told: &mut [u32; 8]) {
+// A sum that is not K is told as number 1 at its pair, with K and the sum.
+pub(crate) fn add_up(capacities: &[u8], marking: &[u8]) -> Told {
     let pairs = capacities.len() / 4;
     let mut complement = pairs;
     let mut p = 0;
@@ -24,13 +29,20 @@ pub(crate) fn add_up(capacities: &[u8], marking: &[u8], told: &mut [u32; 8]) {
         let k = count_in(capacities, p);
         let sum = std::num::wrapping_add_u32(count_in(marking, p), count_in(marking, complement));
         if is_broken(k, sum) {
-            told[0] = 1;
-            told[2] = (p % 65536) as u32;
-            told[4] = k;
-            told[5] = sum;
-            return;
+            let answer = Answered {
+                number: 1,
+                thing: 0,
+                position: p as u64,
+            };
+            return Told {
+                answer,
+                sign: 0,
+                high: k,
+                low: sum,
+            };
         }
         complement += one_if_finite(k);
         p += 1;
     }
+    told_alone(accepted())
 }

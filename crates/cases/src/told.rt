@@ -1,26 +1,36 @@
-// What a call tells C, as numbers below 2^32: document 01's number, thing and position, then what the call yields, a number of 64 bits as its sign (1 where it
-// is negative), its upper and its lower half.
+// What a call tells C, in one form: document 01's number, thing and position, then what the call yields: a number as its sign (1 where it is negative), its upper and
+// its lower 32 bits; yes as 1; a mode and its pair after a 1.
 use answers::Answered;
 use answers::Counted;
 use answers::Decided;
 use answers::Named;
 use answers::Weighed;
 
-pub(crate) fn put_answer(told: &mut [u32; 8], answer: Answered) {
-    told[0] = (answer.number % 4_294_967_296) as u32;
-    told[1] = (answer.thing % 4_294_967_296) as u32;
-    told[2] = (answer.position % 4_294_967_296) as u32;
+pub(crate) struct Told {
+    pub answer: Answered,
+    pub sign: u32,
+    pub high: u32,
+    pub low: u32,
 }
 
-fn put_size(told: &mut [u32; 8], size: u64) {
-    told[4] = (size / 4_294_967_296) as u32;
-    told[5] = (size % 4_294_967_296) as u32;
+pub(crate) fn told_alone(answer: Answered) -> Told {
+    Told {
+        answer,
+        sign: 0,
+        high: 0,
+        low: 0,
+    }
 }
 
-pub(crate) fn put_count(told: &mut [u32; 8], counted: Counted) {
+pub(crate) fn told_count(counted: Counted) -> Told {
     let answer = counted.answer;
-    put_answer(told, answer);
-    put_size(told, counted.value);
+    let value = counted.value;
+    Told {
+        answer,
+        sign: 0,
+        high: (value / 4_294_967_296) as u32,
+        low: (value % 4_294_967_296) as u32,
+    }
 }
 
 // For the least number too nothing wraps.
@@ -32,27 +42,51 @@ fn size(value: i64) -> u64 {
     }
 }
 
-pub(crate) fn put_kilograms(told: &mut [u32; 8], weighed: Weighed) {
+pub(crate) fn told_kilograms(weighed: Weighed) -> Told {
     let answer = weighed.answer;
     let value = weighed.value;
-    put_answer(told, answer);
-    told[3] = (value < 0) as u32;
-    put_size(told, size(value));
+    let size = size(value);
+    Told {
+        answer,
+        sign: (value < 0) as u32,
+        high: (size / 4_294_967_296) as u32,
+        low: (size % 4_294_967_296) as u32,
+    }
 }
 
-pub(crate) fn put_decided(told: &mut [u32; 8], decided: Decided) {
+pub(crate) fn told_decision(decided: Decided) -> Told {
     let answer = decided.answer;
-    put_answer(told, answer);
-    told[3] = decided.value as u32;
+    Told {
+        answer,
+        sign: decided.value as u32,
+        high: 0,
+        low: 0,
+    }
 }
 
-// Found or not, mode, pair.
-pub(crate) fn put_named(told: &mut [u32; 8], named: Named) {
+pub(crate) fn told_name(named: Named) -> Told {
     let answer = named.answer;
     let mode = named.mode;
     let pair = named.pair;
-    put_answer(told, answer);
-    told[3] = named.found as u32;
-    told[4] = mode.0 as u32;
-    told[5] = pair.0 as u32;
+    Told {
+        answer,
+        sign: named.found as u32,
+        high: mode.0 as u32,
+        low: pair.0 as u32,
+    }
+}
+
+// With the lowest pair whose count is another than expected, and the first such byte: how many there are, where none is.
+pub(crate) fn numbers(told: Told, pair: usize, byte: usize) -> [u32; 8] {
+    let answer = told.answer;
+    [
+        (answer.number % 4_294_967_296) as u32,
+        (answer.thing % 4_294_967_296) as u32,
+        (answer.position % 4_294_967_296) as u32,
+        told.sign,
+        told.high,
+        told.low,
+        (pair % 4_294_967_296) as u32,
+        (byte % 4_294_967_296) as u32,
+    ]
 }

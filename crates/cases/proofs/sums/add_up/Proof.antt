@@ -5,10 +5,10 @@ use Rattle.cases.proofs.sums.add_up.Statement.{statement}
 use Rattle.cases.proofs.sums.add_up.Tie as tie
 
 abbrev Inv-loop : tie.InvT-loop
-Inv-loop capacities marking told₀ pairs complement₀ p₀ told complement p = (p ≤ pairs) × (complement ≤ pairs + p) × (pairs < 4611686018427387904)
+Inv-loop capacities marking pairs complement₀ p₀ complement p = (p ≤ pairs) × (complement ≤ pairs + p) × (pairs < 4611686018427387904)
 
 abbrev μ-loop : tie.MeasureT-loop
-μ-loop capacities marking told₀ pairs complement₀ p₀ told complement p = pairs - p
+μ-loop capacities marking pairs complement₀ p₀ complement p = pairs - p
 
 pub add-up-spec : {M : Type 1} → statement M
 add-up-spec =
@@ -23,14 +23,11 @@ add-up-spec =
     (λ c κs. search needs)
     (λ c κs. search needs)
     (λ c. search needs)
-    (λ c. search needs)
-    (λ c. search needs)
-    (λ c. search needs)
-    (λ c. search needs)
-    (λ c. search needs)
     (λ c κs. search needs)
     (λ c. search needs)
     (λ c. search needs)
     (λ c. search needs)
     (λ c. search needs)
+    (λ c κs. search needs)
+    (λ c κs. search needs)
     (λ c. search needs))
