@@ -127,7 +127,7 @@ step-after net ts m e = (
 )
 
 -- a step of one mode
-entry-is : {a b : Entry} → a .pre ≡ b .pre → a .post ≡ b .post → a .inhibitor ≡ b .inhibitor → a ≡ b
+pub entry-is : {a b : Entry} → a .pre ≡ b .pre → a .post ≡ b .post → a .inhibitor ≡ b .inhibitor → a ≡ b
 entry-is pre post low = λ j. record { pre = pre j; post = post j; inhibitor = low j }
 
 pub alone : (e : Entry) → beside e noArc ≡ e
