@@ -1,8 +1,9 @@
 -- A step: its rule, the marking after, a step of one mode; and laws for a loop that sums one member after another.
 use Prim.Native.Nat.{ℕ, zero, suc, _+_, _*_, _≤_, _<_}
 use mathlib.Core.Path.{_≡_, refl, sym, _∙_, ap, fun-ext}
+use mathlib.Core.Bool.{Bool, true, false}
 use mathlib.Core.List.{List, [], _∷_, map}
-use mathlib.Core.Logic.{_↔_}
+use mathlib.Core.Logic.{_↔_, _⊎_, inl, inr, ⊎-elim}
 use mathlib.Core.Option.{none}
 use lib.Dec.{eqb, ltb}
 use lib.ListN.{length, take, getD}
@@ -11,16 +12,17 @@ use native.Mathlib.Omega.{arith}
 use Rattle.model.specs.declared.Mode.{Mode}
 use Rattle.model.specs.declared.Thing.the-variants.{Argument}
 use Rattle.model.specs.First.{_▸_, first}
-use Rattle.model.specs.Numbers.{_≤∞_, limit}
+use Rattle.model.specs.Numbers.{ℕ∞, fin, ∞, _≤∞_, Above, above, leastOf, limit}
 use Rattle.model.specs.Rows.{Entry, noArc}
 use Rattle.model.specs.Nets.{PNet, total, pairs, modes, modeNo, count, row}
 use Rattle.model.specs.WellFormed.{WellFormed}
 use Rattle.model.specs.Firing.{after, rooms, modeRefusal, fired}
 use Rattle.model.specs.Steps.{beside, together, stepRefusal, firedTogether, StepRule, StepAfter, StepOfOne}
-use Rattle.model.proofs.First.{left-none, right-none, none-then, first-each, first-all, only-if-none}
+use Rattle.model.proofs.First.{below-or, left-none, right-none, none-then, first-each, first-all, only-if-none}
 use Rattle.model.proofs.Both.{or-neither}
 use Rattle.model.proofs.Each.{Each, each-at, at-each}
-use Rattle.model.proofs.Numbers.{below-least-of, least-assoc, least-none}
+use Rattle.model.proofs.Numbers.{above-true, above-false, not-above, below-least-of, least-assoc, least-none}
+use Rattle.model.proofs.Decisions.{Decided}
 use Rattle.model.proofs.Firing.{Passes, row-passes, mode-there}
 use Rattle.model.proofs.Markings.{row-fired-at, row-fired-length}
 use Rattle.model.proofs.ComplementWellFormed.{row-small}
@@ -75,10 +77,10 @@ unfolding together
 sum-is net p f start more [] = start
 sum-is net p f start more (t ∷ ts) = more (row net t p) (together net ts p) ∙ ap (λ n. f (row net t p) + n) (sum-is net p f start more ts)
 
-pre-is : (net : PNet) (p : ℕ) (ts : List Mode) → together net ts p .pre ≡ total (map (λ t. row net t p .pre) ts)
+pub pre-is : (net : PNet) (p : ℕ) (ts : List Mode) → together net ts p .pre ≡ total (map (λ t. row net t p .pre) ts)
 pre-is net p = sum-is net p (λ e. e .pre) refl (λ a b. omega arith)
 
-post-is : (net : PNet) (p : ℕ) (ts : List Mode) → together net ts p .post ≡ total (map (λ t. row net t p .post) ts)
+pub post-is : (net : PNet) (p : ℕ) (ts : List Mode) → together net ts p .post ≡ total (map (λ t. row net t p .post) ts)
 post-is net p = sum-is net p (λ e. e .post) refl (λ a b. omega arith)
 
 -- at most the least I is at most each
@@ -89,6 +91,35 @@ low-each net p m (t ∷ ts) =
     let least = below-least-of m (row net t p .inhibitor) (together net ts p .inhibitor) in
     let later = low-each net p m ts in
     (λ h. (least .0 h .0, later .0 (least .0 h .1)), λ h. least .1 (h .0, later .1 (h .1)))
+
+-- above the least I is above some member's
+above-least-of : (m : ℕ) (a b : ℕ∞) → Above m (leastOf a b) → Above m a ⊎ Above m b
+above-least-of m (fin k) (fin n) h = ⊎-elim inl (λ (l : m ≤ k). inr (omega arith)) (below-or k m)
+above-least-of m ∞ (fin n) h = inr h
+above-least-of m a ∞ h = inl h
+
+abbrev pub SomeBelow : PNet → List Mode → ℕ → ℕ → Type 0
+SomeBelow net ts p m = (i : ℕ) × (i < length ts) × Above m (row net (getD ts i (modeNo 0)) p .inhibitor)
+
+above-some : (net : PNet) (p m : ℕ) (ts : List Mode) → Above m (together net ts p .inhibitor) → SomeBelow net ts p m
+unfolding together
+above-some net p m [] h = absurd h
+above-some net p m (t ∷ ts) h =
+    ⊎-elim (λ a. (0, omega arith, a)) (λ a. let r = above-some net p m ts a in (suc (r .0), omega (arith, r .1), r .2))
+    (above-least-of m (row net t p .inhibitor) (together net ts p .inhibitor) h)
+
+pub by-some : (net : PNet) (p m : ℕ) (ts : List Mode) → Decided (above m (together net ts p .inhibitor)) (SomeBelow net ts p m)
+by-some net p m ts =
+    let low = together net ts p .inhibitor in
+    record { sound = λ e. above-some net p m ts (above-true m low e); complete = λ s. go s (above m low) refl }
+  where
+    go : SomeBelow net ts p m → (t : Bool) → above m (together net ts p .inhibitor) ≡ t → above m (together net ts p .inhibitor) ≡ true
+    go s true e = e
+    go s false e =
+        let each = low-each net p m ts .0 (above-false m (together net ts p .inhibitor) e) in
+        absurd
+        (not-above m (row net (getD ts (s .0) (modeNo 0)) p .inhibitor) (each-at (λ t. m ≤∞ row net t p .inhibitor) (modeNo 0) ts each (s .0) (s .1))
+        (s .2))
 
 pub step-rule : StepRule
 step-rule net ts m = (
