@@ -1,5 +1,5 @@
 // The calls, by the numbers that tests/cases/make.py gives them, 16 to each group that tells alike. `first` is the net or the sheet that is read, `second` the
-// weights or the movements.
+// weights or the movements. The last arm of a group is its last call.
 use crate::parts::count_in;
 use crate::parts::part;
 use crate::sums::add_up;
