@@ -16,7 +16,7 @@ A list has, each with its lines below it, indented; `#` starts a comment, which 
                         Each is tested and fired, in the net and in its complement: four cases.
 
 Sheets at the limits are made by limits.py, by name. A call is added in two places: a row of CALLS, and an arm with its number in crates/cases/src/calls.rt, in the
-group that tells what it tells. A call that tells something new gets a group, a put in src/told.rt and a line in answer_of.
+group that tells what it tells. A call that tells something new gets a group, a function in src/told.rt and a line in answer_of.
 
 A case in stdin is the length of what follows, then eight parts, a length before each: call, number and room; name; first and second run of bytes, where the modes of
 a step are counts; counts lent; what is told; counts after; bytes written. Lengths and numbers are 4 bytes, big-endian."""

@@ -7,7 +7,7 @@ use lib.ListN.{length}
 use Rattle.model.specs.declared.Thing.the-variants.{Net}
 use Rattle.model.specs.declared.Fault.the-variants.{NoRoom as NoRoomFor}
 use Rattle.model.specs.declared.Answer.{Answer}
-use Rattle.model.specs.Refusals.{number, thing, position}
+use Rattle.model.specs.Refusals.{Carried, carried}
 use Rattle.model.specs.Replies.{Reply, yields, refuses}
 use Rattle.model.specs.Nets.{pairNo, modeNo}
 use Rattle.model.specs.Dead.{DeadMode}
@@ -21,27 +21,25 @@ use Rattle.answers.specs.declared.Decided.{Decided}
 use Rattle.answers.specs.declared.Named.{Named}
 use Rattle.answers.specs.declared.Sized.{Sized}
 
--- an answer without a value
+-- what an answer carries
+abbrev pub telling : Carried → Answered
+telling c = record { number = c .number; thing = c .thing; position = c .position }
+
 abbrev pub answered : Answer → Answered
-answered a = record { number = number a; thing = thing a; position = position a }
+answered a = telling (carried a)
 
-module _ {A : Type 0} where
-  -- an answer with one
-  abbrev pub replied : Reply A → Answered
-  replied r = record { number = r .number; thing = r .thing; position = r .position }
-
-  abbrev pub valueOr : A → Option A → A
-  valueOr nothing none = nothing
-  valueOr nothing (some a) = a
+abbrev pub valueOr : {A : Type 0} → A → Option A → A
+valueOr nothing none = nothing
+valueOr nothing (some a) = a
 
 abbrev pub counted : Reply ℕ → Counted
-counted r = record { answer = replied r; value = valueOr 0 (r .value) }
+counted r = record { answer = telling (r .carried); value = valueOr 0 (r .value) }
 
 abbrev pub weighed : Reply ℤ → Weighed
-weighed r = record { answer = replied r; value = valueOr (pos 0) (r .value) }
+weighed r = record { answer = telling (r .carried); value = valueOr (pos 0) (r .value) }
 
 abbrev pub decided : Reply Bool → Decided
-decided r = record { answer = replied r; value = valueOr false (r .value) }
+decided r = record { answer = telling (r .carried); value = valueOr false (r .value) }
 
 -- a mode and its pair, where one was found
 abbrev pub naming : Answered → Option DeadMode → Named
@@ -49,14 +47,14 @@ naming a none = record { answer = a; found = false; mode = modeNo 0; pair = pair
 naming a (some d) = record { answer = a; found = true; mode = d .mode; pair = d .pair }
 
 abbrev pub named : Reply (Option DeadMode) → Named
-named r = naming (replied r) (valueOr none (r .value))
+named r = naming (telling (r .carried)) (valueOr none (r .value))
 
 -- how many pairs, modes and arcs, each 0 where a refused call has none
 abbrev pub sizing : Answered → NetSize → Sized
 sizing a size = record { answer = a; pairs = size .pairs; modes = size .modes; arcs = size .arcs }
 
 abbrev pub sized : Reply NetSize → Sized
-sized r = sizing (replied r) (valueOr (record { pairs = 0; modes = 0; arcs = 0 }) (r .value))
+sized r = sizing (telling (r .carried)) (valueOr (record { pairs = 0; modes = 0; arcs = 0 }) (r .value))
 
 -- the text of `replay`; 10: "or the output slice is shorter than it"
 abbrev pub textTold : Stated → Reply ℕ

@@ -1,5 +1,5 @@
 // The calls, by the numbers that tests/cases/make.py gives them, 16 to each group that tells alike. `first` is the net or the sheet that is read, `second` the
-// weights, the movements or the modes of a step.
+// weights, the movements or the modes of a step. The last arm of a group is its last call.
 use crate::parts::count_in;
 use crate::parts::part;
 use crate::steps::step;

@@ -3,6 +3,7 @@ use crate::parts::count_in;
 use crate::parts::part;
 use libc::STDOUT_FILENO;
 
+// What became of a case.
 pub(crate) const SAME: usize = 0;
 
 pub(crate) const OTHER: usize = 1;

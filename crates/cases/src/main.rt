@@ -23,6 +23,7 @@ use crate::told::numbers;
 use libc::STDIN_FILENO;
 ghost use Prim.Native.Nat.{_≤_};
 
+// In place of a case: no byte is left.
 const ENDED: usize = 3;
 
 // The call is made on what is lent, and then all of it is compared.

@@ -7,6 +7,7 @@ use Rattle.model.specs.declared.Mode.{Mode}
 use Rattle.model.specs.declared.Thing.the-variants.{Argument}
 use Rattle.model.specs.declared.Refusal.{Refusal}
 use Rattle.model.specs.First.{_▸_}
+use Rattle.model.specs.Nets.{PNet}
 use Rattle.model.specs.Markings.{unequal, markingRefusal}
 use Rattle.model.specs.Firing.{modeRefusal, fired}
 use Rattle.sheets.specs.Whole.{wholeNet}
@@ -20,9 +21,13 @@ beginRefusal net marking = wholeNet net ▸ unequal (netOf net) marking
 abbrev pub begun : List ℕ → List ℕ → List ℕ
 begun net marking = written (beginRefusal net marking) (netOf net .start) marking
 
+-- the marking, then the mode, of a call that takes both
+abbrev pub argumentRefusal : PNet → List ℕ → Mode → Option Refusal
+argumentRefusal net m t = markingRefusal net m ▸ modeRefusal Argument net t m
+
 -- test and fire
 unfoldable pub testRefusal : List ℕ → List ℕ → Mode → Option Refusal
-testRefusal net marking t = wholeNet net ▸ markingRefusal (netOf net) marking ▸ modeRefusal Argument (netOf net) t marking
+testRefusal net marking t = wholeNet net ▸ argumentRefusal (netOf net) marking t
 
 abbrev pub firedBy : List ℕ → List ℕ → Mode → List ℕ
 firedBy net marking t = written (testRefusal net marking t) (fired (netOf net) t marking) marking

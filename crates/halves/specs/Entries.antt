@@ -6,7 +6,7 @@ use Rattle.model.specs.declared.Arc.{Arc}
 use Rattle.model.specs.Numbers.{ℕ∞, limit}
 use Rattle.model.specs.Nets.{NetArc}
 use Rattle.model.specs.WellFormed.{InRange}
-use Rattle.model.specs.Complement.{original, complementEntry}
+use Rattle.model.specs.Complement.{complementEntry}
 use Rattle.fields.specs.Numbers.{bound}
 
 -- an arc that was read, and the capacity of its pair
@@ -15,9 +15,6 @@ pub record Small (a : Arc) (k : ℕ) : Type 0 where
   pub post : a .post ≤ limit
   pub capacity : InRange (bound k)
 
--- what an arc leaves at its own pair, and puts at the complement pair
-abbrev pub originalOf : NetArc → NetArc
-originalOf a = record { mode = a .mode; pair = a .pair; entry = original (a .entry) }
-
+-- what an arc puts at the complement pair; what it leaves at its own is `onOriginal` of model/specs/Promises.antt
 abbrev pub complementAt : Pair → ℕ∞ → NetArc → NetArc
 complementAt pair k a = record { mode = a .mode; pair = pair; entry = complementEntry k (a .entry) }

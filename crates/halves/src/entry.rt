@@ -8,7 +8,8 @@ ghost use Rattle.model.specs.Numbers.{limit};
 ghost use Rattle.model.specs.Complement.{reserve, blank, tooLarge};
 ghost use Rattle.fields.specs.Numbers.{bound};
 ghost use Rattle.sheets.specs.Decoded.{netArc};
-ghost use Rattle.halves.specs.Entries.{Small, originalOf, complementAt};
+ghost use Rattle.model.specs.Promises.{onOriginal};
+ghost use Rattle.halves.specs.Entries.{Small, complementAt};
 
 // "K less I, or 0 where I ≥ K or unbounded": the number that means unbounded is the largest of 32 bits.
 fn reserved(capacity: u32, inhibitor: u32) -> u32
@@ -31,7 +32,7 @@ fn larger(a: u32, b: u32) -> u32
 
 // "All K and I become unbounded. Original Pre, Post and first marking stay."
 pub fn original_arc(arc: Arc) -> Arc
-    ensures { λ r. ⌜ netArc r ≡ originalOf (netArc arc) ⌝ }
+    ensures { λ r. ⌜ netArc r ≡ onOriginal (netArc arc) ⌝ }
 {
     let mode = arc.mode;
     let pair = arc.pair;

@@ -40,7 +40,7 @@ total-new K (c ∷ cs) = simp total-append (omega (arith, one (ltb 0 (boundedBel
     one false e = omega (arith, ltb-false 0 (boundedBelow K c) e)
 
 -- where the pairs of the next place start
-total-next : (cs : List ℕ) (i : ℕ) → i < length cs → total (take (suc i) cs) ≡ total (take i cs) + getD cs i 0
+pub total-next : (cs : List ℕ) (i : ℕ) → i < length cs → total (take (suc i) cs) ≡ total (take i cs) + getD cs i 0
 total-next [] i h = absurd (not-suc-le-zero h)
 total-next (c ∷ cs) zero h = omega arith
 total-next (c ∷ cs) (suc i) h = omega (arith, total-next cs i (omega arith))

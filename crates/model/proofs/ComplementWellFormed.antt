@@ -1,8 +1,8 @@
 -- The complement of a well-formed net, where 16 and 10 are not given, is well formed.
-use Prim.Native.Nat.{ℕ, _+_, _≤_, _<_}
+use Prim.Native.Nat.{ℕ, _≤_, _<_}
 use mathlib.Core.Path.{_≡_, refl, sym, _∙_}
 use mathlib.Core.Bool.{Bool, true, false, _&&_}
-use mathlib.Core.List.{List, [], _∷_}
+use mathlib.Core.List.{List}
 use mathlib.Core.Logic.{⊎-elim}
 use mathlib.Core.Option.{none}
 use lib.Dec.{leb, ltb}
@@ -12,11 +12,11 @@ use native.Mathlib.Omega.{arith}
 use Rattle.model.specs.declared.Mode.{Mode}
 use Rattle.model.specs.declared.Fault.the-variants.{ComplementAbove}
 use Rattle.model.specs.Numbers.{ℕ∞, fin, ∞, above, limit}
-use Rattle.model.specs.Rows.{Entry, noArc, Capacities}
+use Rattle.model.specs.Rows.{Entry, noArc}
 use Rattle.model.specs.Nets.{PNet, pairs, modes, modeNo, K, arcNo, row}
 use Rattle.model.specs.WellFormed.{ArcOf, WellFormed}
 use Rattle.model.specs.Markings.{Marking}
-use Rattle.model.specs.Complement.{boundedBelow, complementEntry, complementRow, newPlaces, allPairs, complement, tooLarge, refusal16, sheetLimits, Corresponds}
+use Rattle.model.specs.Complement.{complementEntry, complementRow, newPlaces, allPairs, complement, tooLarge, refusal16, sheetLimits, Corresponds}
 use Rattle.model.specs.Lists.{listIf}
 use Rattle.model.proofs.Both.{and-both, or-neither}
 use Rattle.model.proofs.Numbers.{above-false}

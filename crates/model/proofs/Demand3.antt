@@ -2,7 +2,7 @@
 use Prim.Native.Nat.{ℕ, _+_, _≤_, _<_}
 use mathlib.Core.Path.{_≡_, refl, sym, _∙_, ap}
 use mathlib.Core.List.{List, [], _∷_}
-use mathlib.Core.Logic.{_↔_, ⊎-elim}
+use mathlib.Core.Logic.{⊎-elim}
 use mathlib.Core.Option.{Option, none, some, Option·none-ne-some}
 use lib.ListN.{length, take, getD}
 use borrow.Author.Tests.{not-false}
@@ -77,19 +77,11 @@ module _ (net : PNet) (wf : WellFormed net) (offset : ℕ → ℕ) (no15 : refus
         r′ .whole .1 (both .accepted ∙ end) ∙ rw (r .whole .1 end))
         (below-or (o .accepted) (length ts))
 
-    pub both-whole : (o′ .refusal ≡ none) ↔ (o .refusal ≡ none)
-    both-whole =
-        let same = runs-alike .accepted in
-        let r = runs net ts m in
-        let r′ = runs (complement net) ts m′ in
-        (λ e. r .whole .1 (sym same ∙ r′ .whole .0 e), λ e. r′ .whole .1 (same ∙ r .whole .0 e))
-
   agreement : (ts : List Mode) → Agreement net ts
   agreement ts =
       let c = start-corresponds net wf in
       record {
         accepted = runs-alike ts _ _ c .accepted;
-        whole = both-whole ts _ _ c;
         refusal = refusals ts _ _ c;
         agree = λ j h. runs-alike (take j ts) _ _ c .marking;
       }

@@ -13,19 +13,23 @@ use Rattle.model.specs.declared.Why.the-variants.{Lacking, OverCapacity,
 use Rattle.model.specs.declared.Fault.the-variants.{NotThere}
 use Rattle.model.specs.declared.Answer.the-variants.{Refused}
 use Rattle.model.specs.First.{Lowest, NoneBelow}
-use Rattle.model.specs.Refusals.{thingNumber}
-use Rattle.model.specs.RefusalTables.{carried, row as tableRow, each, Reads, oneEachTable, markingTable, missingTable, modeTable}
-use Rattle.model.specs.Numbers.{fin, _≤∞_, limit}
+use Rattle.model.specs.Refusals.{thingNumber, carried}
+use Rattle.model.specs.RefusalTables.{row as tableRow, each, Reads, oneEachTable, markingTable, missingTable, modeTable}
+use Rattle.model.specs.Numbers.{ℕ∞, Above, _≤∞_, limit}
 use Rattle.model.specs.Billington.{Enables}
-use Rattle.model.specs.Rows.{Row, Capacities, Counts}
+use Rattle.model.specs.Rows.{Entry, Row, Capacities, Counts}
 use Rattle.model.specs.Nets.{PNet, pairs, modes, K, count, row}
 use Rattle.model.specs.Markings.{unequal, markingRefusal}
-use Rattle.model.specs.Firing.{after, compared, Stops, stops, stopped, lowestStop, ruleRefusal, rowRefusal, absent, rooms, modeRefusal}
+use Rattle.model.specs.Firing.{after, compared, stops, stopped, lowestStop, ruleRefusal, rowRefusal, absent, rooms, modeRefusal}
 use Rattle.model.specs.Promises.{RefusalTable, Rule}
 use Rattle.model.proofs.First.{Decides, only-if-none, left-none, right-none, none-then, some-then, lowest-none, lowest-some, none-lowest, lowest-or-none}
 use Rattle.model.proofs.Numbers.{above-true, true-above, not-above, le-not-above, le-room, room-le}
 use Rattle.model.proofs.Decisions.{by-less, by-at-most, by-equal, by-above, by-not}
 use Rattle.model.proofs.RefusalTables.{reads-plain, reads-then, reads-each, four}
+
+-- one of 11 to 14 at one pair, where the mode has e, the capacity is k and the count m
+abbrev pub Stops : Why → Entry → ℕ∞ → ℕ → Type 0
+Stops why e k m = Above (compared why e k m .number) (compared why e k m .bound)
 
 -- an accepted row is four facts at each pair: 11 to 14 in document 01's words
 pub record Passes (n : ℕ) (k : Capacities) (r : Row) (M : Counts) : Type 0 where

@@ -13,7 +13,7 @@ use Rattle.model.specs.declared.Thing.the-variants.{Movements}
 use Rattle.model.specs.declared.Refusal.{Refusal}
 use Rattle.model.specs.Nets.{PNet, pairs, modeNo, count}
 use Rattle.model.specs.Firing.{modeRefusal, fired}
-use Rattle.model.specs.Runs.{Outcome, goOn, runFrom, run, certificateRefusal}
+use Rattle.model.specs.Runs.{Outcome, goOn, runFrom, run, elsewhere, endsAt, certificateRefusal}
 use Rattle.model.specs.Promises.{Leads, stays, moves, RunIs, Runs, Certificates}
 use Rattle.model.proofs.First.{left-none, right-none, none-then, first-each, first-all, only-if-none}
 use Rattle.model.proofs.Markings.{fired-length}
@@ -80,7 +80,7 @@ module _ (net : PNet) (ts : List Mode) (claim : List ℕ) (each : length (net .s
   last = run net ts (net .start) .marking
 
   certificate-leads : certificateRefusal net ts claim ≡ none → Leads net ts (net .start) claim
-  unfolding certificateRefusal
+  unfolding certificateRefusal endsAt elsewhere
   certificate-leads e =
       let r = runs net ts (net .start) in
       let then = right-none _ _ e in
@@ -96,7 +96,7 @@ module _ (net : PNet) (ts : List Mode) (claim : List ℕ) (each : length (net .s
       rw same at whole
 
   leads-certificate : Leads net ts (net .start) claim → certificateRefusal net ts claim ≡ none
-  unfolding certificateRefusal outcome
+  unfolding certificateRefusal endsAt elsewhere outcome
   leads-certificate l =
       none-then (rw (eq-eqb (length claim) (pairs net) (leads-length l each)))
       (rw (leads-run l 0) (none-then refl (first-all (pairs net) _ (λ p h. rw (eq-eqb (count claim p) (count claim p) refl)))))

@@ -5,7 +5,6 @@ use Prim.Native.Nat.{ℕ, _≤_}
 use mathlib.Core.Path.{_≡_}
 use mathlib.Core.Bool.{Bool, cond, _||_}
 use mathlib.Core.List.{List}
-use mathlib.Core.Logic.{_↔_}
 use mathlib.Core.Option.{Option, none}
 use lib.Dec.{eqb}
 use lib.ListN.{take, getD}
@@ -59,8 +58,6 @@ module _ (net : PNet) (ts : List Mode) where
   pub record Agreement : Type 0 where
     -- "both accept the same movements and stop at the same one"
     pub accepted : inComplement ts .accepted ≡ inNet ts .accepted
-    -- (follows from `refusal`)
-    pub whole : (inComplement ts .refusal ≡ none) ↔ (inNet ts .refusal ≡ none)
     pub refusal : inComplement ts .refusal ≡ becomes Movements net nextMode (inNet ts .marking) (inNet ts .refusal)
     -- "at the start and after each accepted movement": after the first j of them, and j may be 0
     pub agree : (j : ℕ) → j ≤ inNet ts .accepted → Corresponds net (inNet (take j ts) .marking) (inComplement (take j ts) .marking)

@@ -12,7 +12,7 @@ use Rattle.model.specs.declared.Fault.the-variants.{NotThere, Stopped}
 use Rattle.model.specs.declared.Refusal.{Refusal}
 use Rattle.model.specs.Refusals.{wrong}
 use Rattle.model.specs.First.{_▸_, onlyIf, lowest}
-use Rattle.model.specs.Numbers.{ℕ∞, fin, Above, above, limit}
+use Rattle.model.specs.Numbers.{ℕ∞, fin, above, limit}
 use Rattle.model.specs.Rows.{Entry, Row, Capacities, Counts}
 use Rattle.model.specs.Lists.{table}
 use Rattle.model.specs.Nets.{NetArc, PNet, pairs, modes, pairNo, K, count, row}
@@ -36,10 +36,7 @@ compared OverCapacity e k m = m + e .post against k
 compared Inhibited e k m = m against e .inhibitor
 compared OverLimit e k m = after e m against fin limit
 
--- the number is above the bound: the proposition, and its test
-abbrev pub Stops : Why → Entry → ℕ∞ → ℕ → Type 0
-Stops why e k m = Above (compared why e k m .number) (compared why e k m .bound)
-
+-- the number is above the bound
 abbrev pub stops : Why → Entry → ℕ∞ → ℕ → Bool
 stops why e k m = above (compared why e k m .number) (compared why e k m .bound)
 

@@ -73,3 +73,16 @@ alwaysNet n = eqb n 0 || eqb n 10 || eqb n 15 || eqb n 16 || ltb 18 n
 abbrev pub thing : Answer → ℕ
 thing Accepted = 0
 thing (Refused r) = cond (alwaysNet (line (r .fault) .number)) 0 (thingNumber (r .thing))
+
+-- "Every answer carries the number, which thing was at fault (0 net, also for numbers 0, 10, 15, 16 and any above 18; 1 weights; 2 movements, also one that a
+-- run or certificate refuses; 3 marking, claim or any other argument) and a position, 0 where none is named."
+pub record Carried : Type 0 where
+  pub number : ℕ
+  pub thing : ℕ
+  pub position : ℕ
+
+abbrev pub carries : ℕ → ℕ → ℕ → Carried
+carries n about at = record { number = n; thing = about; position = at }
+
+abbrev pub carried : Answer → Carried
+carried a = carries (number a) (thing a) (position a)

@@ -17,13 +17,13 @@ use Rattle.model.specs.declared.Fault.the-variants.{EndsElsewhere}
 use Rattle.model.specs.declared.Refusal.{Refusal}
 use Rattle.model.specs.declared.Answer.the-variants.{Refused}
 use Rattle.model.specs.First.{_▸_, first}
-use Rattle.model.specs.Refusals.{wrong, thingNumber}
-use Rattle.model.specs.RefusalTables.{carried, Table, row, _then_, each, Reads}
+use Rattle.model.specs.Refusals.{carried, wrong, thingNumber}
+use Rattle.model.specs.RefusalTables.{Table, row, _then_, each, Reads}
 use Rattle.model.specs.Numbers.{ℕ∞, fin, ∞, limit}
 use Rattle.model.specs.Nets.{PNet, pairs, pairNo, modeNo, K, count}
 use Rattle.model.specs.Firing.{stops, stopped, lowestStop, ruleRefusal, rowRefusal, modeRefusal, fired}
 use Rattle.model.specs.Steps.{together, stepRefusal}
-use Rattle.model.specs.Runs.{Outcome, goOn, runFrom, run, certificateRefusal}
+use Rattle.model.specs.Runs.{Outcome, goOn, runFrom, run, elsewhere, endsAt, certificateRefusal}
 use Rattle.model.specs.Complement.{finite, complement, refusal15, refusal16, sheetLimits, complementRefusal}
 use Rattle.model.proofs.First.{below-or, left-none, then-none, then-assoc, then-under}
 use Rattle.model.proofs.Runs.{runs}
@@ -95,7 +95,7 @@ module _ (net : PNet) where
   moves-reads ts m = subst⁻¹ (Reads _) (run-refusal 0 ts m) (reads-each (length ts) (λ k l. refusal-table .mode Movements net _ _))
 
   certificate-reads : (ts : List Mode) (claim : List ℕ) → Reads (certificateTable net ts claim) (certificateRefusal net ts claim)
-  unfolding certificateRefusal
+  unfolding certificateRefusal endsAt elsewhere
   certificate-reads ts claim =
       reads-then (one-each-reads net claim)
       (subst⁻¹ (Reads _) (then-under (run net ts (net .start) .refusal) (λ e. rw (run-whole 0 ts (net .start) e)))
@@ -174,9 +174,7 @@ pub call-tables : CallTables
 unfolding beginRefusal testRefusal testStepRefusal certifyRefusal figureRefusal changeRefusal deadRefusal complementingRefusal
 call-tables =
     record {
-      readNet = sheet-tables .nets;
-      readWeights = sheet-tables .weights;
-      readMovements = sheet-tables .movements;
+      sheets = sheet-tables;
       wholeNet = net-reads;
       wholeWeights = weights-reads;
       wholeMovements = movements-reads;

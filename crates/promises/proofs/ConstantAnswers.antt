@@ -45,6 +45,7 @@ use Rattle.statement.specs.Replay.{room, stated}
 use Rattle.statement.specs.Contracts.{StatementAllows}
 use Rattle.answers.specs.Told.{textTold}
 use Rattle.promises.specs.OwnExample as own
+use Rattle.statement.specs.Example as sheets
 use Rattle.promises.specs.ConstantAnswers.{Only, Never, NotConstant, Varies, PartVaries, full, ConstantAnswers}
 use Rattle.promises.proofs.OwnExample.{read-back, weights-read, movements-read, tests, steps, runs-whole, own-example}
 
@@ -127,22 +128,22 @@ net-accepted : netRefusal own.net ≡ none
 unfolding wholeNet
 net-accepted = left-none _ _ (read-back .accepted)
 
-weights-accepted : weightsRefusal 2 own.weights ≡ none
+weights-accepted : weightsRefusal 2 sheets.weights ≡ none
 unfolding wholeWeights
 weights-accepted = left-none _ _ weights-read
 
-movements-accepted : movementsRefusal own.movements ≡ none
+movements-accepted : movementsRefusal sheets.movements ≡ none
 unfolding wholeMovements
 movements-accepted = left-none _ _ movements-read
 
 after-net : rest (answer (netRefusal own.net)) own.net ≡ []
 after-net = rw (append-nil own.net) at (read-back .restAfter [])
 
-after-weights : rest (answer (weightsRefusal 2 own.weights)) own.weights ≡ []
+after-weights : rest (answer (weightsRefusal 2 sheets.weights)) sheets.weights ≡ []
 unfolding rest u32At u16At
 after-weights = rw weights-accepted
 
-after-movements : rest (answer (movementsRefusal own.movements)) own.movements ≡ []
+after-movements : rest (answer (movementsRefusal sheets.movements)) sheets.movements ≡ []
 unfolding rest u32At u16At
 after-movements = rw movements-accepted
 
@@ -174,27 +175,27 @@ slice : (n : ℕ) → (out : List ℕ) × (n ≤ length out)
 slice n = (replicate n 0, omega (arith, length-replicate {A = ℕ} n 0))
 
 module _ (input out : List ℕ) (o : Stated × List ℕ) (allowed : StatementAllows input out o) where
-  text-written : room ≤ length out → textTold (o .0) .number ≡ 0
+  text-written : room ≤ length out → textTold (o .0) .carried .number ≡ 0
   unfolding stated
-  text-written h = ap (λ s. textTold s .number) (allowed .0) ∙ rw (le-ltb (length out) room h)
+  text-written h = ap (λ s. textTold s .carried .number) (allowed .0) ∙ rw (le-ltb (length out) room h)
 
-  text-refused : length out < room → textTold (o .0) .number ≡ 10
+  text-refused : length out < room → textTold (o .0) .carried .number ≡ 10
   unfolding stated
-  text-refused h = ap (λ s. textTold s .number) (allowed .0) ∙ rw (lt-ltb (length out) room h)
+  text-refused h = ap (λ s. textTold s .carried .number) (allowed .0) ∙ rw (lt-ltb (length out) room h)
 
 pub constant-answers : ConstantAnswers
 unfolding wholeNet wholeWeights wholeMovements beginRefusal testRefusal runOf certifyRefusal figured decimal decimalWithin signedDecimal
 constant-answers =
     record {
       readNet = varies _ _ own.net lone (says net-accepted) (says net-cut);
-      readWeights = varies _ _ (own.weights, 2) (lone, 2) (says weights-accepted) (says weights-cut);
-      readMovements = varies _ _ own.movements lone (says movements-accepted) (says movements-cut);
+      readWeights = varies _ _ (sheets.weights, 2) (lone, 2) (says weights-accepted) (says weights-cut);
+      readMovements = varies _ _ sheets.movements lone (says movements-accepted) (says movements-cut);
       afterNet = part-varies _ _ own.net lone (hands-back after-net) (hands-back (back-whole lone net-cut)) (omega (arith, sheet-size own.example));
-      afterWeights = part-varies _ _ (own.weights, 2) (lone, 2) (hands-back after-weights) (hands-back (back-whole lone weights-cut)) (omega arith);
-      afterMovements = part-varies _ _ own.movements lone (hands-back after-movements) (hands-back (back-whole lone movements-cut)) (omega arith);
+      afterWeights = part-varies _ _ (sheets.weights, 2) (lone, 2) (hands-back after-weights) (hands-back (back-whole lone weights-cut)) (omega arith);
+      afterMovements = part-varies _ _ sheets.movements lone (hands-back after-movements) (hands-back (back-whole lone movements-cut)) (omega arith);
       wholeNet = varies _ _ own.net lone (says (read-back .accepted)) (says (some-then _ net-cut));
-      wholeWeights = varies _ _ (own.weights, 2) (lone, 2) (says weights-read) (says (some-then _ weights-cut));
-      wholeMovements = varies _ _ own.movements lone (says movements-read) (says (some-then _ movements-cut));
+      wholeWeights = varies _ _ (sheets.weights, 2) (lone, 2) (says weights-read) (says (some-then _ weights-cut));
+      wholeMovements = varies _ _ sheets.movements lone (says movements-read) (says (some-then _ movements-cut));
       begin = varies _ _ (own.net, 0 ∷ 0 ∷ []) (lone, []) (λ o a. own-example .begin o a .0) (λ o a. says (whole-cut _) (o .0) (a .0));
       test = varies _ _ (own.net, 3 ∷ 0 ∷ [], modeNo 0) (lone, [], modeNo 0) (says tests) (says (whole-cut _));
       fire =
@@ -207,23 +208,23 @@ constant-answers =
           (λ o a. ap (λ r. number (r .answer)) (a .0) ∙ rw before-run-cut);
       certify = varies _ _ (own.net, own.three, 0 ∷ 3 ∷ []) (lone, [], []) (own-example .certify) (says (whole-cut _));
       figure =
-          varies _ _ (own.net, own.weights, 3 ∷ 0 ∷ []) (lone, [], []) (λ o a. ap (λ r. r .number) (own-example .figure o a))
-          (λ o a. ap (λ o. weigh.told o .number) a ∙ rw figure-cut);
+          varies _ _ (own.net, sheets.weights, 3 ∷ 0 ∷ []) (lone, [], []) (λ o a. ap (λ r. r .carried .number) (own-example .figure o a))
+          (λ o a. ap (λ o. weigh.told o .carried .number) a ∙ rw figure-cut);
       change =
-          varies _ _ (own.net, own.weights, modeNo 0) (lone, [], modeNo 0) (λ o a. ap (λ r. r .number) (own-example .change o a))
-          (λ o a. ap (λ o. weigh.told o .number) a ∙ rw change-cut);
+          varies _ _ (own.net, sheets.weights, modeNo 0) (lone, [], modeNo 0) (λ o a. ap (λ r. r .carried .number) (own-example .change o a))
+          (λ o a. ap (λ o. weigh.told o .carried .number) a ∙ rw change-cut);
       isDead =
-          varies _ _ (own.net, modeNo 0) (lone, modeNo 0) (λ o a. ap (λ r. r .number) (own-example .isDead o a))
-          (λ o a. ap (λ o. one.told o .number) a ∙ rw dead-cut);
+          varies _ _ (own.net, modeNo 0) (lone, modeNo 0) (λ o a. ap (λ r. r .carried .number) (own-example .isDead o a))
+          (λ o a. ap (λ o. one.told o .carried .number) a ∙ rw dead-cut);
       firstDead =
-          varies _ _ own.net lone (λ o a. ap (λ r. r .number) (own-example .firstDead o a))
-          (λ o a. ap (λ o. first.told o .number) a ∙ rw (some-then _ net-cut));
+          varies _ _ own.net lone (λ o a. ap (λ r. r .carried .number) (own-example .firstDead o a))
+          (λ o a. ap (λ o. first.told o .carried .number) a ∙ rw (some-then _ net-cut));
       size =
-          varies _ _ own.net lone (λ o a. ap (λ r. r .number) (own-example .size o a))
-          (λ o a. ap (λ o. sizing.told o .number) a ∙ rw (some-then _ net-cut));
+          varies _ _ own.net lone (λ o a. ap (λ r. r .carried .number) (own-example .size o a))
+          (λ o a. ap (λ o. sizing.told o .carried .number) a ∙ rw (some-then _ net-cut));
       complement =
-          varies _ _ (own.net, own.room) (lone, []) (λ o a. ap (λ r. r .number) (own-example .complement o a))
-          (λ o a. ap (λ o. complementing.told o .number) (a .0) ∙ rw complement-cut);
+          varies _ _ (own.net, own.room) (lone, []) (λ o a. ap (λ r. r .carried .number) (own-example .complement o a))
+          (λ o a. ap (λ o. complementing.told o .carried .number) (a .0) ∙ rw complement-cut);
       putBytes = varies _ _ (lone, 0, digits) ([], 0, digits) fits no-room;
       putDecimal = varies _ _ (lone, 0, 0) ([], 0, 0) fits no-room;
       putSigned = varies _ _ (lone, 0, pos 0) ([], 0, pos 0) fits no-room;

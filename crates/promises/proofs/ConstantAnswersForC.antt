@@ -6,7 +6,7 @@ use Rattle.model.specs.Replies.{Reply}
 use Rattle.model.specs.Dead.{DeadMode}
 use Rattle.dead.specs.FirstDead as first
 use Rattle.answers.specs.declared.Answered.{Answered}
-use Rattle.answers.specs.Told.{replied, valueOr, naming, named}
+use Rattle.answers.specs.Told.{telling, valueOr, naming, named}
 use Rattle.promises.specs.ConstantAnswers.{Varies}
 use Rattle.promises.specs.ConstantAnswersForC.{ConstantAnswersForC}
 use Rattle.promises.proofs.ConstantAnswers.{accepts-and-refuses, constant-answers}
@@ -23,8 +23,8 @@ naming-number : (a : Answered) (found : Option DeadMode) → naming a found .ans
 naming-number a none = refl
 naming-number a (some d) = refl
 
-named-number : (r : Reply (Option DeadMode)) → named r .answer .number ≡ r .number
-named-number r = naming-number (replied r) (valueOr none (r .value))
+named-number : (r : Reply (Option DeadMode)) → named r .answer .number ≡ r .carried .number
+named-number r = naming-number (telling (r .carried)) (valueOr none (r .value))
 
 pub constant-answers-for-c : ConstantAnswersForC
 constant-answers-for-c =

@@ -27,7 +27,7 @@ use Rattle.promises.specs.Frauds.{CopiesNet}
 use Rattle.promises.proofs.Accepting.{number-none}
 use Rattle.promises.proofs.DemandThree.{complementable}
 
-length-refused : (o : Option Refusal) (l : ℕ) → told (complemented o l) .number ≡ 0 → o ≡ none
+length-refused : (o : Option Refusal) (l : ℕ) → told (complemented o l) .carried .number ≡ 0 → o ≡ none
 length-refused none l e = refl
 length-refused (some r) l e = number-none (some r) e
 
@@ -68,7 +68,7 @@ pub copies-net : CopiesNet
 copies-net =
     record {
       excluded = λ net out p k h e o a n same.
-          let q = length-refused (complementingRefusal net (length out)) (length (complementSheet net)) (sym (ap (λ c. told c .number) (a .0)) ∙ n) in
+          let q = length-refused (complementingRefusal net (length out)) (length (complementSheet net)) (sym (ap (λ c. told c .carried .number) (a .0)) ∙ n) in
           omega (
             arith,
             written-places net out q,

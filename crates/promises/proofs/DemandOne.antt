@@ -32,7 +32,7 @@ kept : (o : Option Refusal) (new found : List ℕ) → Refused (answer o) → wr
 kept none new found h = absurd (h refl)
 kept (some r) new found h = refl
 
-output-kept : (o : Option Refusal) (n : ℕ) (sheet found : List ℕ) → told (complemented o n) .number ≢ 0 → output o sheet found ≡ found
+output-kept : (o : Option Refusal) (n : ℕ) (sheet found : List ℕ) → told (complemented o n) .carried .number ≢ 0 → output o sheet found ≡ found
 output-kept none n sheet found h = absurd (h refl)
 output-kept (some r) n sheet found h = refl
 
@@ -72,7 +72,7 @@ demand-one =
       complement = λ net out o allows refused.
           allows .1
           ∙ output-kept (complementingRefusal net (length out)) (length (complementSheet net)) (complementSheet net) out
-          (subst (λ c. told c .number ≢ 0) (allows .0) refused);
+          (subst (λ c. told c .carried .number ≢ 0) (allows .0) refused);
       run = λ net movements marking o allows refused. run-leads net movements marking (ap (λ ran. ran .accepted) (allows .0)) (allows .1);
       runNone = λ net movements marking o allows e.
           stays-is (rw e at (run-leads net movements marking (ap (λ ran. ran .accepted) (allows .0)) (allows .1)));

@@ -14,8 +14,8 @@ use Rattle.model.specs.declared.Why.the-variants.{Lacking}
 use Rattle.model.specs.Numbers.{∞}
 use Rattle.model.specs.First.{_▸_, first}
 use Rattle.model.specs.Nets.{modeNo, entryAt}
-use Rattle.model.specs.Refusals.{number, thing, position}
-use Rattle.model.specs.Runs.{Outcome, runFrom, run, certificateRefusal}
+use Rattle.model.specs.Refusals.{number, carried}
+use Rattle.model.specs.Runs.{Outcome, runFrom, run, elsewhere, endsAt, certificateRefusal}
 use Rattle.model.specs.Figures.{sum, figure, change}
 use Rattle.model.specs.Dead.{deadPair, isDead, firstDead}
 use Rattle.model.specs.Complement.{bounded, complementRow, newPlaces, arcsOf, complement, refusal15, refusal16, sheetLimits, complementRefusal}
@@ -53,6 +53,7 @@ use Rattle.complement.specs.Complemented as complementing
 use Rattle.complement.specs.Complemented.{roomRefusal, complementingRefusal}
 use Rattle.promises.specs.OwnExample.{example, RunsTo, OwnExample}
 use Rattle.promises.specs.OwnExample as own
+use Rattle.statement.specs.Example as sheets
 
 start-accepted : markingRefusal example (3 ∷ 0 ∷ []) ≡ none
 unfolding markingRefusal first _▸_
@@ -79,11 +80,11 @@ well-formed =
 pub read-back : ReadBack example
 read-back = written-then-read example well-formed
 
-pub weights-read : wholeWeights 2 own.weights ≡ none
+pub weights-read : wholeWeights 2 sheets.weights ≡ none
 unfolding wholeWeights weightsRefusal weightFields weightRefusal headRefusal bytesAfter first _▸_ signed u16At u32At
 weights-read = refl
 
-pub movements-read : wholeMovements own.movements ≡ none
+pub movements-read : wholeMovements sheets.movements ≡ none
 unfolding wholeMovements movementsRefusal movementFields headRefusal bytesAfter _▸_ u16At u32At
 movements-read = refl
 
@@ -129,16 +130,16 @@ before-run : (sheet : List ℕ) → wholeMovements sheet ≡ none → beforeRun 
 unfolding beforeRun
 before-run sheet e = none-then (read-back .accepted) (none-then e (rw (read-back .same) start-accepted))
 
-runs : run example (movementsOf own.movements) (3 ∷ 0 ∷ []) ≡ stops
+runs : run example (movementsOf sheets.movements) (3 ∷ 0 ∷ []) ≡ stops
 unfolding runFrom movementsOf table u16At u32At modeRefusal rowRefusal ruleRefusal first _▸_ entryAt fired
 runs = refl
 
-run-is : runOf own.net own.movements (3 ∷ 0 ∷ []) ≡ stops
+run-is : runOf own.net sheets.movements (3 ∷ 0 ∷ []) ≡ stops
 unfolding runOf
-run-is = rw (before-run own.movements movements-read, read-back .same) runs
+run-is = rw (before-run sheets.movements movements-read, read-back .same) runs
 
 certificate : certificateRefusal example (movementsOf own.three) (0 ∷ 3 ∷ []) ≡ none
-unfolding certificateRefusal runFrom movementsOf table u16At u32At modeRefusal rowRefusal ruleRefusal first _▸_ entryAt fired
+unfolding certificateRefusal endsAt elsewhere runFrom movementsOf table u16At u32At modeRefusal rowRefusal ruleRefusal first _▸_ entryAt fired
 certificate = refl
 
 certifies : certifyRefusal own.net own.three (0 ∷ 3 ∷ []) ≡ none
@@ -146,22 +147,22 @@ unfolding certifyRefusal
 certifies = none-then (read-back .accepted) (none-then three-read (rw (read-back .same) certificate))
 
 pub runs-whole : runOf own.net own.three (3 ∷ 0 ∷ []) .refusal ≡ none
-unfolding runOf certificateRefusal
+unfolding runOf certificateRefusal endsAt
 runs-whole = rw (before-run own.three three-read, read-back .same) (left-none _ _ (right-none _ _ certificate))
 
-figure-accepted : figureRefusal own.net own.weights (3 ∷ 0 ∷ []) ≡ none
+figure-accepted : figureRefusal own.net sheets.weights (3 ∷ 0 ∷ []) ≡ none
 unfolding figureRefusal
 figure-accepted = none-then (read-back .accepted) (rw (read-back .same) (none-then weights-read start-accepted))
 
-figure-is : figure example (weightsOf own.weights) (3 ∷ 0 ∷ []) ≡ pos 750
+figure-is : figure example (weightsOf sheets.weights) (3 ∷ 0 ∷ []) ≡ pos 750
 unfolding figure sum weightsOf table signed u16At u32At
 figure-is = refl
 
-change-accepted : changeRefusal own.net own.weights (modeNo 0) ≡ none
+change-accepted : changeRefusal own.net sheets.weights (modeNo 0) ≡ none
 unfolding changeRefusal
 change-accepted = none-then (read-back .accepted) (rw (read-back .same) (none-then weights-read refl))
 
-change-is : change example (weightsOf own.weights) (modeNo 0) ≡ negsuc 249
+change-is : change example (weightsOf sheets.weights) (modeNo 0) ≡ negsuc 249
 unfolding change sum weightsOf table signed u16At u32At entryAt
 change-is = refl
 
@@ -189,14 +190,12 @@ complement-accepted : complementingRefusal own.net (length own.room) ≡ none
 unfolding complementingRefusal roomRefusal
 complement-accepted = none-then (read-back .accepted) (rw (read-back .same) (none-then (complement-passes (arcOffset own.net)) (rw complement-length)))
 
-run-allows : (o : Ran × List ℕ) → RunAllows own.net own.movements (3 ∷ 0 ∷ []) o → RunsTo o
+run-allows : (o : Ran × List ℕ) → RunAllows own.net sheets.movements (3 ∷ 0 ∷ []) o → RunsTo o
 run-allows o a =
     let told : o .0 ≡ ranOf stops = a .0 ∙ ap ranOf run-is in
     record {
       accepted = ap (λ r. r .accepted) told;
-      refusedBy = ap (λ r. number (r .answer)) told;
-      itsThing = ap (λ r. thing (r .answer)) told;
-      pair = ap (λ r. position (r .answer)) told;
+      refused = ap (λ r. carried (r .answer)) told;
       marking = a .1 ∙ ap (λ r. r .marking) run-is;
     }
 

@@ -11,7 +11,6 @@ use Rattle.model.proofs.Demand3.{demand3}
 use Rattle.model.proofs.Edges.{starred}
 use Rattle.model.proofs.Steps.{step-rule, step-after, step-of-one}
 use Rattle.model.proofs.CorrespondingSteps.{steps-back, steps-forth, step-examples}
-use Rattle.sheets.proofs.RefusalTables.{sheet-tables}
 use Rattle.sheets.proofs.Accepted.{well-formed}
 use Rattle.sheets.proofs.Lists.{movements-within, weights-within}
 use Rattle.lists.proofs.Signs.{signed-weights}
@@ -38,64 +37,59 @@ use Rattle.promises.proofs.OwnExample.{own-example}
 pub promises : Promises
 promises =
     record {
-      nets =
-          record {
-            refusalTable = refusal-table;
-            rule = rule;
-            modeRule = mode-rule;
-            markingAfter = marking-after;
-            withoutArcs = without-arcs;
-            markingTest = marking-test;
-            markingKept = marking-kept;
-            runs = runs;
-            certificates = certificates;
-            figureAfter = figure-after;
-            deadModes = dead-modes;
-            firstDead = first-dead;
-            figure64 = figure-64;
-            arcByArc = arc-by-arc;
-            workedExamples = worked-examples;
-            demand3 = demand3;
-            edges = starred;
-            stepRule = step-rule;
-            stepAfter = step-after;
-            stepOfOne = step-of-one;
-            stepsBack = steps-back;
-            stepsForth = steps-forth;
-            stepExamples = step-examples;
-          };
-      sheets =
-          record {
-            sheetTables = sheet-tables;
-            acceptedNet = well-formed;
-            acceptedMovements = movements-within;
-            acceptedWeights = weights-within;
-            signedWeights = signed-weights;
-            writtenThenRead = written-then-read;
-            readThenWritten = read-then-written;
-            largestSheet = largest-sheet;
-            exampleLengths = example-lengths;
-          };
-      calls =
-          record {
-            acceptedBegin = accepted-begin;
-            acceptedFire = accepted-fire;
-            markingStays = marking-stays;
-            runsLeave = runs-leave;
-            runsKeep = runs-keep;
-            certified = certified;
-            figureIsSum = figure-is-sum;
-            changeIsSum = change-is-sum;
-            figureFired = figure-fired;
-            figureOverRun = figure-over-run;
-            saysDead = says-dead;
-            namesFirst = names-first;
-            overBytes = over-bytes;
-            twoRuns = two-runs;
-            twoSteps = two-steps;
-            decimals = decimals;
-            textOfRun = text-of-run;
-            printed = printed;
-          };
-      contracts = record { demandOne = demand-one; demandOneForC = demand-one-for-c; callTables = call-tables; uniqueness = uniqueness; frauds = frauds; ownExample = own-example };
+      refusalTable = refusal-table;
+      rule = rule;
+      modeRule = mode-rule;
+      markingAfter = marking-after;
+      withoutArcs = without-arcs;
+      markingTest = marking-test;
+      markingKept = marking-kept;
+      runs = runs;
+      certificates = certificates;
+      figureAfter = figure-after;
+      deadModes = dead-modes;
+      firstDead = first-dead;
+      figure64 = figure-64;
+      arcByArc = arc-by-arc;
+      workedExamples = worked-examples;
+      demand3 = demand3;
+      edges = starred;
+      stepRule = step-rule;
+      stepAfter = step-after;
+      stepOfOne = step-of-one;
+      stepsBack = steps-back;
+      stepsForth = steps-forth;
+      stepExamples = step-examples;
+      acceptedNet = well-formed;
+      acceptedMovements = movements-within;
+      acceptedWeights = weights-within;
+      signedWeights = signed-weights;
+      writtenThenRead = written-then-read;
+      readThenWritten = read-then-written;
+      largestSheet = largest-sheet;
+      exampleLengths = example-lengths;
+      acceptedBegin = accepted-begin;
+      acceptedFire = accepted-fire;
+      markingStays = marking-stays;
+      runsLeave = runs-leave;
+      runsKeep = runs-keep;
+      certified = certified;
+      figureIsSum = figure-is-sum;
+      changeIsSum = change-is-sum;
+      figureFired = figure-fired;
+      figureOverRun = figure-over-run;
+      saysDead = says-dead;
+      namesFirst = names-first;
+      overBytes = over-bytes;
+      twoRuns = two-runs;
+      twoSteps = two-steps;
+      decimals = decimals;
+      textOfRun = text-of-run;
+      printed = printed;
+      demandOne = demand-one;
+      demandOneForC = demand-one-for-c;
+      callTables = call-tables;
+      uniqueness = uniqueness;
+      frauds = frauds;
+      ownExample = own-example;
     }

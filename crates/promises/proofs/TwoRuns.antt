@@ -15,7 +15,7 @@ use Rattle.model.proofs.First.{left-none, none-then, then-none}
 use Rattle.model.proofs.Markings.{marking-test}
 use Rattle.model.proofs.ComplementNet.{start-corresponds}
 use Rattle.model.proofs.ComplementWellFormed.{corresponds-marking}
-use Rattle.model.proofs.Demand3.{runs-alike, refusals, both-whole}
+use Rattle.model.proofs.Demand3.{runs-alike, refusals}
 use Rattle.sheets.specs.Whole.{wholeNet, wholeMovements}
 use Rattle.sheets.specs.Decoded.{netOf, movementsOf}
 use Rattle.fire.specs.Calls.{beginRefusal, begun}
@@ -78,7 +78,6 @@ module _ (net sheet movements marking marking′ : List ℕ) (c : Complementable
       let both = runs-alike (netOf net) (c .wellFormed) (c .offset) no15 ts marking marking′ h in
       record {
         accepted = rw (in-net, in-complement, e) (both .accepted);
-        whole = rw (in-net, in-complement, e) (both-whole (netOf net) (c .wellFormed) (c .offset) no15 ts marking marking′ h);
         sheetRefused = λ r q. absurd (Option·none-ne-some r (sym e ∙ q));
         refusal = λ q. rw (in-net, in-complement, e) (refusals (netOf net) (c .wellFormed) (c .offset) no15 ts marking marking′ h);
         atEnd = rw (in-net, in-complement, e) (both .marking);
@@ -86,7 +85,6 @@ module _ (net sheet movements marking marking′ : List ℕ) (c : Complementable
   agreed (some x) e =
       record {
         accepted = rw (in-net, in-complement, e);
-        whole = rw (in-net, in-complement, e) (λ e. e, λ e. e);
         sheetRefused = λ r q. rw (in-net, in-complement, e) (sym e ∙ q, sym e ∙ q, refl);
         refusal = λ q. absurd (Option·none-ne-some x (sym q ∙ e));
         atEnd = rw (in-net, in-complement, e) h;

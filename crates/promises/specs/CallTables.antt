@@ -7,19 +7,17 @@ use mathlib.Core.Logic.{_⊎_, _≢_}
 use mathlib.Core.Option.{none}
 use lib.ListN.{length, take, getD}
 use Rattle.model.specs.declared.Mode.{Mode}
-use Rattle.model.specs.RefusalTables.{carries, Table, row, _then_, each, Reads, oneEachTable, markingTable, missingTable, modeTable}
+use Rattle.model.specs.Refusals.{carries}
+use Rattle.model.specs.RefusalTables.{Table, row, _then_, each, Reads, oneEachTable, markingTable, missingTable, modeTable}
 use Rattle.model.specs.Numbers.{fin, ∞, Above, limit}
 use Rattle.model.specs.Rows.{Entry}
 use Rattle.model.specs.Nets.{NetArc, PNet, total, pairs, modeNo, K, count, arcNo, row as modeRow}
 use Rattle.model.specs.Firing.{fired}
 use Rattle.model.specs.Complement.{complementEntry, complement}
 use Rattle.heads.specs.Layout.{sheetEnd}
-use Rattle.nets.specs.Nets.{netRefusal}
-use Rattle.lists.specs.Weights.{weightsRefusal}
-use Rattle.lists.specs.Movements.{movementsRefusal}
 use Rattle.sheets.specs.Whole.{wholeNet, wholeWeights, wholeMovements}
 use Rattle.sheets.specs.Decoded.{netOf, movementsOf}
-use Rattle.sheets.specs.RefusalTables.{netTable, weightTable, movementTable}
+use Rattle.sheets.specs.RefusalTables.{netTable, weightTable, movementTable, SheetTables}
 use Rattle.opened.specs.Shape.{arcOffset}
 use Rattle.written.specs.Written.{sheetOf}
 use Rattle.fire.specs.Calls.{beginRefusal, testRefusal}
@@ -152,9 +150,8 @@ module _ (net movements marking : List ℕ) where
 
 -- a field for each public call that answers: its first refusal is the one that its table gives, for all that it may be given
 pub record CallTables : Type 0 where
-  pub readNet : (s : List ℕ) → Reads (netTable s) (netRefusal s)
-  pub readWeights : (pairs : ℕ) (s : List ℕ) → Reads (weightTable pairs s) (weightsRefusal pairs s)
-  pub readMovements : (s : List ℕ) → Reads (movementTable s) (movementsRefusal s)
+  -- read net, read weights and read movements
+  pub sheets : SheetTables
   -- a whole net sheet, first dead and size
   pub wholeNet : (s : List ℕ) → Reads (wholeNetTable s) (wholeNet s)
   pub wholeWeights : (pairs : ℕ) (s : List ℕ) → Reads (wholeWeightTable pairs s) (wholeWeights pairs s)

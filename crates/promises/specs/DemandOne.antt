@@ -35,7 +35,7 @@ pub record DemandOne : Type 0 where
   pub begin : (net marking : List ℕ) (o : Answer × List ℕ) → BeginAllows net marking o → Refused (o .0) → o .1 ≡ marking
   pub fire : (net marking : List ℕ) (t : Mode) (o : Answer × List ℕ) → FireAllows net marking t o → Refused (o .0) → o .1 ≡ marking
   pub fireStep : (net marking modes : List ℕ) (o : Answer × List ℕ) → FireStepAllows net marking modes o → Refused (o .0) → o .1 ≡ marking
-  pub complement : (net out : List ℕ) (o : Complemented × List ℕ) → ComplementAllows net out o → told (o .0) .number ≢ 0 → o .1 ≡ out
+  pub complement : (net out : List ℕ) (o : Complemented × List ℕ) → ComplementAllows net out o → told (o .0) .carried .number ≢ 0 → o .1 ≡ out
   -- the exception; with none accepted the marking is as it was
   pub run : (net movements marking : List ℕ) (o : Ran × List ℕ) → RunAllows net movements marking o → Refused (o .0 .answer)
       → Leads (netOf net) (take (o .0 .accepted) (movementsOf movements)) marking (o .1)

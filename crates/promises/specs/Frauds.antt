@@ -37,7 +37,7 @@ WritesNothing = (net marking : List ℕ) (t : Mode) (p : ℕ) → p < pairs (net
 pub record CopiesNet : Type 0 where
   -- where complementing accepts, the net's own sheet is no output
   pub excluded : (net out : List ℕ) (p k : ℕ) → p < pairs (netOf net) → K (netOf net) p ≡ fin k
-      → (o : Complemented × List ℕ) → ComplementAllows net out o → told (o .0) .number ≡ 0 → take (length net) (o .1) ≢ net
+      → (o : Complemented × List ℕ) → ComplementAllows net out o → told (o .0) .carried .number ≡ 0 → take (length net) (o .1) ≢ net
   -- no marking of the copy corresponds to one of the net: it has no pair that holds the rest of the capacity
   pub noSum : (net : PNet) (m m′ : List ℕ) → length m′ ≡ pairs net → (p k : ℕ) → p < pairs net → K net p ≡ fin k → ¬ Corresponds net m m′
 

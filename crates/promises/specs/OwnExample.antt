@@ -7,7 +7,7 @@ use mathlib.Core.Option.{none}
 use lib.IntN.{pos, negsuc}
 use lib.ListN.{replicate}
 use Rattle.model.specs.declared.Answer.{Answer}
-use Rattle.model.specs.Refusals.{number, thing, position}
+use Rattle.model.specs.Refusals.{number, carries, carried}
 use Rattle.model.specs.Replies.{yields}
 use Rattle.model.specs.Nets.{PNet, modeNo}
 use Rattle.model.specs.WorkedExamples.{ownExample}
@@ -30,6 +30,7 @@ use Rattle.size.specs.Contracts.{SizeAllows}
 use Rattle.complement.specs.declared.Complemented.{Complemented}
 use Rattle.complement.specs.Complemented as complementing
 use Rattle.complement.specs.Contracts.{ComplementAllows}
+use Rattle.statement.specs.Example.{weights, movements}
 
 -- "two places, aboard (one colour, K 5, first 3) and ashore (one colour, unbounded, first 0); one transition of one mode; arcs 0,0 with Pre 1, Post 0, I 4
 -- and 0,1 with Pre 0, Post 1, I unbounded"
@@ -39,14 +40,7 @@ example = ownExample .net
 abbrev pub net : List ℕ
 net = sheetOf example
 
--- "Weights 250 and 0 (L = 11). Movements 0, 0, 0, 0 (L = 9)."
-abbrev pub weights : List ℕ
-weights = 0 ∷ 0 ∷ 0 ∷ 11 ∷ 1 ∷ 0 ∷ 2 ∷ 0 ∷ 0 ∷ 0 ∷ 250 ∷ 0 ∷ 0 ∷ 0 ∷ 0 ∷ []
-
-abbrev pub movements : List ℕ
-movements = 0 ∷ 0 ∷ 0 ∷ 9 ∷ 1 ∷ replicate 8 0
-
--- the three of them that are accepted
+-- the three of its movements that are accepted
 abbrev pub three : List ℕ
 three = 0 ∷ 0 ∷ 0 ∷ 7 ∷ 1 ∷ replicate 6 0
 
@@ -56,9 +50,7 @@ room = replicate 91 0
 
 pub record RunsTo (o : Ran × List ℕ) : Type 0 where
   pub accepted : o .0 .accepted ≡ 3
-  pub refusedBy : number (o .0 .answer) ≡ 11
-  pub itsThing : thing (o .0 .answer) ≡ 2
-  pub pair : position (o .0 .answer) ≡ 0
+  pub refused : carried (o .0 .answer) ≡ carries 11 2 0
   pub marking : o .1 ≡ 0 ∷ 3 ∷ []
 
 pub record OwnExample : Type 0 where

@@ -4,7 +4,6 @@ use Rattle.model.specs.Edges.{Edges}
 use Rattle.model.specs.WorkedExamples.{WorkedExamples}
 use Rattle.model.specs.DemandThree.{Demand3}
 use Rattle.model.specs.Steps as step
-use Rattle.sheets.specs.RefusalTables.{SheetTables}
 use Rattle.sheets.specs.Accepted.{AcceptedNet, AcceptedMovements, AcceptedWeights}
 use Rattle.lists.specs.Promises.{SignedWeights}
 use Rattle.written.specs.Promises.{WrittenThenRead, ReadThenWritten, LargestSheet, ExampleLengths}
@@ -25,8 +24,8 @@ use Rattle.promises.specs.Uniqueness.{Uniqueness}
 use Rattle.promises.specs.Frauds.{Frauds}
 use Rattle.promises.specs.OwnExample.{OwnExample}
 
--- of nets, markings and lists of modes
-pub record OfNets : Type 0 where
+pub record Promises : Type 0 where
+  -- of nets, markings and lists of modes
   pub refusalTable : model.RefusalTable
   pub rule : model.Rule
   pub modeRule : model.ModeRule
@@ -50,10 +49,7 @@ pub record OfNets : Type 0 where
   pub stepsBack : step.StepsBack
   pub stepsForth : step.StepsForth
   pub stepExamples : step.StepExamples
-
--- of sheets, read and written
-pub record OfSheets : Type 0 where
-  pub sheetTables : SheetTables
+  -- of sheets, read and written
   pub acceptedNet : AcceptedNet
   pub acceptedMovements : AcceptedMovements
   pub acceptedWeights : AcceptedWeights
@@ -62,9 +58,7 @@ pub record OfSheets : Type 0 where
   pub readThenWritten : ReadThenWritten
   pub largestSheet : LargestSheet
   pub exampleLengths : ExampleLengths
-
--- of the calls, over the bytes that they are given
-pub record OfCalls : Type 0 where
+  -- of the calls, over the bytes that they are given
   pub acceptedBegin : AcceptedBegin
   pub acceptedFire : AcceptedFire
   pub markingStays : MarkingStays
@@ -83,18 +77,10 @@ pub record OfCalls : Type 0 where
   pub decimals : Decimals
   pub textOfRun : TextOfRun
   pub printed : Printed
-
--- of the contracts of the calls
-pub record OfContracts : Type 0 where
+  -- of the contracts of the calls
   pub demandOne : DemandOne
   pub demandOneForC : DemandOneForC
   pub callTables : CallTables
   pub uniqueness : Uniqueness
   pub frauds : Frauds
   pub ownExample : OwnExample
-
-pub record Promises : Type 0 where
-  pub nets : OfNets
-  pub sheets : OfSheets
-  pub calls : OfCalls
-  pub contracts : OfContracts

@@ -3,7 +3,6 @@
 use Prim.Native.Nat.{ℕ}
 use mathlib.Core.Path.{_≡_}
 use mathlib.Core.List.{List}
-use mathlib.Core.Logic.{_↔_}
 use mathlib.Core.Option.{none, some}
 use lib.ListN.{getD}
 use Rattle.model.specs.declared.Mode.{Mode}
@@ -35,7 +34,6 @@ module _ (net complement movements marking marking′ : List ℕ) where
   pub record RunsAgree : Type 0 where
     -- "both accept the same movements and stop at the same one", or run whole
     pub accepted : inComplement .accepted ≡ inNet .accepted
-    pub whole : (inComplement .refusal ≡ none) ↔ (inNet .refusal ≡ none)
     -- a movement sheet that is refused is refused alike, before the first movement
     pub sheetRefused : (r : Refusal) → wholeMovements movements ≡ some r
         → (inNet .refusal ≡ some r) × (inComplement .refusal ≡ some r) × (inNet .accepted ≡ 0)

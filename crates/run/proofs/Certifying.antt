@@ -9,10 +9,10 @@ use Rattle.model.specs.declared.Answer.the-variants.{Accepted, Refused}
 use Rattle.model.specs.First.{first}
 use Rattle.model.specs.Refusals.{answer}
 use Rattle.model.specs.Nets.{PNet, pairs}
-use Rattle.model.specs.Runs.{run}
+use Rattle.model.specs.Runs.{run, elsewhere, endsAt}
 use Rattle.model.proofs.Refusals.{answer-stops, answer-goes-on}
 use Rattle.run.specs.declared.Ran.{Ran}
-use Rattle.run.specs.Parts.{Reports, elsewhere, endsAt}
+use Rattle.run.specs.Parts.{Reports}
 
 module _ (net : PNet) (ts : List Mode) (claim : List ℕ) {m : List ℕ} {told : Ran} {left : List ℕ} (begins : m ≡ net .start)
     (reports : Reports (run net ts m) told left) where

@@ -2,22 +2,15 @@
 -- A reader of the promises may skip this file.
 use Prim.Native.Nat.{ℕ, _≤_, _<_}
 use mathlib.Core.Path.{_≡_}
-use mathlib.Core.Bool.{not}
 use mathlib.Core.List.{List}
 use mathlib.Core.Option.{Option}
 use lib.ListN.{length, getD}
-use lib.Dec.{eqb}
-use Rattle.model.specs.declared.Mode.{Mode}
-use Rattle.model.specs.declared.Thing.the-variants.{Argument}
-use Rattle.model.specs.declared.Fault.the-variants.{EndsElsewhere}
 use Rattle.model.specs.declared.Refusal.{Refusal}
-use Rattle.model.specs.First.{_▸_, first, onlyIf}
-use Rattle.model.specs.Nets.{PNet, pairs, pairNo, count, arcNo}
+use Rattle.model.specs.Nets.{PNet, arcNo}
 use Rattle.model.specs.Firing.{roomAt}
-use Rattle.model.specs.Runs.{Outcome, goOn, run}
+use Rattle.model.specs.Runs.{Outcome, goOn}
 use Rattle.model.specs.PassBelow.{passBelow}
 use Rattle.opened.specs.declared.shape.NetShape.{NetShape}
-use Rattle.model.specs.Refusals.{wrong}
 use Rattle.sheets.specs.Decoded.{netOf}
 use Rattle.opened.specs.Shape.{Open}
 use Rattle.opened.specs.Starts.{StartsAre}
@@ -50,10 +43,3 @@ pub record Reports (o : Outcome) (told : Ran) (left : List ℕ) : Type 0 where
 -- a run that is refused by o before its first movement, or has the outcome `next`
 pub record Begins (o : Option Refusal) (m : List ℕ) (next : Outcome) (told : Ran) (left : List ℕ) : Type 0 where
   pub reports : Reports (goOn o 0 m next) told left
-
--- 18: "certificate ends at another marking", at pair p; and the run from the first marking before it
-unfoldable pub elsewhere : List ℕ → List ℕ → ℕ → Option Refusal
-elsewhere last claim p = onlyIf (not (eqb (count last p) (count claim p))) (wrong Argument (EndsElsewhere (pairNo p)))
-
-unfoldable pub endsAt : PNet → List Mode → List ℕ → Option Refusal
-endsAt net ts claim = run net ts (net .start) .refusal ▸ first (pairs net) (elsewhere (run net ts (net .start) .marking) claim)

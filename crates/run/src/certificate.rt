@@ -17,7 +17,7 @@ ghost use Rattle.model.specs.Runs.{certificateRefusal};
 ghost use Rattle.lists.specs.Movements.{movementsRefusal};
 ghost use Rattle.sheets.specs.Decoded.{netOf, movementsOf};
 ghost use Rattle.opened.specs.Shape.{Open};
-ghost use Rattle.run.specs.Parts.{elsewhere, endsAt};
+ghost use Rattle.model.specs.Runs.{elsewhere, endsAt};
 
 fn pair_answer(last: &[u32], claim: &[u32], p: usize) -> Answer
     requires { ⌜ (p < length (now last)) × (p < length (now claim)) × (p < 256) ⌝ }

@@ -27,9 +27,13 @@ use Rattle.opened.proofs.Shapes.{sizes}
 use Rattle.opened.proofs.Segments.{below-none, first-stops, first-ends, in-turn, mode-arcs, mode-lists}
 use Rattle.halves.specs.declared.half.Half.{Half}
 use Rattle.halves.specs.declared.half.Half.the-variants.{Original, Complement}
-use Rattle.sections.specs.Arcs.{kept, halfArc, halfBytes, rowArcs, rowBytes}
+use Rattle.sections.specs.Arcs.{kept, halfArc, halfBytes, rowArcs}
 
 module _ (net : PNet) where
+  -- the complement's arcs of one mode, in bytes
+  abbrev pub rowBytes : ℕ → List ℕ
+  rowBytes t = flatMap arcBytes (rowArcs net t)
+
   abbrev pub keptHalf : Half → ℕ → List NetArc
   keptHalf half k = kept (halfArc net half k)
 
@@ -40,13 +44,13 @@ module _ (net : PNet) where
         mode-by-arcs (modeNo t) (pairs net) (K net) (row net (modeNo t)) count _ (mode-lists net wf (modeNo t) start count arcs)
         ∙ ap₂ (λ xs ys. xs ++ ys) (joined-ext count _ _ (λ i h. rw (← arcs .own i h))) (joined-ext count _ _ (λ i h. rw (← arcs .own i h)))
 
-    row-bytes : rowBytes net t ≡ joined count (halfBytes net Original start) ++ joined count (halfBytes net Complement start)
+    row-bytes : rowBytes t ≡ joined count (halfBytes net Original start) ++ joined count (halfBytes net Complement start)
     row-bytes =
         ap (flatMap arcBytes) row-halves
         ∙ section-append arcBytes (joined count (λ i. keptHalf Original (start + i))) _
         ∙ ap₂ (λ xs ys. xs ++ ys) (section-joined arcBytes count _) (section-joined arcBytes count _)
 
-  arcs-bytes : flatMap arcBytes (complement net .arcs) ≡ joined (modes net) (rowBytes net)
+  arcs-bytes : flatMap arcBytes (complement net .arcs) ≡ joined (modes net) rowBytes
   unfolding complement arcsOf rowArcs
   arcs-bytes = section-joined arcBytes (modes net) _
 

@@ -1,18 +1,16 @@
 -- The places of the complement, place by place.
 use Prim.Native.Nat.{ℕ, zero, suc, _+_, _-_, _≤_, _<_}
-use mathlib.Core.Path.{_≡_, refl, sym, _∙_, ap, ap₂}
-use mathlib.Core.List.{List, [], _∷_, _++_, append-assoc, append-nil, flatMap}
+use mathlib.Core.Path.{_≡_, sym, _∙_, ap, ap₂}
+use mathlib.Core.List.{List, [], _∷_, _++_, flatMap}
 use lib.ListN.{length, getD, take, length-append}
 use native.Mathlib.Omega.{arith}
-use native.Mathlib.Nat.{not-suc-le-zero}
 use borrow.Author.Tests.{lt-ltb}
-use Rattle.model.specs.Rows.{Capacities}
 use Rattle.model.specs.Nets.{PNet, total, pairs, K, firstPair}
 use Rattle.model.specs.WellFormed.{WellFormed}
-use Rattle.model.specs.Complement.{boundedBelow, newPlaces, complement}
+use Rattle.model.specs.Complement.{newPlaces, complement}
 use Rattle.model.specs.Lists.{joined}
 use Rattle.model.proofs.Joined.{joined-ext}
-use Rattle.model.proofs.Bounded.{below-none, below-split}
+use Rattle.model.proofs.ComplementNet.{total-next, new-places}
 use Rattle.opened.specs.declared.shape.NetShape.{NetShape}
 use Rattle.sheets.specs.Decoded.{netOf}
 use Rattle.opened.specs.Shape.{Open}
@@ -23,43 +21,11 @@ use Rattle.halves.specs.declared.half.Half.{Half}
 use Rattle.halves.specs.declared.half.Half.the-variants.{Original, Complement}
 use Rattle.sections.specs.Places.{coloursIn, placeIf, halfPlace, placeBytes}
 
--- where the pairs of the next place start
-total-next : (cs : List ℕ) (i : ℕ) → i < length cs → total (take (suc i) cs) ≡ total (take i cs) + getD cs i 0
-total-next [] i h = absurd (not-suc-le-zero h)
-total-next (c ∷ cs) zero h = omega arith
-total-next (c ∷ cs) (suc i) h = omega (arith, total-next cs i (omega arith))
-
 total-within : (cs : List ℕ) (i : ℕ) → total (take i cs) ≤ total cs
 total-within [] zero = omega arith
 total-within [] (suc i) = omega arith
 total-within (c ∷ cs) zero = omega arith
 total-within (c ∷ cs) (suc i) = omega (arith, total-within cs i)
-
-joined-front : {A : Type 0} (n : ℕ) (f : ℕ → List A) → joined (suc n) f ≡ f 0 ++ joined n (λ i. f (suc i))
-unfolding joined
-joined-front zero f = sym (append-nil (f 0))
-joined-front (suc n) f = rw (joined-front n f, append-assoc)
-
--- "as many colours as it has finite pairs"
-abbrev newPlace : Capacities → List ℕ → ℕ → List ℕ
-newPlace K cs i = placeIf (boundedBelow K (total (take (suc i) cs)) - boundedBelow K (total (take i cs)))
-
-new-places : (K : Capacities) (cs : List ℕ) → newPlaces K cs ≡ joined (length cs) (newPlace K cs)
-unfolding newPlaces joined
-new-places K [] = refl
-new-places K (c ∷ cs) =
-    let first : boundedBelow K (c + 0) - boundedBelow K 0 ≡ boundedBelow K c = let e : c + 0 ≡ c = omega arith in rw (e, below-none K) (omega arith) in
-    ap₂ (λ xs ys. xs ++ ys) (ap placeIf (sym first))
-    (new-places (λ p. K (c + p)) cs ∙ joined-ext (length cs) _ (λ i. newPlace K (c ∷ cs) (suc i)) same)
-    ∙ sym (joined-front (length cs) (newPlace K (c ∷ cs)))
-  where
-    same : (i : ℕ) → i < length cs → newPlace (λ p. K (c + p)) cs i ≡ newPlace K (c ∷ cs) (suc i)
-    same i h =
-        let first = total (take i cs) in
-        let end = total (take (suc i) cs) in
-        let e : boundedBelow (λ p. K (c + p)) end - boundedBelow (λ p. K (c + p)) first ≡ boundedBelow K (c + end) - boundedBelow K (c + first) =
-        omega (arith, below-split K c end, below-split K c first) in
-        ap placeIf e
 
 -- a place without colours is none
 pub no-place : {colours : ℕ} → colours ≡ 0 → [] ≡ placeIf colours

@@ -2,13 +2,13 @@
 -- A reader of the promises may skip this file.
 use Prim.Native.Nat.{ℕ, _+_}
 use mathlib.Core.List.{List, flatMap}
-use Rattle.model.specs.Nets.{NetArc, PNet, pairs, pairNo, modeNo, K, arcNo, row}
-use Rattle.model.specs.Complement.{complementPair, complementRow, written, allPairs}
+use Rattle.model.specs.Nets.{NetArc, PNet, pairs, modeNo, K, arcNo, row}
+use Rattle.model.specs.Complement.{complementRow, written, allPairs}
+use Rattle.model.specs.Promises.{onOriginal, onComplement}
 use Rattle.model.specs.Lists.{joined}
 use Rattle.written.specs.Written.{arcBytes}
 use Rattle.halves.specs.declared.half.Half.{Half}
 use Rattle.halves.specs.declared.half.Half.the-variants.{Original, Complement}
-use Rattle.halves.specs.Entries.{originalOf, complementAt}
 
 -- "Blank arcs are left out."
 abbrev pub kept : NetArc → List NetArc
@@ -20,8 +20,8 @@ keptBytes a = flatMap arcBytes (kept a)
 module _ (net : PNet) where
   -- a half of what an arc of the net becomes
   abbrev pub halfOf : Half → NetArc → NetArc
-  halfOf Original a = originalOf a
-  halfOf Complement a = complementAt (pairNo (complementPair (pairs net) (K net) (a .pair .0))) (K net (a .pair .0)) a
+  halfOf Original a = onOriginal a
+  halfOf Complement a = onComplement net a
 
   -- the same of the k-th arc
   abbrev pub halfArc : Half → ℕ → NetArc
@@ -34,6 +34,3 @@ module _ (net : PNet) where
   -- the complement's arcs of one mode
   unfoldable pub rowArcs : ℕ → List NetArc
   rowArcs t = joined (allPairs net) (λ p. written (modeNo t) p (complementRow (pairs net) (K net) (row net (modeNo t)) p))
-
-  abbrev pub rowBytes : ℕ → List ℕ
-  rowBytes t = flatMap arcBytes (rowArcs t)

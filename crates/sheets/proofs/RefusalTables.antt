@@ -15,14 +15,14 @@ use Rattle.model.specs.declared.Thing.the-variants.{Net, Weights, Movements}
 use Rattle.model.specs.declared.Fault.the-variants.{CutShort}
 use Rattle.model.specs.First.{onlyIf}
 use Rattle.model.specs.Numbers.{fin, ∞, limit}
-use Rattle.model.specs.RefusalTables.{carries, Reads}
+use Rattle.model.specs.RefusalTables.{Reads}
 use Rattle.model.proofs.First.{then-assoc}
 use Rattle.model.proofs.Decisions.{Decided, by-less, by-at-most, by-equal, by-above, by-not, by-or, by-and, by-other}
 use Rattle.model.proofs.RefusalTables.{reads-row, reads-plain, reads-then, reads-each, reads-either}
 use Rattle.heads.specs.Bytes.{u16At, u32At}
 use Rattle.heads.specs.Layout.{bodyLength, sheetEnd, weightCountAt, version, countAt, totalOf, pairAt, arcAt, arcCountAt, arcsAfter, placeCount, transitionCount, coloursAt, modesAt, pairCount, pairsAt, modeCount, movementCount, movementAt, weightCount, weightAt}
 use Rattle.heads.specs.Checks.{headRefusal, missing, leftOver, countRefusal}
-use Rattle.model.specs.Refusals.{wrong, thingNumber}
+use Rattle.model.specs.Refusals.{wrong, thingNumber, carries}
 use Rattle.lists.specs.Movements.{mostMovements, movementFields, movementsRefusal}
 use Rattle.lists.specs.Weights.{signed, weightRefusal, weightFields, weightsRefusal}
 use Rattle.fields.specs.Numbers.{unbounded, bound, outside}

@@ -7,7 +7,8 @@ use lib.ListN.{length}
 use lib.IntN.{ℤ, pos, negsuc}
 use lib.Signed.{_<ℤ_}
 use Rattle.model.specs.Numbers.{Above, limit}
-use Rattle.model.specs.RefusalTables.{carries, Table, row, _then_, each, Reads}
+use Rattle.model.specs.Refusals.{carries}
+use Rattle.model.specs.RefusalTables.{Table, row, _then_, each, Reads}
 use Rattle.heads.specs.Bytes.{u16At, u32At}
 use Rattle.heads.specs.Layout.{bodyLength, sheetEnd, version, countAt, totalOf, pairAt, capacityAt, startAt, arcAt, arcSize, arcModeAt, arcPairAt, preAt, postAt, inhibitorAt, placesAt, transitionsAt, coloursAt, arcsAfter, placeCount, transitionCount, modesAt, pairCount, modeCount, pairsAt, arcCountAt, movementCount, weightCountAt, weightCount, weightAt}
 use Rattle.lists.specs.Movements.{mostMovements, movementsRefusal}

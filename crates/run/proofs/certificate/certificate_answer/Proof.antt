@@ -5,7 +5,6 @@ use lib.Seq.{length-take-le}
 use Rattle.model.specs.Runs.{certificateRefusal}
 use Rattle.model.proofs.Refusals.{answer-passes, answer-fails}
 use Rattle.opened.proofs.Shapes.{sizes}
-use Rattle.run.specs.Parts.{elsewhere, endsAt}
 use Rattle.fire.proofs.Opened.{one-each, not-one-each}
 use Rattle.run.proofs.certificate.certificate_answer.Statement.{statement}
 use Rattle.run.proofs.certificate.certificate_answer.Tie as tie
@@ -28,7 +27,7 @@ end-answer-requires c κs =
     (pre .0, (pre .1, (c .before .if1 .left, length-take-le _ _ (sizes (pre .0) .pairsWithin))))
 
 returns-2 : tie.Need-returns-2
-unfolding certificateRefusal endsAt elsewhere
+unfolding certificateRefusal
 returns-2 c =
     let test = c .before .before .before in
     answer-passes _ _ (one-each (test .before .before .before .before .pre .0) _ (test .if1 .left)) (c .before .end-answer .ensures)

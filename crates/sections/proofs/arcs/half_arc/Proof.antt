@@ -3,7 +3,7 @@ use borrow.Author.Needs.{needs}
 use mathlib.Core.Path.{_∙_, ap}
 use native.Mathlib.Omega.{arith}
 use Rattle.opened.proofs.Shapes.{sizes}
-use Rattle.halves.specs.Entries.{originalOf}
+use Rattle.model.specs.Promises.{onOriginal}
 use Rattle.halves.proofs.Below.{entry-few}
 use Rattle.sections.proofs.Read.{small, complement-is}
 use Rattle.sections.proofs.arcs.half_arc.Statement.{statement}
@@ -21,7 +21,7 @@ complement-arc-requires : tie.Need-complement-arc-requires
 complement-arc-requires c κs = small (c .before .before .before .before .before .arc .ensures) (c .before .before .before .before .before .before .before .pre .0) _ (c .before .capacity .ensures)
 
 returns : tie.Need-returns
-returns c = rw (c .before .enum-told .given .1) (c .original-arc .ensures ∙ ap originalOf (c .before .before .before .before .arc .ensures .is))
+returns c = rw (c .before .enum-told .given .1) (c .original-arc .ensures ∙ ap onOriginal (c .before .before .before .before .arc .ensures .is))
 
 returns-2 : tie.Need-returns-2
 returns-2 c =

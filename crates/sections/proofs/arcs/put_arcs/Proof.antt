@@ -8,9 +8,8 @@ use Rattle.sheets.specs.Decoded.{netOf}
 use Rattle.opened.specs.Starts.{FirstFrom}
 use Rattle.opened.proofs.Shapes.{sizes}
 use Rattle.opened.proofs.Segments.{below-up}
-use Rattle.sections.specs.Arcs.{rowBytes}
 use Rattle.halves.specs.Puts.{Puts}
-use Rattle.sections.proofs.ModeHalves.{arc-parts, first-arc, ends-after, mode-part}
+use Rattle.sections.proofs.ModeHalves.{rowBytes, arc-parts, first-arc, ends-after, mode-part}
 use Rattle.halves.proofs.Puts.{room-as, puts-as, puts-none, room-more, puts-more, puts-end}
 use Rattle.sections.proofs.arcs.put_arcs.Statement.{statement}
 use Rattle.sections.proofs.arcs.put_arcs.Tie as tie
