@@ -18,6 +18,7 @@ use Rattle.statement.specs.Promises.{TextOfRun}
 use Rattle.statement.specs.Example.{Printed}
 use Rattle.promises.specs.TwoRuns.{TwoRuns}
 use Rattle.promises.specs.FigureOverRun.{FigureOverRun}
+use Rattle.promises.specs.LiveModes.{LiveModes}
 use Rattle.promises.specs.CallTables.{CallTables}
 use Rattle.promises.specs.Uniqueness.{Uniqueness}
 use Rattle.promises.specs.Frauds.{Frauds}
@@ -37,6 +38,8 @@ pub record OfNets : Type 0 where
   pub figureAfter : model.FigureAfter
   pub deadModes : model.DeadModes
   pub firstDead : model.FirstDead
+  pub deadExactly : model.DeadExactly
+  pub deadOrLive : model.DeadOrLive
   pub figure64 : model.Figure64
   pub arcByArc : model.ArcByArc
   pub workedExamples : WorkedExamples
@@ -69,6 +72,7 @@ pub record OfCalls : Type 0 where
   pub figureOverRun : FigureOverRun
   pub saysDead : SaysDead
   pub namesFirst : NamesFirst
+  pub liveModes : LiveModes
   pub overBytes : OverBytes
   pub twoRuns : TwoRuns
   pub decimals : Decimals

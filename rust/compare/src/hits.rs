@@ -87,7 +87,7 @@ pub struct Hits {
     runs: usize,
     whole: usize,
     longest: usize,
-    /// Values that are no numbers: yes, no, a mode named, none named; and what a text is of.
+    /// Values that are no numbers: yes, no, a mode named, none named; what a search for a marking found; what a text is of.
     values: BTreeMap<&'static str, usize>,
 }
 
@@ -133,6 +133,8 @@ impl Hits {
             "no",
             "named",
             "none named",
+            "a marking found",
+            "no marking found",
             "text of a whole run",
             "text of a stopped run",
             "text of a bad sheet",

@@ -17,11 +17,27 @@ impl Bound {
         if field == UNBOUNDED { Bound::Unbounded } else { Bound::Finite(field) }
     }
 
+    /// The least of two bounds.
+    pub fn least(self, other: Bound) -> Bound {
+        match (self, other) {
+            (Bound::Finite(one), Bound::Finite(two)) => Bound::Finite(one.min(two)),
+            (Bound::Unbounded, bound) | (bound, Bound::Unbounded) => bound,
+        }
+    }
+
     /// Whether a number is above the bound; nothing is above an unbounded one.
     pub fn is_below(self, number: u32) -> bool {
         match self {
             Bound::Finite(most) => number > most,
             Bound::Unbounded => false,
+        }
+    }
+
+    /// The bound less a number, unbounded where it is unbounded; none where the number is above it.
+    pub fn less(self, number: u32) -> Option<Bound> {
+        match self {
+            Bound::Finite(most) => most.checked_sub(number).map(Bound::Finite),
+            Bound::Unbounded => Some(Bound::Unbounded),
         }
     }
 }

@@ -26,6 +26,7 @@ mod size;
 mod weight_sheet;
 
 pub mod build;
+pub mod search;
 
 pub use answer::{Answer, Refusal, Thing};
 pub use begin::begin;
