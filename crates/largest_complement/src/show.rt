@@ -4,12 +4,14 @@ use complement::complement;
 use libc::STDOUT_FILENO;
 use model::Arc;
 use model::Fault;
+use model::Mode;
 use model::Pair;
 use opened::Opened;
+use opened::arcs::arc;
 use opened::open_net;
 use opened::shape::NetShape;
-use opened::shape::arc;
 use opened::shape::start_count;
+use opened::starts::find_arcs;
 ghost use Prim.Native.Nat.{_≤_};
 ghost use Rattle.opened.specs.Shape.{Open};
 
@@ -77,15 +79,19 @@ fn show_arc(arc: Arc) {
     show_last(arc.post as u64);
 }
 
+// Of the first mode.
 fn show_third_arc(s: &[u8], net: NetShape)
     requires { ⌜ Open (now s) net ⌝ }
 {
-    if 2 < net.arcs {
-        show_arc(arc(s, net, 2));
+    if 0 < net.modes {
+        let arcs = find_arcs(s, net, Mode(0));
+        if 2 < arcs.count {
+            show_arc(arc(s, net, arcs, 2));
+        }
     }
 }
 
-// The answer, and then the first marking and the third arc of the sheet that was written.
+// The answer, and then the first marking and the first mode's third arc of the sheet that was written.
 pub(crate) fn show_example(answer: Complemented, out: &[u8]) {
     show(answer);
     let opened = open_net(out);
