@@ -1,24 +1,29 @@
 -- The order of the refusals, and what an accepted call has room for.
-use Prim.Native.Nat.{ℕ, _≤_}
-use mathlib.Core.Path.{_≡_, refl, _∙_, ap, ap₂}
-use mathlib.Core.Bool.{not}
+use Prim.Native.Nat.{ℕ, _+_, _-_, _≤_}
+use mathlib.Core.Path.{_≡_, refl, sym, _∙_, ap, ap₂}
+use mathlib.Core.Bool.{true, not}
 use mathlib.Core.List.{List}
 use mathlib.Core.Option.{Option, none, some}
 use lib.Dec.{ltb}
 use lib.ListN.{length}
-use borrow.Author.Tests.{ltb-false}
+use borrow.Author.Tests.{ltb-false, not-true}
 use native.Mathlib.Omega.{arith}
 use Rattle.model.specs.declared.Thing.the-variants.{Net}
-use Rattle.model.specs.declared.Fault.the-variants.{NoRoom}
+use Rattle.model.specs.declared.Fault.the-variants.{NoRoom, InhibitedUnbounded, ComplementAbove}
 use Rattle.model.specs.declared.Refusal.{Refusal}
 use Rattle.model.specs.declared.Answer.{Answer}
+use Rattle.model.specs.declared.Answer.the-variants.{Accepted, Refused as Refused′}
+use Rattle.model.specs.Nets.{K, arcNo}
 use Rattle.model.specs.First.{_▸_, first, onlyIf}
 use Rattle.model.specs.Refusals.{answer, wrong}
-use Rattle.model.specs.Complement.{refusal15, refusal16, sheetLimits, complementRefusal}
-use Rattle.model.proofs.First.{then-assoc, right-none, only-if-none}
+use Rattle.model.specs.Complement.{complementEntry, inhibitsUnbounded, tooLarge, refusal15, refusal16, sheetLimits, complementRefusal}
+use Rattle.model.proofs.First.{then-assoc, none-then, right-none, first-all, first-split, only-if-none}
+use Rattle.model.proofs.Refusals.{answer-none, answer-stops}
 use Rattle.opened.specs.declared.shape.NetShape.{NetShape}
 use Rattle.sheets.specs.Decoded.{netOf}
 use Rattle.opened.specs.Shape.{Open, arcOffset}
+use Rattle.sections.specs.Arcs.{clearAt, every}
+use Rattle.sections.proofs.Every.{and-left, and-right, every-each}
 use Rattle.written.proofs.Puts.{from-start}
 use Rattle.complement.specs.declared.Complemented.the-variants.{Length, Refused}
 use Rattle.complement.specs.declared.sheet.Sizes.{Sizes}
@@ -35,6 +40,30 @@ pub each-obstacle : (s : List ℕ) (obstacle : Obstacle) → first (length (netO
 unfolding refusal15 refusal16
 each-obstacle s Inhibitor = refl
 each-obstacle s Number = refl
+
+-- where an arc of a mode's segment is refused, and where none is
+module _ (f : ℕ → Option Refusal) (start count : ℕ) (none-before : first start f ≡ none) where
+  pub stops-at : (n : ℕ) {a : Answer} {r : Refusal} → start + count ≤ n → a ≡ answer (first count (λ i. f (start + i))) → a ≡ Refused′ r → a ≡ answer (first n f)
+  stops-at n h e q =
+      let rest : start + count + (n - (start + count)) ≡ n = omega arith in
+      let all = first-split (start + count) (n - (start + count)) f ∙ ap (λ o. o ▸ first (n - (start + count)) (λ i. f (start + count + i))) (first-split start count f ∙ none-then none-before refl) in
+      answer-stops _ _ e q ∙ ap answer (sym (rw rest at all))
+
+  pub goes-on : {a : Answer} → a ≡ answer (first count (λ i. f (start + i))) → a ≡ Accepted → first (start + count) f ≡ none
+  goes-on e q = first-split start count f ∙ none-then none-before (answer-none _ e q)
+
+-- what the survey finds clear
+clear-here : (s : List ℕ) (obstacle : Obstacle) (k : ℕ) → clearAt (netOf s) k ≡ true → obstacleAt s obstacle k ≡ none
+unfolding clearAt
+clear-here s Inhibitor k e =
+    ap (λ b. onlyIf b (wrong Net (InhibitedUnbounded (arcOffset s k)))) (not-true (inhibitsUnbounded (netOf s) (arcNo (netOf s .arcs) k)) (and-left _ _ e))
+clear-here s Number k e =
+    let a = arcNo (netOf s .arcs) k in
+    ap (λ b. onlyIf b (wrong Net (ComplementAbove (arcOffset s k)))) (not-true (tooLarge (complementEntry (K (netOf s) (a .pair .0)) (a .entry))) (and-right (not (inhibitsUnbounded (netOf s) a)) _ e))
+
+pub clear-none : (s : List ℕ) (obstacle : Obstacle) → every (length (netOf s .arcs)) (clearAt (netOf s)) ≡ true → firstObstacle s obstacle ≡ none
+clear-none s obstacle e =
+    sym (each-obstacle s obstacle) ∙ first-all (length (netOf s .arcs)) (obstacleAt s obstacle) (λ k h. clear-here s obstacle k (every-each (clearAt (netOf s)) _ e k h))
 
 first-of : (o p : Option Refusal) → firstOf (answer o) (answer p) ≡ answer (o ▸ p)
 unfolding _▸_

@@ -13,6 +13,8 @@ use model::Refusal;
 use opened::Opened;
 use opened::open_net;
 use opened::shape::NetShape;
+use opened::starts::starts;
+use sections::survey::survey;
 ghost use mathlib.Core.Path.{_≡_};
 ghost use lib.ListN.{length};
 ghost use Rattle.opened.specs.Shape.{Open};
@@ -30,12 +32,14 @@ fn complement_open(s: &[u8], net: NetShape, out: &mut [u8]) -> Complemented
     ensures { λ r. ⌜ r ≡ complemented (roomRefusal (now (s .entry)) (length (now (out .entry)))) (length (complementSheet (now (s .entry)))) ⌝ }
     ensures { λ _. ⌜ now (out .exit) ≡ output (roomRefusal (now (s .entry)) (length (now (out .entry)))) (complementSheet (now (s .entry))) (now (out .entry)) ⌝ }
 {
+    let starts = starts(s, net);
     let below = bounded_below(s, net);
-    let sizes = complement_sizes(s, net, &below);
-    let answer = complement_answer(s, net, sizes, out.len());
+    let found = survey(s, net, &starts, &below);
+    let sizes = complement_sizes(s, net, &below, found.arcs);
+    let answer = complement_answer(s, net, &starts, found.clear, sizes, out.len());
     match answer {
         Answer::Refused(refusal) => Complemented::Refused(refusal),
-        Answer::Accepted => Complemented::Length(put_sheet(s, net, &below, sizes, out)),
+        Answer::Accepted => Complemented::Length(put_sheet(s, net, &starts, &below, sizes, out)),
     }
 }
 

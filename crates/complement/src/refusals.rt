@@ -4,16 +4,22 @@ use halves::entry::too_large;
 use heads::head::refused;
 use model::Answer;
 use model::Fault;
+use model::Mode;
 use model::Thing;
+use opened::arcs::arc;
+use opened::arcs::arc_offset;
 use opened::finite::is_finite;
 use opened::shape::NetShape;
-use opened::shape::arc;
-use opened::shape::arc_offset;
 use opened::shape::capacity;
+use opened::starts::Segment;
+use opened::starts::arcs_of;
 ghost use mathlib.Core.Path.{_≡_};
-ghost use Prim.Native.Nat.{_<_};
+ghost use Prim.Native.Nat.{_+_};
+ghost use Rattle.model.specs.First.{first};
 ghost use Rattle.model.specs.Refusals.{answer};
+ghost use Rattle.sheets.specs.Decoded.{netOf};
 ghost use Rattle.opened.specs.Shape.{Open};
+ghost use Rattle.opened.specs.Starts.{StartsAre, ModeArcs, OwnArc};
 ghost use Rattle.complement.specs.declared.refusals.Obstacle.the-variants.{Inhibitor, Number};
 ghost use Rattle.complement.specs.ArcRefusals.{obstacleAt, firstObstacle};
 
@@ -23,58 +29,88 @@ pub(crate) enum Obstacle {
     Number,
 }
 
-fn inhibitor_answer(s: &[u8], net: NetShape, k: usize) -> Answer
+fn inhibitor_answer(s: &[u8], net: NetShape, arcs: Segment, i: usize) -> Answer
     requires { ⌜ Open (now s) net ⌝ }
-    requires { ⌜ k < net .arcs ⌝ }
-    ensures { λ r. ⌜ r ≡ answer (obstacleAt (now (s .entry)) Inhibitor k) ⌝ }
+    requires { ⌜ OwnArc (netOf (now s) .arcs) arcs i ⌝ }
+    ensures { λ r. ⌜ r ≡ answer (obstacleAt (now (s .entry)) Inhibitor (arcs .start + i)) ⌝ }
 {
-    let a = arc(s, net, k);
+    let a = arc(s, net, arcs, i);
     if !is_finite(a.inhibitor) {
         return Answer::Accepted;
     }
     let pair = a.pair;
     if !is_finite(capacity(s, net, pair)) {
-        return refused(Thing::Net, Fault::InhibitedUnbounded(arc_offset(s, net, k)));
+        return refused(
+            Thing::Net,
+            Fault::InhibitedUnbounded(arc_offset(s, net, arcs, i)),
+        );
     }
     Answer::Accepted
 }
 
-fn number_answer(s: &[u8], net: NetShape, k: usize) -> Answer
+fn number_answer(s: &[u8], net: NetShape, arcs: Segment, i: usize) -> Answer
     requires { ⌜ Open (now s) net ⌝ }
-    requires { ⌜ k < net .arcs ⌝ }
-    ensures { λ r. ⌜ r ≡ answer (obstacleAt (now (s .entry)) Number k) ⌝ }
+    requires { ⌜ OwnArc (netOf (now s) .arcs) arcs i ⌝ }
+    ensures { λ r. ⌜ r ≡ answer (obstacleAt (now (s .entry)) Number (arcs .start + i)) ⌝ }
 {
-    let a = arc(s, net, k);
+    let a = arc(s, net, arcs, i);
     let pair = a.pair;
     if too_large(complement_arc(a, capacity(s, net, pair), pair)) {
-        return refused(Thing::Net, Fault::ComplementAbove(arc_offset(s, net, k)));
+        return refused(
+            Thing::Net,
+            Fault::ComplementAbove(arc_offset(s, net, arcs, i)),
+        );
     }
     Answer::Accepted
 }
 
-fn arc_answer(s: &[u8], net: NetShape, obstacle: Obstacle, k: usize) -> Answer
+fn arc_answer(s: &[u8], net: NetShape, obstacle: Obstacle, arcs: Segment, i: usize) -> Answer
     requires { ⌜ Open (now s) net ⌝ }
-    requires { ⌜ k < net .arcs ⌝ }
-    ensures { λ r. ⌜ r ≡ answer (obstacleAt (now (s .entry)) obstacle k) ⌝ }
+    requires { ⌜ OwnArc (netOf (now s) .arcs) arcs i ⌝ }
+    ensures { λ r. ⌜ r ≡ answer (obstacleAt (now (s .entry)) obstacle (arcs .start + i)) ⌝ }
 {
     match obstacle {
-        Obstacle::Inhibitor => inhibitor_answer(s, net, k),
-        Obstacle::Number => number_answer(s, net, k),
+        Obstacle::Inhibitor => inhibitor_answer(s, net, arcs, i),
+        Obstacle::Number => number_answer(s, net, arcs, i),
     }
 }
 
-pub(crate) fn arcs_answer(s: &[u8], net: NetShape, obstacle: Obstacle) -> Answer
+fn mode_answer(s: &[u8], net: NetShape, obstacle: Obstacle, arcs: Segment) -> Answer
     requires { ⌜ Open (now s) net ⌝ }
-    ensures { λ r. ⌜ r ≡ answer (firstObstacle (now (s .entry)) obstacle) ⌝ }
+    requires { ⌜ ModeArcs (netOf (now s) .arcs) (arcs .mode) (arcs .start) (arcs .count) ⌝ }
+    ensures { λ r. ⌜ r ≡ answer (first (arcs .count) (λ i. obstacleAt (now (s .entry)) obstacle (arcs .start + i))) ⌝ }
 {
-    let arcs = net.arcs;
-    let mut k = 0;
-    while k < arcs {
-        let answer = arc_answer(s, net, obstacle, k);
+    let count = arcs.count;
+    let mut i = 0;
+    while i < count {
+        let answer = arc_answer(s, net, obstacle, arcs, i);
         if let Answer::Refused(_) = answer {
             return answer;
         }
-        k += 1;
+        i += 1;
+    }
+    Answer::Accepted
+}
+
+pub(crate) fn arcs_answer(
+    s: &[u8],
+    net: NetShape,
+    starts: &[u16; 257],
+    obstacle: Obstacle,
+) -> Answer
+    requires { ⌜ Open (now s) net ⌝ }
+    requires { ⌜ StartsAre (netOf (now s) .arcs) (now starts) ⌝ }
+    ensures { λ r. ⌜ r ≡ answer (firstObstacle (now (s .entry)) obstacle) ⌝ }
+{
+    let modes = net.modes;
+    let mut t = 0;
+    while t < modes {
+        let arcs = arcs_of(s, net, starts, Mode(t as u16));
+        let answer = mode_answer(s, net, obstacle, arcs);
+        if let Answer::Refused(_) = answer {
+            return answer;
+        }
+        t += 1;
     }
     Answer::Accepted
 }

@@ -11,9 +11,12 @@ use written::sheet_size;
 ghost use mathlib.Core.Path.{_≡_};
 ghost use Prim.Native.Nat.{_≤_};
 ghost use lib.Dec.{ltb};
+ghost use lib.ListN.{length};
 ghost use Rattle.model.specs.Refusals.{answer};
 ghost use Rattle.sheets.specs.Decoded.{netOf};
 ghost use Rattle.opened.specs.Shape.{Open};
+ghost use Rattle.opened.specs.Starts.{StartsAre};
+ghost use Rattle.sections.specs.Arcs.{clearAt, every};
 ghost use Rattle.complement.specs.Complemented.{roomRefusal};
 ghost use Rattle.complement.specs.Sizes.{SizesAre, Few, inLimits, sizesRefusal, firstOf};
 
@@ -64,13 +67,25 @@ fn then(this: Answer, that: Answer) -> Answer
     that
 }
 
-pub(crate) fn complement_answer(s: &[u8], net: NetShape, sizes: Sizes, room: usize) -> Answer
+pub(crate) fn complement_answer(
+    s: &[u8],
+    net: NetShape,
+    starts: &[u16; 257],
+    clear: bool,
+    sizes: Sizes,
+    room: usize,
+) -> Answer
     requires { ⌜ Open (now s) net ⌝ }
+    requires { ⌜ StartsAre (netOf (now s) .arcs) (now starts) ⌝ }
+    requires { ⌜ clear ≡ every (length (netOf (now s) .arcs)) (clearAt (netOf (now s))) ⌝ }
     requires { ⌜ SizesAre (netOf (now s)) sizes × Few sizes ⌝ }
     ensures { λ r. ⌜ r ≡ answer (roomRefusal (now (s .entry)) room) ⌝ }
 {
-    let inhibitors = arcs_answer(s, net, Obstacle::Inhibitor);
-    let numbers = arcs_answer(s, net, Obstacle::Number);
     let sizes_fit = room_answer(sizes, net.transitions, room);
+    if clear {
+        return sizes_fit;
+    }
+    let inhibitors = arcs_answer(s, net, starts, Obstacle::Inhibitor);
+    let numbers = arcs_answer(s, net, starts, Obstacle::Number);
     then(inhibitors, then(numbers, sizes_fit))
 }

@@ -2,7 +2,6 @@
 use halves::bounded::bounded_between;
 use halves::pairs::put_pairs;
 use opened::shape::NetShape;
-use sections::arcs::count_arcs;
 use sections::arcs::put_arcs;
 use sections::places::count_new_places;
 use sections::places::put_modes;
@@ -16,6 +15,7 @@ ghost use lib.ListN.{length};
 ghost use Rattle.model.specs.Complement.{complement};
 ghost use Rattle.sheets.specs.Decoded.{netOf};
 ghost use Rattle.opened.specs.Shape.{Open};
+ghost use Rattle.opened.specs.Starts.{StartsAre};
 ghost use Rattle.written.specs.Written.{sheetOf};
 ghost use Rattle.halves.specs.Bounded.{BelowAre};
 ghost use Rattle.complement.specs.Sizes.{SizesAre, Few, countsBytes, recordsBytes, arcsBytes};
@@ -28,16 +28,17 @@ pub(crate) struct Sizes {
     pub arcs: usize,
 }
 
-pub(crate) fn complement_sizes(s: &[u8], net: NetShape, below: &[u16; 257]) -> Sizes
+pub(crate) fn complement_sizes(s: &[u8], net: NetShape, below: &[u16; 257], arcs: usize) -> Sizes
     requires { ⌜ Open (now s) net ⌝ }
     requires { ⌜ BelowAre (netOf (now s)) (now below) ⌝ }
+    requires { ⌜ (arcs ≡ length (complement (netOf (now s)) .arcs)) × (arcs ≤ 4096) ⌝ }
     ensures { λ r. ⌜ SizesAre (netOf (now (s .entry))) r × Few r ⌝ }
 {
     let pairs = net.pairs;
     Sizes {
         places: net.places + count_new_places(s, net, below),
         pairs: pairs + bounded_between(below, 0, pairs),
-        arcs: count_arcs(s, net, below),
+        arcs,
     }
 }
 
@@ -68,29 +69,33 @@ fn put_records(s: &[u8], net: NetShape, below: &[u16; 257], out: &mut [u8], at: 
 fn put_counted_arcs(
     s: &[u8],
     net: NetShape,
+    starts: &[u16; 257],
     below: &[u16; 257],
     arcs: usize,
     out: &mut [u8],
     at: usize,
 ) -> usize
     requires { ⌜ Open (now s) net ⌝ }
+    requires { ⌜ StartsAre (netOf (now s) .arcs) (now starts) ⌝ }
     requires { ⌜ BelowAre (netOf (now s)) (now below) ⌝ }
     requires { ⌜ (arcs ≡ length (complement (netOf (now s)) .arcs)) × (arcs ≤ 4096) ⌝ }
     requires { ⌜ Room (now out) at (arcsBytes (complement (netOf (now s)))) ⌝ }
     ensures { λ r. ⌜ Puts (now (out .entry)) at (arcsBytes (complement (netOf (now (s .entry))))) (now (out .exit)) r ⌝ }
 {
     let at_arcs = put_count(out, at, arcs);
-    put_arcs(s, net, below, out, at_arcs)
+    put_arcs(s, net, starts, below, out, at_arcs)
 }
 
 pub(crate) fn put_sheet(
     s: &[u8],
     net: NetShape,
+    starts: &[u16; 257],
     below: &[u16; 257],
     sizes: Sizes,
     out: &mut [u8],
 ) -> usize
     requires { ⌜ Open (now s) net ⌝ }
+    requires { ⌜ StartsAre (netOf (now s) .arcs) (now starts) ⌝ }
     requires { ⌜ BelowAre (netOf (now s)) (now below) ⌝ }
     requires { ⌜ SizesAre (netOf (now s)) sizes × Few sizes ⌝ }
     requires { ⌜ Room (now out) 0 (sheetOf (complement (netOf (now s)))) ⌝ }
@@ -98,5 +103,5 @@ pub(crate) fn put_sheet(
 {
     let at_records = put_counts(s, net, sizes, out);
     let at_arcs = put_records(s, net, below, out, at_records);
-    put_counted_arcs(s, net, below, sizes.arcs, out, at_arcs)
+    put_counted_arcs(s, net, starts, below, sizes.arcs, out, at_arcs)
 }

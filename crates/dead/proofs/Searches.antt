@@ -1,13 +1,14 @@
 -- A search over the arcs of one mode of an open net.
 use Prim.Native.Nat.{ℕ, _+_, _-_, _≤_, _<_}
 use mathlib.Core.Path.{_≡_, _∙_, ap, ap₂}
-use mathlib.Core.Bool.{Bool, true}
+use mathlib.Core.Bool.{Bool, true, false}
 use mathlib.Core.List.{List}
 use mathlib.Core.Option.{none, some}
 use native.Mathlib.Omega.{arith}
+use borrow.Author.Count.{below-more}
 use Rattle.model.specs.declared.Arc.{Arc}
 use Rattle.model.specs.declared.Mode.{Mode}
-use Rattle.model.specs.Nets.{modeNo, K, arcNo}
+use Rattle.model.specs.Nets.{PNet, modeNo, K, arcNo}
 use Rattle.model.specs.Dead.{kills, deadPair, firstDead}
 use Rattle.model.proofs.Dead.{arcKills, Passed, arcs-alive, arcs-dead, Alive, all-alive, dead-first}
 use Rattle.opened.specs.declared.shape.NetShape.{NetShape}
@@ -18,6 +19,12 @@ use Rattle.opened.proofs.Shapes.{sizes}
 use Rattle.opened.proofs.Segments.{mode-lists}
 use Rattle.dead.specs.declared.FirstDead.the-variants.{At, None}
 use Rattle.dead.specs.FirstDead.{named}
+
+-- a search that has passed i arcs of a segment, and one more
+pub passed-more : (net : PNet) (start i : ℕ) → Passed net start (start + i) → arcKills net (start + i) ≡ false → Passed net start (start + (i + 1))
+passed-more net start i passed e =
+    let next : start + (i + 1) ≡ start + i + 1 = omega arith in
+    rw next (below-more (λ k. start ≤ k → arcKills net k ≡ false) (start + i) passed (λ _. e))
 
 module _ {s : List ℕ} {net : NetShape} where
   -- what is read of the k-th arc is what it says of its mode

@@ -8,9 +8,9 @@ use model::Pair;
 use model::Refusal;
 use model::Thing;
 use opened::Opened;
+use opened::arcs::arc;
 use opened::open_net;
 use opened::shape::NetShape;
-use opened::shape::arc;
 use opened::shape::capacity;
 use opened::starts::Segment;
 use opened::starts::arcs_of;
@@ -27,7 +27,7 @@ ghost use Rattle.model.specs.Dead.{kills as killsHere, isDead, firstDead};
 ghost use Rattle.fields.specs.Numbers.{bound};
 ghost use Rattle.sheets.specs.Decoded.{netOf, netArc};
 ghost use Rattle.opened.specs.Shape.{Open};
-ghost use Rattle.opened.specs.Starts.{StartsAre, ModeArcs};
+ghost use Rattle.opened.specs.Starts.{StartsAre, SegmentOf};
 ghost use Rattle.dead.specs.IsDead.{deadness};
 ghost use Rattle.dead.specs.FirstDead.{named};
 ghost use Rattle.dead.specs.Contracts.{IsDeadAllows, FirstDeadAllows};
@@ -83,16 +83,17 @@ fn kills(s: &[u8], net: NetShape, arc: Arc) -> bool
 // Dead at a mode: looked for at the mode's own arcs, since nothing is above a bound where there is none.
 pub fn dead_at(s: &[u8], net: NetShape, mode: Mode) -> bool
     requires { ⌜ Open (now s) net ⌝ }
+    requires { ⌜ mode .0 < net .modes ⌝ }
     ensures { λ r. ⌜ r ≡ isDead (netOf (now (s .entry))) mode ⌝ }
 {
     let arcs = find_arcs(s, net, mode);
-    let end = arcs.start + arcs.count;
-    let mut k = arcs.start;
-    while k < end {
-        if kills(s, net, arc(s, net, k)) {
+    let count = arcs.count;
+    let mut i = 0;
+    while i < count {
+        if kills(s, net, arc(s, net, arcs, i)) {
             return true;
         }
-        k += 1;
+        i += 1;
     }
     false
 }
@@ -102,7 +103,7 @@ fn arcs_at(s: &[u8], net: NetShape, table: &[u16; 257], t: usize) -> Segment
     requires { ⌜ Open (now s) net ⌝ }
     requires { ⌜ StartsAre (netOf (now s) .arcs) (now table) ⌝ }
     requires { ⌜ (t < net .modes) × (net .modes ≤ 256) ⌝ }
-    ensures { λ r. ⌜ ModeArcs (netOf (now (s .entry)) .arcs) (modeNo t) (r .start) (r .count) × (r .start + r .count ≤ net .arcs) ⌝ }
+    ensures { λ r. ⌜ SegmentOf (netOf (now (s .entry)) .arcs) (modeNo t) r ⌝ }
 {
     arcs_of(s, net, table, Mode(t as u16))
 }
@@ -118,17 +119,17 @@ fn search(s: &[u8], net: NetShape) -> FirstDead
     let mut t = 0;
     'search: while t < modes {
         let arcs = arcs_at(s, net, &table, t);
-        let end = arcs.start + arcs.count;
-        let mut k = arcs.start;
-        while k < end {
-            let here = arc(s, net, k);
+        let count = arcs.count;
+        let mut i = 0;
+        while i < count {
+            let here = arc(s, net, arcs, i);
             if kills(s, net, here) {
                 let mode = here.mode;
                 let pair = here.pair;
                 found = FirstDead::At(mode, pair);
                 break 'search;
             }
-            k += 1;
+            i += 1;
         }
         t += 1;
     }

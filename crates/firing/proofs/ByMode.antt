@@ -26,7 +26,7 @@ use Rattle.opened.specs.declared.shape.NetShape.{NetShape}
 use Rattle.opened.specs.declared.starts.Segment.{Segment}
 use Rattle.sheets.specs.Decoded.{netOf}
 use Rattle.opened.specs.Shape.{Open}
-use Rattle.opened.specs.Starts.{ModeArcs}
+use Rattle.opened.specs.Starts.{ModeArcs, SegmentOf}
 use Rattle.opened.proofs.Shapes.{sizes}
 use Rattle.opened.proofs.Segments.{mode-lists}
 use Rattle.firing.specs.AtMode.{Free, Writable, writtenAt, AtMode, stopAt, stopOf, refusalOf, Decides, Fires}
@@ -84,9 +84,8 @@ module _ {s : List ℕ} {net : NetShape} {arcs : Segment} {m : List ℕ} (h : At
 
 -- the arcs of a mode, once the net is open and the marking accepted
 pub at-mode : {s : List ℕ} {net : NetShape} {arcs : Segment} {m : List ℕ} {a : Answer} → Open s net → a ≡ answer (markingRefusal (netOf s) m) → a ≡ Accepted
-    → (t : Mode) → ModeArcs (netOf s .arcs) t (arcs .start) (arcs .count) × (arcs .start + arcs .count ≤ net .arcs) → AtMode s net arcs m
-at-mode {s} {m = m} o e h t own =
-    record { opened = o; marking = marking-test (netOf s) m .0 (answer-none _ e h); inside = own .1; mode = t; own = own .0 }
+    → {t : Mode} → SegmentOf (netOf s .arcs) t arcs → AtMode s net arcs m
+at-mode {s} {m = m} o e h is = record { opened = o; marking = marking-test (netOf s) m .0 (answer-none _ e h); own = is .own }
 
 -- "6, 11 over all pairs, 12, 13, 14": the answer is that of the four in turn
 pub in-order : {a : Answer} (thing : Thing) (net : PNet) (m : List ℕ) (t : Mode)

@@ -52,9 +52,7 @@ writtenAt net m k = let a = arcNo (net .arcs) k in set m (a .pair .0) (after (a 
 pub record AtMode (s : List ℕ) (net : NetShape) (arcs : Segment) (m : List ℕ) : Type 0 where
   pub opened : Open s net
   pub marking : Marking (netOf s) m
-  pub inside : arcs .start + arcs .count ≤ net .arcs
-  pub mode : Mode
-  pub own : ModeArcs (netOf s .arcs) mode (arcs .start) (arcs .count)
+  pub own : ModeArcs (netOf s .arcs) (arcs .mode) (arcs .start) (arcs .count)
 
 -- what holds of the mode that has these arcs
 abbrev pub OfMode : List ℕ → Segment → (Mode → Type 0) → Type 0

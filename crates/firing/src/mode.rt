@@ -5,8 +5,8 @@ use model::Answer;
 use model::Fault;
 use model::Thing;
 use model::Why;
+use opened::arcs::arc;
 use opened::shape::NetShape;
-use opened::shape::arc;
 use opened::starts::Segment;
 use rule::is_free;
 use rule::is_stopped;
@@ -14,22 +14,31 @@ use rule::moved;
 ghost use mathlib.Core.Path.{_≡_};
 ghost use mathlib.Core.Bool.{true};
 ghost use mathlib.Core.Logic.{_↔_};
-ghost use Prim.Native.Nat.{_<_};
+ghost use Prim.Native.Nat.{_+_};
 ghost use Rattle.model.specs.Refusals.{answer};
 ghost use Rattle.model.specs.Markings.{Marking};
 ghost use Rattle.model.specs.Firing.{fired};
 ghost use Rattle.sheets.specs.Decoded.{netOf};
 ghost use Rattle.opened.specs.Shape.{Open};
+ghost use Rattle.opened.specs.Starts.{OwnArc};
 ghost use Rattle.firing.specs.AtMode.{Free, Writable, writtenAt, AtMode, OfMode, stopAt, stopOf, refusalOf, Decides, Fires};
 ghost use Rattle.firing.specs.Leaving.{Leaves};
 
-fn arc_stop(s: &[u8], net: NetShape, k: usize, thing: Thing, why: Why, marking: &[u32]) -> Answer
+fn arc_stop(
+    s: &[u8],
+    net: NetShape,
+    arcs: Segment,
+    i: usize,
+    thing: Thing,
+    why: Why,
+    marking: &[u32],
+) -> Answer
     requires { ⌜ Open (now s) net ⌝ }
     requires { ⌜ Marking (netOf (now s)) (now marking) ⌝ }
-    requires { ⌜ k < net .arcs ⌝ }
-    ensures { λ r. ⌜ r ≡ answer (stopAt thing why (netOf (now (s .entry))) (now (marking .entry)) k) ⌝ }
+    requires { ⌜ OwnArc (netOf (now s) .arcs) arcs i ⌝ }
+    ensures { λ r. ⌜ r ≡ answer (stopAt thing why (netOf (now (s .entry))) (now (marking .entry)) (arcs .start + i)) ⌝ }
 {
-    let at = meet(s, net, k, marking);
+    let at = meet(s, net, arcs, i, marking);
     if is_stopped(why, at) {
         let pair = at.arc.pair;
         return refused(thing, Fault::Stopped(why, pair));
@@ -49,11 +58,10 @@ fn find_stop(
     requires { ⌜ AtMode (now s) net arcs (now marking) ⌝ }
     ensures { λ r. ⌜ OfMode (now (s .entry)) arcs (λ t. r ≡ answer (stopOf thing why (netOf (now (s .entry))) (now (marking .entry)) t)) ⌝ }
 {
-    let start = arcs.start;
     let count = arcs.count;
     let mut i = 0;
     while i < count {
-        let answer = arc_stop(s, net, start + i, thing, why, marking);
+        let answer = arc_stop(s, net, arcs, i, thing, why, marking);
         if let Answer::Refused(_) = answer {
             return answer;
         }
@@ -82,13 +90,13 @@ pub fn find_refusal(s: &[u8], net: NetShape, arcs: Segment, thing: Thing, markin
     find_stop(s, net, arcs, thing, Why::OverLimit, marking)
 }
 
-fn arc_free(s: &[u8], net: NetShape, k: usize, marking: &[u32]) -> bool
+fn arc_free(s: &[u8], net: NetShape, arcs: Segment, i: usize, marking: &[u32]) -> bool
     requires { ⌜ Open (now s) net ⌝ }
     requires { ⌜ Marking (netOf (now s)) (now marking) ⌝ }
-    requires { ⌜ k < net .arcs ⌝ }
-    ensures { λ r. ⌜ (r ≡ true) ↔ Free (netOf (now (s .entry))) (now (marking .entry)) k ⌝ }
+    requires { ⌜ OwnArc (netOf (now s) .arcs) arcs i ⌝ }
+    ensures { λ r. ⌜ (r ≡ true) ↔ Free (netOf (now (s .entry))) (now (marking .entry)) (arcs .start + i) ⌝ }
 {
-    is_free(meet(s, net, k, marking))
+    is_free(meet(s, net, arcs, i, marking))
 }
 
 // One pass over the arcs, all four tests at each.
@@ -96,11 +104,10 @@ fn arcs_free(s: &[u8], net: NetShape, arcs: Segment, marking: &[u32]) -> bool
     requires { ⌜ AtMode (now s) net arcs (now marking) ⌝ }
     ensures { λ r. ⌜ OfMode (now (s .entry)) arcs (λ t. Decides r (netOf (now (s .entry))) (now (marking .entry)) t) ⌝ }
 {
-    let start = arcs.start;
     let count = arcs.count;
     let mut i = 0;
     while i < count {
-        if !arc_free(s, net, start + i, marking) {
+        if !arc_free(s, net, arcs, i, marking) {
             return false;
         }
         i += 1;
@@ -108,13 +115,13 @@ fn arcs_free(s: &[u8], net: NetShape, arcs: Segment, marking: &[u32]) -> bool
     true
 }
 
-fn write_arc(s: &[u8], net: NetShape, k: usize, marking: &mut [u32])
+fn write_arc(s: &[u8], net: NetShape, arcs: Segment, i: usize, marking: &mut [u32])
     requires { ⌜ Open (now s) net ⌝ }
-    requires { ⌜ k < net .arcs ⌝ }
-    requires { ⌜ Writable (netOf (now s)) (now marking) k ⌝ }
-    ensures { λ r. ⌜ now (marking .exit) ≡ writtenAt (netOf (now (s .entry))) (now (marking .entry)) k ⌝ }
+    requires { ⌜ OwnArc (netOf (now s) .arcs) arcs i ⌝ }
+    requires { ⌜ Writable (netOf (now s)) (now marking) (arcs .start + i) ⌝ }
+    ensures { λ r. ⌜ now (marking .exit) ≡ writtenAt (netOf (now (s .entry))) (now (marking .entry)) (arcs .start + i) ⌝ }
 {
-    let arc = arc(s, net, k);
+    let arc = arc(s, net, arcs, i);
     let p = arc.pair.0 as usize;
     marking[p] = moved(arc, marking[p]);
 }
@@ -124,11 +131,10 @@ pub fn write_arcs(s: &[u8], net: NetShape, arcs: Segment, marking: &mut [u32])
     requires { ⌜ AtMode (now s) net arcs (now marking) ⌝ }
     ensures { λ r. ⌜ OfMode (now (s .entry)) arcs (λ t. now (marking .exit) ≡ fired (netOf (now (s .entry))) t (now (marking .entry))) ⌝ }
 {
-    let start = arcs.start;
     let count = arcs.count;
     let mut i = 0;
     while i < count {
-        write_arc(s, net, start + i, marking);
+        write_arc(s, net, arcs, i, marking);
         i += 1;
     }
 }

@@ -1,6 +1,6 @@
 -- The arcs of a mode stand together, since arcs rise by mode.
 use Prim.Native.Nat.{ℕ, _+_, _-_, _≤_, _<_}
-use mathlib.Core.Path.{_≡_}
+use mathlib.Core.Path.{_≡_, refl}
 use mathlib.Core.List.{List}
 use mathlib.Core.Logic.{_⊎_, inl, inr, ⊎-elim}
 use lib.ListN.{length, getD, set}
@@ -13,7 +13,8 @@ use Rattle.model.specs.WellFormed.{Rises, WellFormed}
 use Rattle.model.proofs.First.{below-or}
 use Rattle.model.proofs.Nets.{Rising, rises-all}
 use Rattle.model.proofs.ByArcs.{Listing, segment-lists}
-use Rattle.opened.specs.Starts.{ModesBelow, FirstFrom, ModeArcs}
+use Rattle.opened.specs.declared.starts.Segment.{Segment}
+use Rattle.opened.specs.Starts.{ModesBelow, FirstFrom, ModeArcs, SegmentOf}
 
 -- i is the next number below i + 1, the others are below i
 below-next : (i j : ℕ) → j < i + 1 → (j < i) ⊎ (j ≡ i)
@@ -78,6 +79,27 @@ module _ (arcs : List NetArc) where
                 ⊎-elim (λ (b : k < end). omega arith) (λ (b : end ≤ k). absurd (omega (arith, ends .after k b h))) (below-or k end),
               );
         }
+
+-- the segment from the first arc of a mode to the first of a later one
+pub segment-of : (arcs : List NetArc) (t : Mode) (start end : ℕ) → FirstFrom arcs (t .0) start → FirstFrom arcs (t .0 + 1) end
+    → SegmentOf arcs t (record { mode = t; start = start; count = end - start })
+segment-of arcs t start end starts ends =
+    let l = in-turn arcs t start end starts ends in
+    let e : start + (end - start) ≡ end = omega arith in
+    record { mode = refl; own = mode-arcs arcs t start end starts ends; starts = starts; ends = rw e ends }
+
+pub segment-own : {arcs : List NetArc} {t : Mode} {segment : Segment} → SegmentOf arcs t segment → ModeArcs arcs t (segment .start) (segment .count)
+segment-own is = rw (is .mode) at (is .own)
+
+pub first-arc : (arcs : List NetArc) → FirstFrom arcs 0 0
+first-arc arcs = record { inside = omega arith; before = below-none arcs 0; after = λ j h l. omega arith }
+
+-- only one arc is the first of a mode or a later one
+pub first-same : (arcs : List NetArc) (t j k : ℕ) → FirstFrom arcs t j → FirstFrom arcs t k → j ≡ k
+first-same arcs t j k f g =
+    let below : (j k : ℕ) → FirstFrom arcs t j → FirstFrom arcs t k → k ≤ j = λ j k f g.
+    ⊎-elim (λ (l : j < k). absurd (omega (arith, g .before .each j l, f .after j (omega arith) (omega (arith, g .inside))))) (λ (l : k ≤ j). l) (below-or j k) in
+    omega (arith, below j k f g, below k j g f)
 
 -- the arcs of a mode write its row
 pub mode-lists : (net : PNet) → WellFormed net → (t : Mode) (start count : ℕ) → ModeArcs (net .arcs) t start count

@@ -6,7 +6,8 @@ use lib.ListN.{length, getD}
 use native.Mathlib.Omega.{arith}
 use Rattle.model.specs.declared.Arc.{Arc}
 use Rattle.model.specs.Numbers.{limit}
-use Rattle.model.specs.Nets.{pairs, modes, K, count, arcNo}
+use Rattle.model.specs.declared.Mode.{Mode}
+use Rattle.model.specs.Nets.{pairs, modes, modeNo, K, count, arcNo}
 use Rattle.model.specs.WellFormed.{ArcOf, Counted, WellFormed}
 use Rattle.opened.specs.declared.shape.NetShape.{NetShape}
 use Rattle.heads.specs.Bytes.{u16At, u32At}
@@ -111,6 +112,11 @@ module _ {s : List ℕ} {net : NetShape} (o : Open s net) where
   pub arc-mode-is : (k : ℕ) {m : ℕ} → k < net .arcs → m ≡ u16At s (arcModeAt (arcOffset s k)) → m ≡ arcNo (netOf s .arcs) k .mode .0
   unfolding arcOffset netArcAt
   arc-mode-is k h e = e ∙ sym (ap (λ a. a .mode .0) (arc-at s k (rw (← shaped .arcs) h)))
+
+  -- an arc of a mode has that mode in its first field
+  pub arc-own : (k : ℕ) {t : Mode} → k < net .arcs → arcNo (netOf s .arcs) k .mode .0 ≡ t .0 → t ≡ modeNo (u16At s (arcModeAt (arcOffset s k)))
+  unfolding arcOffset netArcAt
+  arc-own k h e = ap modeNo (sym e ∙ ap (λ a. a .mode .0) (arc-at s k (rw (← shaped .arcs) h)))
 
   -- fewer than 256 modes and pairs: the mode and the pair of an arc are in their second bytes
   pub arc-small : (k : ℕ) → k < net .arcs → (u16At s (arcModeAt (arcOffset s k)) < 256) × (u16At s (arcOffset s k + 2) < 256)

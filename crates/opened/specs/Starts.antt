@@ -6,6 +6,7 @@ use mathlib.Core.List.{List}
 use lib.ListN.{length, getD}
 use Rattle.model.specs.declared.Mode.{Mode}
 use Rattle.model.specs.Nets.{NetArc, arcNo}
+use Rattle.opened.specs.declared.starts.Segment.{Segment}
 
 -- the first k arcs have modes below t
 pub record ModesBelow (arcs : List NetArc) (t k : ℕ) : Type 0 where
@@ -26,3 +27,15 @@ pub record ModeArcs (arcs : List NetArc) (t : Mode) (start count : ℕ) : Type 0
   pub fits : start + count ≤ length arcs
   pub own : (k : ℕ) → k < count → arcNo arcs (start + k) .mode .0 ≡ t .0
   pub all : (k : ℕ) → k < length arcs → arcNo arcs k .mode .0 ≡ t .0 → (start ≤ k) × (k < start + count)
+
+-- the segment of a mode: it knows its mode, has the mode's arcs, and the next mode's stand after it
+pub record SegmentOf (arcs : List NetArc) (t : Mode) (segment : Segment) : Type 0 where
+  pub mode : segment .mode ≡ t
+  pub own : ModeArcs arcs (segment .mode) (segment .start) (segment .count)
+  pub starts : FirstFrom arcs (t .0) (segment .start)
+  pub ends : FirstFrom arcs (t .0 + 1) (segment .start + segment .count)
+
+-- the i-th arc of a mode's segment
+pub record OwnArc (arcs : List NetArc) (segment : Segment) (i : ℕ) : Type 0 where
+  pub own : ModeArcs arcs (segment .mode) (segment .start) (segment .count)
+  pub there : i < segment .count

@@ -1,4 +1,5 @@
 // A net that a call takes as an argument: the shape of an accepted sheet, or its refusal.
+pub mod arcs;
 pub mod finite;
 pub mod listed;
 pub mod shape;

@@ -2,8 +2,6 @@
 use heads::bytes::count_at;
 use heads::bytes::small_at;
 use heads::bytes::u32_at;
-use model::Arc;
-use model::Mode;
 use model::Pair;
 use nets::net::mode_count;
 use nets::net::pair_count;
@@ -18,7 +16,7 @@ ghost use Rattle.heads.specs.Layout.{pairsAt, pairAt, arcSize};
 ghost use Rattle.fields.specs.Numbers.{bound};
 ghost use Rattle.nets.specs.Nets.{netRefusal};
 ghost use Rattle.sheets.specs.Decoded.{netOf};
-ghost use Rattle.opened.specs.Shape.{shapeOf, Open, ArcIs, arcOffset};
+ghost use Rattle.opened.specs.Shape.{shapeOf, Open, arcOffset};
 
 // How many places, transitions, pairs, modes and arcs a net has, and where its pairs and its arcs stand in the sheet.
 pub struct NetShape {
@@ -95,8 +93,8 @@ pub fn start_count(s: &[u8], net: NetShape, pair: Pair) -> u32
     u32_at(s, pair_at(s, net, pair) + 4)
 }
 
-// Where an arc stands in the sheet: the position of refusals 15 and 16.
-pub fn arc_offset(s: &[u8], net: NetShape, k: usize) -> usize
+// Where the k-th arc of the net stands in the sheet.
+pub(crate) fn arc_at(s: &[u8], net: NetShape, k: usize) -> usize
     requires { ⌜ Open (now s) net ⌝ }
     requires { ⌜ k < net .arcs ⌝ }
     ensures { λ r. ⌜ (r ≡ arcOffset (now (s .entry)) k) × (r + arcSize ≤ length (now (s .entry))) ⌝ }
@@ -104,28 +102,11 @@ pub fn arc_offset(s: &[u8], net: NetShape, k: usize) -> usize
     net.arcs_at + 16 * k
 }
 
-// The mode of an arc, as a number.
+// Its mode, as a number.
 pub(crate) fn arc_mode(s: &[u8], net: NetShape, k: usize) -> usize
     requires { ⌜ Open (now s) net ⌝ }
     requires { ⌜ k < net .arcs ⌝ }
     ensures { λ r. ⌜ r ≡ arcNo (netOf (now (s .entry)) .arcs) k .mode .0 ⌝ }
 {
-    small_at(s, arc_offset(s, net, k)) as usize
-}
-
-pub fn arc(s: &[u8], net: NetShape, k: usize) -> Arc
-    requires { ⌜ Open (now s) net ⌝ }
-    requires { ⌜ k < net .arcs ⌝ }
-    ensures { λ r. ⌜ ArcIs (now (s .entry)) net k r ⌝ }
-{
-    let at = arc_offset(s, net, k);
-    let mode = Mode(small_at(s, at));
-    let pair = Pair(small_at(s, at + 2));
-    Arc {
-        mode,
-        pair,
-        pre: u32_at(s, at + 4),
-        post: u32_at(s, at + 8),
-        inhibitor: u32_at(s, at + 12),
-    }
+    small_at(s, arc_at(s, net, k)) as usize
 }

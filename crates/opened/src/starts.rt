@@ -5,16 +5,17 @@ use model::Mode;
 ghost use Prim.Native.Nat.{_+_, _≤_, _<_};
 ghost use Rattle.sheets.specs.Decoded.{netOf};
 ghost use Rattle.opened.specs.Shape.{Open};
-ghost use Rattle.opened.specs.Starts.{ModesBelow, FirstFrom, StartsAre, ModeArcs};
+ghost use Rattle.opened.specs.Starts.{ModesBelow, FirstFrom, StartsAre, SegmentOf};
 
-// `count` arcs from `start` on, in the order of the sheet.
+// The arcs of a mode: `count` of them, in the order of the sheet.
 pub struct Segment {
+    pub mode: Mode,
     pub start: usize,
     pub count: usize,
 }
 
 // The first arc whose mode is at least `t`, looked for from `k` on.
-pub fn first_from(s: &[u8], net: NetShape, t: usize, k: usize) -> usize
+fn first_from(s: &[u8], net: NetShape, t: usize, k: usize) -> usize
     requires { ⌜ Open (now s) net ⌝ }
     requires { ⌜ k ≤ net .arcs ⌝ }
     requires { ⌜ ModesBelow (netOf (now s) .arcs) t k ⌝ }
@@ -52,12 +53,13 @@ pub fn arcs_of(s: &[u8], net: NetShape, starts: &[u16; 257], mode: Mode) -> Segm
     requires { ⌜ Open (now s) net ⌝ }
     requires { ⌜ StartsAre (netOf (now s) .arcs) (now starts) ⌝ }
     requires { ⌜ mode .0 < net .modes ⌝ }
-    ensures { λ r. ⌜ ModeArcs (netOf (now (s .entry)) .arcs) mode (r .start) (r .count) × (r .start + r .count ≤ net .arcs) ⌝ }
+    ensures { λ r. ⌜ SegmentOf (netOf (now (s .entry)) .arcs) mode r ⌝ }
 {
     let t = mode.0 as usize;
     let start = starts[t] as usize;
     let end = starts[t + 1] as usize;
     Segment {
+        mode,
         start,
         count: end - start,
     }
@@ -66,12 +68,14 @@ pub fn arcs_of(s: &[u8], net: NetShape, starts: &[u16; 257], mode: Mode) -> Segm
 // The arcs of a mode, looked for in the sheet: where one mode is all that a call asks of.
 pub fn find_arcs(s: &[u8], net: NetShape, mode: Mode) -> Segment
     requires { ⌜ Open (now s) net ⌝ }
-    ensures { λ r. ⌜ ModeArcs (netOf (now (s .entry)) .arcs) mode (r .start) (r .count) × (r .start + r .count ≤ net .arcs) ⌝ }
+    requires { ⌜ mode .0 < net .modes ⌝ }
+    ensures { λ r. ⌜ SegmentOf (netOf (now (s .entry)) .arcs) mode r ⌝ }
 {
     let t = mode.0 as usize;
     let start = first_from(s, net, t, 0);
     let end = first_from(s, net, t + 1, start);
     Segment {
+        mode,
         start,
         count: end - start,
     }

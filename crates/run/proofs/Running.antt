@@ -34,7 +34,6 @@ use Rattle.firing.specs.AtMode.{refusalOf}
 use Rattle.rule.proofs.FourTests.{clash}
 use Rattle.firing.proofs.Leaving.{makes-not, makes-after}
 use Rattle.fire.proofs.Opened.{mode-refusal}
-use Rattle.run.specs.Calls.{ranOf}
 use Rattle.run.specs.Parts.{Accepts, Reports}
 
 abbrev ended : ℕ → List ℕ → Outcome

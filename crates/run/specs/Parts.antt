@@ -17,9 +17,13 @@ use Rattle.opened.specs.Starts.{StartsAre}
 use Rattle.run.specs.declared.Ran.{Ran}
 use Rattle.run.specs.Calls.{ranOf}
 
--- the number of the k-th arc of a net, below which its counts pass; and a table of them
+-- the number of the k-th arc of a net, below which its counts pass; a table of 2048 with the first n of them, and one with all
 unfoldable pub numberOf : PNet → ℕ → ℕ
 numberOf net k = let a = arcNo (net .arcs) k in passBelow (a .entry) (roomAt net a)
+
+pub record NumbersTo (net : PNet) (numbers : List ℕ) (n : ℕ) : Type 0 where
+  pub long : length numbers ≡ 2048
+  pub each : (k : ℕ) → k < n → getD numbers k 0 ≡ numberOf net k
 
 pub record NumbersAre (net : PNet) (numbers : List ℕ) : Type 0 where
   pub long : length (net .arcs) ≤ length numbers

@@ -7,6 +7,7 @@ use model::Fault;
 use model::Pair;
 use model::Thing;
 use opened::shape::NetShape;
+use opened::starts::starts;
 ghost use mathlib.Core.Path.{_≡_};
 ghost use mathlib.Core.Option.{none};
 ghost use Prim.Native.Nat.{_<_, _≤_};
@@ -59,8 +60,9 @@ fn end_answer(
     ensures { λ r. ⌜ r ≡ answer (endsAt (netOf (now (s .entry))) (movementsOf (now (movements .entry))) (now (claim .entry))) ⌝ }
 {
     write_start(s, net, counts);
+    let starts = starts(s, net);
     let none = [0u32; 0];
-    let ran = run_listed(s, net, &none, movements, counts);
+    let ran = run_listed(s, net, &starts, &none, movements, counts);
     let answer = ran.answer;
     if let Answer::Refused(_) = answer {
         return answer;

@@ -16,8 +16,6 @@ use opened::starts::arcs_of;
 use opened::starts::starts;
 ghost use mathlib.Core.Path.{_≡_};
 ghost use mathlib.Core.Option.{none};
-ghost use Prim.Native.Nat.{_<_};
-ghost use lib.ListN.{length};
 ghost use Rattle.model.specs.declared.Thing.the-variants.{Movements};
 ghost use Rattle.model.specs.Refusals.{answer};
 ghost use Rattle.model.specs.Markings.{Marking};
@@ -29,7 +27,7 @@ ghost use Rattle.opened.specs.Shape.{Open};
 ghost use Rattle.opened.specs.Starts.{StartsAre};
 ghost use Rattle.sheets.specs.Listed.{modesFrom, ModesStand};
 ghost use Rattle.firing.specs.Leaving.{Makes};
-ghost use Rattle.run.specs.Parts.{NumbersAre, Tables, Accepts, Reports};
+ghost use Rattle.run.specs.Parts.{Tables, Accepts, Reports};
 
 // One movement: whether it was accepted. Tested by the numbers of its mode's arcs; by all four tests where that table is empty, since only a run may hold it on the stack.
 fn step(
@@ -132,26 +130,25 @@ pub fn run_modes(
     }
 }
 
-// The list of a movement sheet that was accepted, with the table of starts made once and that of numbers lent.
+// The list of a movement sheet that was accepted, with both tables lent.
 pub(crate) fn run_listed(
     s: &[u8],
     net: NetShape,
+    starts: &[u16; 257],
     numbers: &[u32],
     movements: &[u8],
     marking: &mut [u32],
 ) -> Ran
-    requires { ⌜ Open (now s) net ⌝ }
-    requires { ⌜ (0 < length (now numbers) → NumbersAre (netOf (now s)) (now numbers)) ⌝ }
+    requires { ⌜ Tables (now s) net (now starts) (now numbers) ⌝ }
     requires { ⌜ movementsRefusal (now movements) ≡ none ⌝ }
     requires { ⌜ Marking (netOf (now s)) (now marking) ⌝ }
     ensures { λ r. ⌜ Reports (run (netOf (now (s .entry))) (movementsOf (now (movements .entry))) (now (marking .entry))) r (now (marking .exit)) ⌝ }
 {
-    let starts = starts(s, net);
     let count = movement_count(movements);
     run_modes(
         s,
         net,
-        &starts,
+        starts,
         numbers,
         movements,
         movements_at(),
@@ -167,7 +164,8 @@ pub(crate) fn run_sheet(s: &[u8], net: NetShape, movements: &[u8], marking: &mut
     requires { ⌜ Marking (netOf (now s)) (now marking) ⌝ }
     ensures { λ r. ⌜ Reports (run (netOf (now (s .entry))) (movementsOf (now (movements .entry))) (now (marking .entry))) r (now (marking .exit)) ⌝ }
 {
+    let starts = starts(s, net);
     let mut numbers = [0u32; 2048];
-    write_numbers(s, net, &mut numbers);
-    run_listed(s, net, &numbers, movements, marking)
+    write_numbers(s, net, &starts, &mut numbers);
+    run_listed(s, net, &starts, &numbers, movements, marking)
 }

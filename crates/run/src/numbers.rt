@@ -3,14 +3,16 @@ use fields::numbers::least;
 use firing::arcs::meet;
 use firing::mode::write_arcs;
 use model::Arc;
+use model::Mode;
+use opened::arcs::arc;
 use opened::shape::NetShape;
-use opened::shape::arc;
 use opened::shape::capacity;
 use opened::starts::Segment;
+use opened::starts::arcs_of;
 ghost use mathlib.Core.Path.{_≡_};
 ghost use mathlib.Core.Bool.{true};
 ghost use mathlib.Core.Logic.{_↔_};
-ghost use Prim.Native.Nat.{_<_, _≤_};
+ghost use Prim.Native.Nat.{_+_, _≤_};
 ghost use lib.ListN.{length};
 ghost use Rattle.model.specs.Numbers.{limit};
 ghost use Rattle.model.specs.Markings.{Marking};
@@ -18,8 +20,9 @@ ghost use Rattle.model.specs.PassBelow.{passBelow};
 ghost use Rattle.fields.specs.Numbers.{bound};
 ghost use Rattle.sheets.specs.Decoded.{netOf, netArc};
 ghost use Rattle.opened.specs.Shape.{Open};
+ghost use Rattle.opened.specs.Starts.{StartsAre, ModeArcs, OwnArc};
 ghost use Rattle.firing.specs.AtMode.{Free, AtMode, OfMode, Decides, Fires};
-ghost use Rattle.run.specs.Parts.{numberOf, NumbersAre};
+ghost use Rattle.run.specs.Parts.{numberOf, NumbersTo, NumbersAre};
 
 // The counts below this number, from Pre on, are those that pass all four tests.
 fn pass_below(arc: Arc, capacity: u32) -> u32
@@ -33,41 +36,66 @@ fn pass_below(arc: Arc, capacity: u32) -> u32
     least(capacity - arc.post, kept) + 1
 }
 
-fn arc_number(s: &[u8], net: NetShape, k: usize) -> u32
+fn arc_number(s: &[u8], net: NetShape, arcs: Segment, i: usize) -> u32
     requires { ⌜ Open (now s) net ⌝ }
-    requires { ⌜ k < net .arcs ⌝ }
-    ensures { λ r. ⌜ r ≡ numberOf (netOf (now (s .entry))) k ⌝ }
+    requires { ⌜ OwnArc (netOf (now s) .arcs) arcs i ⌝ }
+    ensures { λ r. ⌜ r ≡ numberOf (netOf (now (s .entry))) (arcs .start + i) ⌝ }
 {
-    let arc = arc(s, net, k);
+    let arc = arc(s, net, arcs, i);
     let pair = arc.pair;
     pass_below(arc, capacity(s, net, pair))
 }
 
-// Written into a table that is lent, so that it stands on the stack once.
-pub fn write_numbers(s: &[u8], net: NetShape, numbers: &mut [u32])
+// The numbers of a mode's arcs, after those of the modes before it.
+fn write_mode(s: &[u8], net: NetShape, arcs: Segment, numbers: &mut [u32])
     requires { ⌜ Open (now s) net ⌝ }
-    requires { ⌜ length (now numbers) ≡ 2048 ⌝ }
-    ensures { λ r. ⌜ NumbersAre (netOf (now (s .entry))) (now (numbers .exit)) ⌝ }
+    requires { ⌜ ModeArcs (netOf (now s) .arcs) (arcs .mode) (arcs .start) (arcs .count) ⌝ }
+    requires { ⌜ NumbersTo (netOf (now s)) (now numbers) (arcs .start) ⌝ }
+    ensures { λ r. ⌜ NumbersTo (netOf (now (s .entry))) (now (numbers .exit)) (arcs .start + arcs .count) ⌝ }
 {
-    let arcs = net.arcs;
-    let mut k = 0;
-    while k < arcs {
-        numbers[k] = arc_number(s, net, k);
-        k += 1;
+    let start = arcs.start;
+    let count = arcs.count;
+    let mut i = 0;
+    while i < count {
+        numbers[start + i] = arc_number(s, net, arcs, i);
+        i += 1;
     }
 }
 
-fn arc_within(s: &[u8], net: NetShape, numbers: &[u32], k: usize, marking: &[u32]) -> bool
+// Written into a table that is lent, so that it stands on the stack once.
+pub fn write_numbers(s: &[u8], net: NetShape, starts: &[u16; 257], numbers: &mut [u32])
+    requires { ⌜ Open (now s) net ⌝ }
+    requires { ⌜ StartsAre (netOf (now s) .arcs) (now starts) ⌝ }
+    requires { ⌜ length (now numbers) ≡ 2048 ⌝ }
+    ensures { λ r. ⌜ NumbersAre (netOf (now (s .entry))) (now (numbers .exit)) ⌝ }
+{
+    let modes = net.modes;
+    let mut t = 0;
+    while t < modes {
+        write_mode(s, net, arcs_of(s, net, starts, Mode(t as u16)), numbers);
+        t += 1;
+    }
+}
+
+fn arc_within(
+    s: &[u8],
+    net: NetShape,
+    numbers: &[u32],
+    arcs: Segment,
+    i: usize,
+    marking: &[u32],
+) -> bool
     requires { ⌜ Open (now s) net ⌝ }
     requires { ⌜ NumbersAre (netOf (now s)) (now numbers) ⌝ }
     requires { ⌜ Marking (netOf (now s)) (now marking) ⌝ }
-    requires { ⌜ k < net .arcs ⌝ }
-    ensures { λ r. ⌜ (r ≡ true) ↔ Free (netOf (now (s .entry))) (now (marking .entry)) k ⌝ }
+    requires { ⌜ OwnArc (netOf (now s) .arcs) arcs i ⌝ }
+    ensures { λ r. ⌜ (r ≡ true) ↔ Free (netOf (now (s .entry))) (now (marking .entry)) (arcs .start + i) ⌝ }
 {
-    let at = meet(s, net, k, marking);
+    let at = meet(s, net, arcs, i, marking);
     if at.count < at.arc.pre {
         return false;
     }
+    let k = arcs.start + i;
     at.count < numbers[k]
 }
 
@@ -77,11 +105,10 @@ fn arcs_within(s: &[u8], net: NetShape, numbers: &[u32], arcs: Segment, marking:
     requires { ⌜ AtMode (now s) net arcs (now marking) ⌝ }
     ensures { λ r. ⌜ OfMode (now (s .entry)) arcs (λ t. Decides r (netOf (now (s .entry))) (now (marking .entry)) t) ⌝ }
 {
-    let start = arcs.start;
     let count = arcs.count;
     let mut i = 0;
     while i < count {
-        if !arc_within(s, net, numbers, start + i, marking) {
+        if !arc_within(s, net, numbers, arcs, i, marking) {
             return false;
         }
         i += 1;

@@ -1,5 +1,7 @@
 pub mod Kept
 pub mod Read
 pub mod Counts
+pub mod Every
+pub mod Surveys
 pub mod PlaceHalves
 pub mod ModeHalves

@@ -1,9 +1,10 @@
 -- The arcs of a complement, arc by arc: what the shared parts of this crate speak of.
 -- A reader of the promises may skip this file.
-use Prim.Native.Nat.{ℕ, _+_}
+use Prim.Native.Nat.{ℕ, zero, suc, _+_}
+use mathlib.Core.Bool.{Bool, true, not, _&&_}
 use mathlib.Core.List.{List, flatMap}
 use Rattle.model.specs.Nets.{NetArc, PNet, pairs, modeNo, K, arcNo, row}
-use Rattle.model.specs.Complement.{complementRow, written, allPairs}
+use Rattle.model.specs.Complement.{complementEntry, complementRow, written, allPairs, inhibitsUnbounded, tooLarge}
 use Rattle.model.specs.Promises.{onOriginal, onComplement}
 use Rattle.model.specs.Lists.{joined}
 use Rattle.written.specs.Written.{arcBytes}
@@ -17,7 +18,18 @@ kept a = written (a .mode) (a .pair .0) (a .entry)
 abbrev pub keptBytes : NetArc → List ℕ
 keptBytes a = flatMap arcBytes (kept a)
 
+-- a test that passes at each number below n
+unfoldable pub every : ℕ → (ℕ → Bool) → Bool
+every zero test = true
+every (suc n) test = every n test && test n
+
 module _ (net : PNet) where
+  -- neither 15 nor 16 stops the k-th arc
+  unfoldable pub clearAt : ℕ → Bool
+  clearAt k =
+      let a = arcNo (net .arcs) k in
+      not (inhibitsUnbounded net a) && not (tooLarge (complementEntry (K net (a .pair .0)) (a .entry)))
+
   -- a half of what an arc of the net becomes
   abbrev pub halfOf : Half → NetArc → NetArc
   halfOf Original a = onOriginal a
@@ -34,3 +46,6 @@ module _ (net : PNet) where
   -- the complement's arcs of one mode
   unfoldable pub rowArcs : ℕ → List NetArc
   rowArcs t = joined (allPairs net) (λ p. written (modeNo t) p (complementRow (pairs net) (K net) (row net (modeNo t)) p))
+
+  abbrev pub rowBytes : ℕ → List ℕ
+  rowBytes t = flatMap arcBytes (rowArcs t)

@@ -2,8 +2,9 @@
 use fields::numbers::least;
 use model::Arc;
 use model::Mode;
+use opened::arcs::arc;
 use opened::shape::NetShape;
-use opened::shape::arc;
+use opened::starts::Segment;
 use opened::starts::arcs_of;
 use opened::starts::starts;
 ghost use Prim.Native.Nat.{_<_};
@@ -11,7 +12,7 @@ ghost use lib.ListN.{length};
 ghost use Rattle.model.specs.Nets.{pairs, row};
 ghost use Rattle.sheets.specs.Decoded.{netOf, netArc};
 ghost use Rattle.opened.specs.Shape.{Open};
-ghost use Rattle.opened.specs.Starts.{StartsAre};
+ghost use Rattle.opened.specs.Starts.{StartsAre, ModeArcs};
 ghost use Rattle.step.specs.Calls.{stepModes};
 ghost use Rattle.step.specs.Parts.{Members};
 ghost use Rattle.step.specs.Sums.{Tabled, sumsAt, Addable, Added, Below, AddedRow, SumsAre};
@@ -28,6 +29,28 @@ fn add_arc(arc: Arc, pre: &mut [u32; 256], post: &mut [u32; 256], low: &mut [u32
 }
 
 // The arcs of one member.
+fn add_arcs(
+    s: &[u8],
+    net: NetShape,
+    arcs: Segment,
+    pre: &mut [u32; 256],
+    post: &mut [u32; 256],
+    low: &mut [u32; 256],
+)
+    requires { ⌜ Open (now s) net ⌝ }
+    requires { ⌜ ModeArcs (netOf (now s) .arcs) (arcs .mode) (arcs .start) (arcs .count) ⌝ }
+    requires { ⌜ Below 63 (pairs (netOf (now s))) (sumsAt (now pre) (now post) (now low)) ⌝ }
+    requires { ⌜ Tabled (now pre) (now post) (now low) ⌝ }
+    ensures { λ r. ⌜ Tabled (now (pre .exit)) (now (post .exit)) (now (low .exit)) × AddedRow (pairs (netOf (now (s .entry)))) (row (netOf (now (s .entry))) (arcs .mode)) (sumsAt (now (pre .entry)) (now (post .entry)) (now (low .entry))) (sumsAt (now (pre .exit)) (now (post .exit)) (now (low .exit))) ⌝ }
+{
+    let count = arcs.count;
+    let mut i = 0;
+    while i < count {
+        add_arc(arc(s, net, arcs, i), pre, post, low);
+        i += 1;
+    }
+}
+
 fn add_member(
     s: &[u8],
     net: NetShape,
@@ -44,14 +67,7 @@ fn add_member(
     requires { ⌜ Tabled (now pre) (now post) (now low) ⌝ }
     ensures { λ r. ⌜ Tabled (now (pre .exit)) (now (post .exit)) (now (low .exit)) × AddedRow (pairs (netOf (now (s .entry)))) (row (netOf (now (s .entry))) mode) (sumsAt (now (pre .entry)) (now (post .entry)) (now (low .entry))) (sumsAt (now (pre .exit)) (now (post .exit)) (now (low .exit))) ⌝ }
 {
-    let arcs = arcs_of(s, net, starts, mode);
-    let start = arcs.start;
-    let count = arcs.count;
-    let mut i = 0;
-    while i < count {
-        add_arc(arc(s, net, start + i), pre, post, low);
-        i += 1;
-    }
+    add_arcs(s, net, arcs_of(s, net, starts, mode), pre, post, low)
 }
 
 pub(crate) fn sum_members(

@@ -1,9 +1,9 @@
 // Exact sums over an open net and weights that were accepted for its pairs: the figure of a marking, and a mode's weight change.
 use model::Mode;
 use model::Pair;
+use opened::arcs::arc;
 use opened::listed::weight;
 use opened::shape::NetShape;
-use opened::shape::arc;
 use opened::starts::Segment;
 use opened::starts::arcs_of;
 ghost use mathlib.Core.Path.{_≡_};
@@ -17,7 +17,7 @@ ghost use Rattle.model.proofs.Figures.{gain as arcGain};
 ghost use Rattle.lists.specs.Weights.{weightsRefusal};
 ghost use Rattle.sheets.specs.Decoded.{netOf, weightsOf};
 ghost use Rattle.opened.specs.Shape.{Open};
-ghost use Rattle.opened.specs.Starts.{StartsAre};
+ghost use Rattle.opened.specs.Starts.{StartsAre, ModeArcs, OwnArc};
 
 // "weight times (Post less Pre)", exact: 2^31 times less than 2^32 is less than 2^63.
 fn gain(weight: i32, pre: u32, post: u32) -> i64
@@ -52,14 +52,14 @@ pub fn figure_of(s: &[u8], net: NetShape, weights: &[u8], marking: &[u32]) -> i6
     sum
 }
 
-// What the k-th arc adds to its mode's weight change.
-fn arc_gain(s: &[u8], net: NetShape, weights: &[u8], k: usize) -> i64
+// What the i-th arc adds to its mode's weight change.
+fn arc_gain(s: &[u8], net: NetShape, weights: &[u8], arcs: Segment, i: usize) -> i64
     requires { ⌜ Open (now s) net ⌝ }
     requires { ⌜ weightsRefusal (net .pairs) (now weights) ≡ none ⌝ }
-    requires { ⌜ k < net .arcs ⌝ }
-    ensures { λ r. ⌜ r ≡ arcGain (weightsOf (now (weights .entry))) (arcNo (netOf (now (s .entry)) .arcs) k) ⌝ }
+    requires { ⌜ OwnArc (netOf (now s) .arcs) arcs i ⌝ }
+    ensures { λ r. ⌜ r ≡ arcGain (weightsOf (now (weights .entry))) (arcNo (netOf (now (s .entry)) .arcs) (arcs .start + i)) ⌝ }
 {
-    let arc = arc(s, net, k);
+    let arc = arc(s, net, arcs, i);
     let pair = arc.pair;
     gain(weight(weights, net.pairs, pair), arc.pre, arc.post)
 }
@@ -67,16 +67,15 @@ fn arc_gain(s: &[u8], net: NetShape, weights: &[u8], k: usize) -> i64
 pub(crate) fn gains(s: &[u8], net: NetShape, weights: &[u8], arcs: Segment) -> i64
     requires { ⌜ Open (now s) net ⌝ }
     requires { ⌜ weightsRefusal (net .pairs) (now weights) ≡ none ⌝ }
-    requires { ⌜ arcs .start + arcs .count ≤ net .arcs ⌝ }
+    requires { ⌜ ModeArcs (netOf (now s) .arcs) (arcs .mode) (arcs .start) (arcs .count) ⌝ }
     ensures { λ r. ⌜ r ≡ sumTo (arcs .count) (λ k. arcGain (weightsOf (now (weights .entry))) (arcNo (netOf (now (s .entry)) .arcs) (arcs .start + k))) ⌝ }
 {
-    let start = arcs.start;
     let count = arcs.count;
     let mut sum: i64 = 0;
-    let mut k = 0;
-    while k < count {
-        sum += arc_gain(s, net, weights, start + k);
-        k += 1;
+    let mut i = 0;
+    while i < count {
+        sum += arc_gain(s, net, weights, arcs, i);
+        i += 1;
     }
     sum
 }

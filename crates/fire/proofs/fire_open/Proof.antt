@@ -1,8 +1,9 @@
 -- The marking, 6, or what firing the mode's arcs gives.
 use borrow.Author.Needs.{needs}
+use Rattle.opened.proofs.Segments.{segment-own}
 use Rattle.firing.proofs.ByMode.{at-mode}
 use Rattle.firing.proofs.Leaving.{leaves-stops, leaves-goes-on}
-use Rattle.fire.proofs.Opened.{mode-refusal}
+use Rattle.fire.proofs.Opened.{mode-refusal, is-there}
 use Rattle.fire.proofs.fire_open.Statement.{statement}
 use Rattle.fire.proofs.fire_open.Tie as tie
 
@@ -16,12 +17,17 @@ returns-2 c =
     leaves-goes-on _ _ (marked .before .before .marking-answer .ensures) (marked .enum-told2 .given .1)
     (rw (← mode-refusal (start .pre)) (leaves-stops _ _ (c .before .before .mode-answer .ensures) (c .enum-told3 .given .1)))
 
+find-arcs-requires : tie.Need-find-arcs-requires
+find-arcs-requires c κs =
+    let start = c .before .before .before .before .before .before .before .before .before in
+    (start .pre, is-there _ _ _ (c .before .before .mode-answer .ensures) (c .enum-told4 .given .1))
+
 fire-arcs-requires : tie.Need-fire-arcs-requires
 fire-arcs-requires c κs =
     let found = c .before in
     let marked = found .before .before .before .before in
     let start = marked .before .before .before .before .before .before in
-    at-mode (start .pre) (marked .before .before .marking-answer .ensures) (marked .enum-told2 .given .1) _ (found .find-arcs .ensures)
+    at-mode (start .pre) (marked .before .before .marking-answer .ensures) (marked .enum-told2 .given .1) (found .find-arcs .ensures)
 
 returns-3 : tie.Need-returns-3
 returns-3 c =
@@ -33,7 +39,7 @@ returns-3 c =
     leaves-goes-on _ _ (marked .before .before .marking-answer .ensures) (marked .enum-told2 .given .1)
     (rw (← mode-refusal (start .pre))
     (leaves-goes-on _ _ (there .before .before .mode-answer .ensures) (there .enum-told4 .given .1)
-    (fired .fire-arcs .ensures _ (found .find-arcs .ensures .0))))
+    (fired .fire-arcs .ensures _ (segment-own (found .find-arcs .ensures)))))
 
 pub fire-open-spec : {M : Type 1} → statement M
 fire-open-spec =
@@ -49,7 +55,7 @@ fire-open-spec =
     (λ c. search needs)
     returns-2
     (λ c. search needs)
-    (λ c κs. search needs)
+    find-arcs-requires
     fire-arcs-requires
     (λ c. search needs)
     returns-3)

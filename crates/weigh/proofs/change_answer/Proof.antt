@@ -2,6 +2,7 @@
 use borrow.Author.Needs.{needs}
 use mathlib.Core.Path.{_∙_}
 use Rattle.model.specs.declared.Thing.the-variants.{Argument}
+use Rattle.opened.proofs.Segments.{segment-own}
 use Rattle.opened.proofs.Modes.{open-there, open-missing}
 use Rattle.weigh.proofs.Answers.{figured-stops, figured-goes-on, figured-refused, figured-is, weights-refused, weights-pass, weights-accepted}
 use Rattle.weigh.proofs.Terms.{gains-change}
@@ -26,7 +27,7 @@ gains-requires c κs =
       search needs,
       (
         weights-accepted (w .before .before .before .pre) _ (w .whole-weights .ensures) (c .before .before .before .before .enum-told .given .1),
-        c .find-arcs .ensures .1,
+        c .find-arcs .ensures .own,
       ),
     )
 
@@ -35,7 +36,7 @@ returns-3 c =
     let w = c .before .before .before .before .before .before .before in
     let b = w .before .before .before in
     figured-goes-on _ _ _ (weights-pass (b .pre) _ (w .whole-weights .ensures) (c .before .before .before .before .before .enum-told .given .1))
-    (figured-is (c .gains .ok) (c .gains .ensures ∙ gains-change (b .pre) _ _ _ _ (c .before .find-arcs .ensures .0))
+    (figured-is (c .gains .ok) (c .gains .ensures ∙ gains-change (b .pre) _ _ _ _ (segment-own (c .before .find-arcs .ensures)))
     (open-there (b .pre) Argument (b .args .mode) (c .before .before .if1 .left)))
 
 pub change-answer-spec : {M : Type 1} → statement M

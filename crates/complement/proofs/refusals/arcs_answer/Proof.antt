@@ -1,41 +1,55 @@
--- No arc before k is refused.
+-- No arc of a mode below t is refused.
 use borrow.Author.Needs.{needs}
-use Prim.Native.Nat.{_≤_, _-_}
-use mathlib.Core.Path.{_≡_, sym, _∙_, ap}
+use Prim.Native.Nat.{ℕ, _+_, _≤_, _-_}
+use mathlib.Core.Path.{_≡_, refl, sym, _∙_, ap}
 use mathlib.Core.Option.{none}
+use lib.ListN.{length}
 use native.Mathlib.Omega.{arith}
 use Rattle.model.specs.First.{first}
-use Rattle.model.proofs.First.{first-none}
 use Rattle.model.specs.Refusals.{answer}
-use Rattle.model.proofs.Refusals.{answer-first-at, answer-first-end, answer-first-more}
+use Rattle.model.proofs.First.{first-none}
+use Rattle.sheets.specs.Decoded.{netOf}
+use Rattle.opened.specs.Starts.{FirstFrom}
 use Rattle.opened.proofs.Shapes.{sizes}
+use Rattle.opened.proofs.Segments.{first-arc, first-ends, first-same}
 use Rattle.complement.specs.ArcRefusals.{obstacleAt}
-use Rattle.complement.proofs.Answers.{each-obstacle}
+use Rattle.complement.proofs.Answers.{each-obstacle, stops-at, goes-on}
 use Rattle.complement.proofs.refusals.arcs_answer.Statement.{statement}
 use Rattle.complement.proofs.refusals.arcs_answer.Tie as tie
 
 abbrev Inv-loop : tie.InvT-loop
-Inv-loop s net obstacle arcs k₀ k = (k ≤ arcs) × (first k (obstacleAt s obstacle) ≡ none)
+Inv-loop s net starts obstacle modes t₀ t = (t ≤ modes) × ((k : ℕ) → FirstFrom (netOf s .arcs) t k → first k (obstacleAt s obstacle) ≡ none)
 
 abbrev μ-loop : tie.MeasureT-loop
-μ-loop s net obstacle arcs k₀ k = arcs - k
+μ-loop s net starts obstacle modes t₀ t = modes - t
+
+loop-holds : tie.Need-loop-holds Inv-loop μ-loop
+loop-holds c = (search needs, λ k f. rw (first-same _ 0 k 0 f (first-arc _)) (sym (first-none _)))
 
 returns : tie.Need-returns Inv-loop μ-loop
 returns c =
-    let l = c .before .before .before .before .loop in
-    let start = c .before .before .before .before .before .before in
-    answer-first-at _ (l .k) _ (omega (arith, sizes (start .pre))) (l .inv .1) (c .before .before .arc-answer .ensures) (c .enum-told .given .1)
-    ∙ ap answer (each-obstacle (start .args .s .now) (start .args .obstacle))
+    let l = c .before .before .before .before .before .loop in
+    let a = c .before .before .before .before .before .before .before .args in
+    let segment = c .before .before .before .arcs-of .ensures in
+    stops-at (obstacleAt (a .s .now) (a .obstacle)) _ _ (l .inv .1 _ (segment .starts)) _ (segment .ends .inside) (c .before .before .mode-answer .ensures) (c .enum-told .given .1)
+    ∙ ap answer (each-obstacle (a .s .now) (a .obstacle))
 
 loop-again : tie.Need-loop-again Inv-loop μ-loop
 loop-again c =
-    (search needs, answer-first-more _ _ (c .before .before .before .before .loop .inv .1) (c .before .before .arc-answer .ensures) (c .enum-told2 .given .1))
+    let l = c .before .before .before .before .before .loop in
+    let a = c .before .before .before .before .before .before .before .args in
+    let segment = c .before .before .before .arcs-of .ensures in
+    let here = goes-on (obstacleAt (a .s .now) (a .obstacle)) _ _ (l .inv .1 _ (segment .starts)) (c .before .before .mode-answer .ensures) (c .enum-told2 .given .1) in
+    (search needs, λ k f. rw (first-same _ (l .t + 1) k _ f (segment .ends)) here)
 
 returns-2 : tie.Need-returns-2 Inv-loop μ-loop
 returns-2 c =
+    let l = c .before .loop in
     let start = c .before .before .before in
-    let z = sizes (start .pre) in
-    answer-first-end _ _ _ (omega (arith, z)) (omega (arith, z)) (c .before .loop .inv .1) ∙ ap answer (each-obstacle (start .args .s .now) (start .args .obstacle))
+    let z = sizes (start .pre .0) in
+    let arcs = netOf (start .args .s .now) .arcs in
+    let ends = first-ends arcs (l .t) (length arcs) refl (record { each = λ k h. omega (arith, z .modes, z .wellFormed .eachArc k h .mode) }) in
+    ap answer (sym (l .inv .1 _ ends) ∙ each-obstacle (start .args .s .now) (start .args .obstacle))
 
 pub arcs-answer-spec : {M : Type 1} → statement M
 arcs-answer-spec =
@@ -43,7 +57,9 @@ arcs-answer-spec =
     (tie.spec
     Inv-loop
     μ-loop
-    (λ c. (search needs, sym (first-none _)))
+    loop-holds
+    (λ c. omega (arith, sizes (c .before .before .before .pre .0) .modesWithin))
+    (λ c κs. search needs)
     (λ c κs. search needs)
     (λ c. search needs)
     returns

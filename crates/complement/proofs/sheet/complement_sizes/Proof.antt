@@ -7,8 +7,8 @@ use Rattle.sections.proofs.PlaceHalves.{place-count}
 use Rattle.complement.proofs.sheet.complement_sizes.Statement.{statement}
 use Rattle.complement.proofs.sheet.complement_sizes.Tie as tie
 
-add-t6 : tie.Need-add-t6
-add-t6 c = let z = sizes (c .before .before .before .pre .0) in omega (arith, z .places, z .wellFormed .places .many)
+add-t7 : tie.Need-add-t7
+add-t7 c = let z = sizes (c .before .before .before .pre .0) in omega (arith, z .places, z .wellFormed .places .many)
 
 bounded-between-requires : tie.Need-bounded-between-requires
 bounded-between-requires c κs =
@@ -16,27 +16,27 @@ bounded-between-requires c κs =
     let z = sizes (pre .0) in
     let pairs = c .before .before .before .args .net .pairs in
     let few = z .wellFormed .places .inTotal in
-    let last = entry-few (pre .0) (pre .1) pairs (omega arith) in
-    (omega arith, omega (arith, z .pairs), entries-rise (pre .0) (pre .1) 0 pairs (omega arith) (omega arith), omega (arith, z .pairs))
+    let last = entry-few (pre .0) (pre .1 .0) pairs (omega arith) in
+    (omega arith, omega (arith, z .pairs), entries-rise (pre .0) (pre .1 .0) 0 pairs (omega arith) (omega arith), omega (arith, z .pairs))
 
-add-t8 : tie.Need-add-t8
-add-t8 c =
+add-t9 : tie.Need-add-t9
+add-t9 c =
     let pre = c .before .before .before .before .pre in
     let z = sizes (pre .0) in
-    omega (arith, z .pairsWithin, c .bounded-between .ensures, entry-few (pre .0) (pre .1) (c .before .before .before .before .args .net .pairs) (omega arith))
+    omega (arith, z .pairsWithin, c .bounded-between .ensures, entry-few (pre .0) (pre .1 .0) (c .before .before .before .before .args .net .pairs) (omega arith))
 
 returns : tie.Need-returns
 returns c =
-    let pre = c .before .before .before .before .before .pre in
+    let pre = c .before .before .before .before .pre in
     let z = sizes (pre .0) in
-    let places = c .before .before .before .count-new-places .ensures in
-    let new = c .before .bounded-between .ensures in
-    let last = entry-few (pre .0) (pre .1) (c .before .before .before .before .before .args .net .pairs) (omega arith) in (
-      record { places = omega (arith, place-count (pre .0), places .0); pairs = pair-count (pre .0) (pre .1) new; arcs = c .count-arcs .ensures .0 },
+    let places = c .before .before .count-new-places .ensures in
+    let new = c .bounded-between .ensures in
+    let last = entry-few (pre .0) (pre .1 .0) (c .before .before .before .before .args .net .pairs) (omega arith) in (
+      record { places = omega (arith, place-count (pre .0), places .0); pairs = pair-count (pre .0) (pre .1 .0) new; arcs = pre .1 .1 .0 },
       record {
         places = omega (arith, z .places, z .wellFormed .places .many, places .1);
         pairs = omega (arith, z .pairsWithin, new, last);
-        arcs = c .count-arcs .ensures .1;
+        arcs = pre .1 .1 .1;
       },
     )
 
@@ -45,8 +45,7 @@ complement-sizes-spec =
     tie.close
     (tie.spec
     (λ c κs. search needs)
-    add-t6
+    add-t7
     bounded-between-requires
-    add-t8
-    (λ c κs. search needs)
+    add-t9
     returns)

@@ -1,5 +1,6 @@
 -- 6, or what firing the mode's arcs gives.
 use borrow.Author.Needs.{needs}
+use Rattle.opened.proofs.Segments.{segment-own}
 use Rattle.firing.proofs.Leaving.{leaves-stops, leaves-goes-on}
 use Rattle.fire.proofs.Opened.{mode-refusal, is-there}
 use Rattle.fire.proofs.advance.advance.Statement.{statement}
@@ -23,7 +24,7 @@ returns-2 c =
     let start = test .before .before .before .before .before in
     rw (← mode-refusal (start .pre .0))
     (leaves-goes-on _ _ (test .before .before .mode-answer .ensures) (test .enum-told2 .given .1)
-    (fired .fire-arcs .ensures _ (found .arcs-of .ensures .0)))
+    (fired .fire-arcs .ensures _ (segment-own (found .arcs-of .ensures))))
 
 pub advance-spec : {M : Type 1} → statement M
 advance-spec =

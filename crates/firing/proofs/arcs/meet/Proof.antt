@@ -5,8 +5,8 @@ use Rattle.opened.proofs.Shapes.{sizes}
 use Rattle.firing.proofs.arcs.meet.Statement.{statement}
 use Rattle.firing.proofs.arcs.meet.Tie as tie
 
-shared-slice-read-t11 : tie.Need-shared-slice-read-t11
-shared-slice-read-t11 c =
+shared-slice-read-t12 : tie.Need-shared-slice-read-t12
+shared-slice-read-t12 c =
     let pre = c .before .before .before .before .before .before .before .pre in
     omega (arith, sizes (pre .0) .pairs)
 
@@ -28,4 +28,4 @@ returns c =
 pub meet-spec : {M : Type 1} → statement M
 meet-spec =
     tie.close
-    (tie.spec (λ c κs. search needs) (λ c κs. search needs) (λ c. search needs) (λ c. search needs) shared-slice-read-t11 returns)
+    (tie.spec (λ c κs. search needs) (λ c κs. search needs) (λ c. search needs) (λ c. search needs) shared-slice-read-t12 returns)

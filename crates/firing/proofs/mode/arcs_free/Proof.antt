@@ -11,10 +11,10 @@ use Rattle.firing.proofs.mode.arcs_free.Statement.{statement}
 use Rattle.firing.proofs.mode.arcs_free.Tie as tie
 
 abbrev Inv-loop : tie.InvT-loop
-Inv-loop s net marking start count i₀ i = (i ≤ count) × ((j : ℕ) → j < i → Free (netOf s) marking (start + j))
+Inv-loop s net arcs marking count i₀ i = (i ≤ count) × ((j : ℕ) → j < i → Free (netOf s) marking (arcs .start + j))
 
 abbrev μ-loop : tie.MeasureT-loop
-μ-loop s net marking start count i₀ i = count - i
+μ-loop s net arcs marking count i₀ i = count - i
 
 loop-holds : tie.Need-loop-holds Inv-loop μ-loop
 loop-holds c = (search needs, λ j l. absurd (omega arith))
@@ -37,7 +37,6 @@ arcs-free-spec =
     Inv-loop
     μ-loop
     loop-holds
-    (λ c. search needs)
     (λ c κs. search needs)
     returns
     (λ c. search needs)

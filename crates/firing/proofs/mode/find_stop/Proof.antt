@@ -13,11 +13,11 @@ use Rattle.firing.proofs.mode.find_stop.Statement.{statement}
 use Rattle.firing.proofs.mode.find_stop.Tie as tie
 
 abbrev Inv-loop : tie.InvT-loop
-Inv-loop s net thing why marking start count i₀ i =
-    (i ≤ count) × (first i (λ i. stopAt thing why (netOf s) marking (start + i)) ≡ none)
+Inv-loop s net arcs thing why marking count i₀ i =
+    (i ≤ count) × (first i (λ i. stopAt thing why (netOf s) marking (arcs .start + i)) ≡ none)
 
 abbrev μ-loop : tie.MeasureT-loop
-μ-loop s net thing why marking start count i₀ i = count - i
+μ-loop s net arcs thing why marking count i₀ i = count - i
 
 loop-holds : tie.Need-loop-holds Inv-loop μ-loop
 unfolding first
@@ -46,7 +46,6 @@ find-stop-spec =
     Inv-loop
     μ-loop
     loop-holds
-    (λ c. search needs)
     (λ c κs. search needs)
     (λ c. search needs)
     returns

@@ -11,10 +11,11 @@ use Rattle.firing.proofs.mode.write_arcs.Statement.{statement}
 use Rattle.firing.proofs.mode.write_arcs.Tie as tie
 
 abbrev Inv-loop : tie.InvT-loop
-Inv-loop s net marking₀ start count i₀ marking i = (i ≤ count) × (marking ≡ writeArcs (λ i. arcNo (netOf s .arcs) (start + i)) i marking₀)
+Inv-loop s net arcs marking₀ count i₀ marking i =
+    (i ≤ count) × (marking ≡ writeArcs (λ i. arcNo (netOf s .arcs) (arcs .start + i)) i marking₀)
 
 abbrev μ-loop : tie.MeasureT-loop
-μ-loop s net marking₀ start count i₀ marking i = count - i
+μ-loop s net arcs marking₀ count i₀ marking i = count - i
 
 loop-holds : tie.Need-loop-holds Inv-loop μ-loop
 unfolding writeArcs
@@ -24,13 +25,13 @@ write-arc-requires : tie.Need-write-arc-requires Inv-loop μ-loop
 write-arc-requires c κs =
     let l = c .before .before .loop in
     let pre = c .before .before .before .before .before .pre in
-    (pre .opened, (search needs, rw (l .inv .1) (writable pre (pre .mode) (pre .own) (l .i) (c .before .loop-test .taken))))
+    (pre .opened, (search needs, rw (l .inv .1) (writable pre _ (pre .own) (l .i) (c .before .loop-test .taken))))
 
 loop-again : tie.Need-loop-again Inv-loop μ-loop
 loop-again c =
     let l = c .before .before .before .before .before .loop in
     let pre = c .before .before .before .before .before .before .before .before .pre in
-    (search needs, c .before .before .write-arc .ensures ∙ rw (l .inv .1) (written-next pre (pre .mode) (pre .own) (l .i)))
+    (search needs, c .before .before .write-arc .ensures ∙ rw (l .inv .1) (written-next pre _ (pre .own) (l .i)))
 
 same-length : tie.Need-same-length Inv-loop μ-loop
 same-length c = ap length (c .before .loop .inv .1) ∙ write-length _ _ (c .before .loop .i)
@@ -47,7 +48,6 @@ write-arcs-spec =
     Inv-loop
     μ-loop
     loop-holds
-    (λ c. search needs)
     write-arc-requires
     (λ c. search needs)
     (λ c. search needs)

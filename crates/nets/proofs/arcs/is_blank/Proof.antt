@@ -1,5 +1,4 @@
 -- Pre, Post and I in turn.
-use borrow.Author.Needs.{needs}
 use borrow.Author.Tests.{eq-eqb, ne-eqb}
 use native.Mathlib.Omega.{arith}
 use Rattle.nets.proofs.arcs.is_blank.Statement.{statement}

@@ -6,7 +6,7 @@ use native.Mathlib.Omega.{arith}
 use Rattle.sheets.specs.Decoded.{netOf}
 use Rattle.opened.specs.Starts.{FirstFrom}
 use Rattle.opened.proofs.Shapes.{sizes}
-use Rattle.opened.proofs.Segments.{in-turn, mode-arcs}
+use Rattle.opened.proofs.Segments.{in-turn, segment-of}
 use Rattle.opened.proofs.starts.arcs_of.Statement.{statement}
 use Rattle.opened.proofs.starts.arcs_of.Tie as tie
 
@@ -22,8 +22,7 @@ ends c = c .pre .1 .0 .each _ (omega (arith, there c))
 returns : tie.Need-returns
 returns c =
     let start = c .before .before .before in
-    let arcs = mode-arcs _ (start .args .mode) _ _ (starts start) (ends start) in
-    (arcs, omega (arith, sizes (start .pre .0)))
+    segment-of _ _ _ _ (starts start) (ends start)
 
 pub arcs-of-spec : {M : Type 1} → statement M
 arcs-of-spec =

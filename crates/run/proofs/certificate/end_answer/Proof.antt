@@ -9,22 +9,23 @@ use Rattle.run.proofs.certificate.end_answer.Tie as tie
 
 run-listed-requires : tie.Need-run-listed-requires
 run-listed-requires c κs =
-    let wrote = c .before .before .before .before in
+    let made = c .before .before .before in
+    let wrote = made .before .before .before in
     let start = wrote .before .before .before .before .before .before in
-    (start .pre .0, (λ l. absurd (omega arith), (start .pre .1 .0, rw (wrote .write-start .ensures) (sizes (start .pre .0) .wellFormed .start))))
+    (record { opened = start .pre .0; startsAre = made .starts .ensures; numbersAre = λ l. absurd (omega arith) }, (start .pre .1 .0, rw (wrote .write-start .ensures) (sizes (start .pre .0) .wellFormed .start)))
 
 returns : tie.Need-returns
 returns c =
     let ran = c .before .before .before .before in
-    let wrote = ran .before .before .before .before .before in
+    let wrote = ran .before .before .before .before .before .before .before in
     ends-stopped _ _ _ (wrote .write-start .ensures) (ran .run-listed .ensures) (c .enum-told .given .1)
 
 compare-requires : tie.Need-compare-requires
 compare-requires c κs =
     let ran = c .before .before .before .before .before in
-    let wrote = ran .before .before .before .before .before in
+    let wrote = ran .before .before .before .before .before .before .before in
     let start = wrote .before .before .before .before .before .before in (
-      ran .run-listed .kept .1 .1 .1 .1 .0 ∙ wrote .write-start .kept .1 .1 .0 ∙ start .pre .1 .1 .1,
+      ran .run-listed .kept .1 .1 .1 .1 .1 .0 ∙ wrote .write-start .kept .1 .1 .0 ∙ start .pre .1 .1 .1,
       start .pre .1 .1 .0,
       sizes (start .pre .0) .pairsWithin,
     )
@@ -33,7 +34,7 @@ returns-2 : tie.Need-returns-2
 returns-2 c =
     let told = c .before .before in
     let ran = told .before .before .before .before in
-    let wrote = ran .before .before .before .before .before in
+    let wrote = ran .before .before .before .before .before .before .before in
     let start = wrote .before .before .before .before .before .before in
     ends-compared _ _ _ (wrote .write-start .ensures) (ran .run-listed .ensures) (told .enum-told2 .given .1)
     (rw (sizes (start .pre .0) .pairs) at (c .compare .ensures))
@@ -42,6 +43,7 @@ pub end-answer-spec : {M : Type 1} → statement M
 end-answer-spec =
     tie.close
     (tie.spec
+    (λ c κs. search needs)
     (λ c κs. search needs)
     (λ c. search needs)
     run-listed-requires

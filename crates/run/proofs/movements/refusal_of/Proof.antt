@@ -1,6 +1,7 @@
 -- 6, or what is found at the mode's arcs.
 use borrow.Author.Needs.{needs}
 use Rattle.model.proofs.Refusals.{answer-stops, answer-goes-on}
+use Rattle.opened.proofs.Segments.{segment-own}
 use Rattle.fire.proofs.Opened.{mode-refusal, is-there}
 use Rattle.run.proofs.movements.refusal_of.Statement.{statement}
 use Rattle.run.proofs.movements.refusal_of.Tie as tie
@@ -21,7 +22,7 @@ returns-2 c =
     let start = test .before .before .before .before .before in
     rw (← mode-refusal (start .pre .0))
     (answer-goes-on _ _ (test .before .before .mode-answer .ensures) (test .enum-told2 .given .1)
-    (c .find-refusal .ensures _ (c .before .arcs-of .ensures .0)))
+    (c .find-refusal .ensures _ (segment-own (c .before .arcs-of .ensures))))
 
 pub refusal-of-spec : {M : Type 1} → statement M
 refusal-of-spec =

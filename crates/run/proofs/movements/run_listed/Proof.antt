@@ -4,29 +4,23 @@ use Rattle.sheets.proofs.Lists.{movements-are, movements-headed, movements-stan
 use Rattle.run.proofs.movements.run_listed.Statement.{statement}
 use Rattle.run.proofs.movements.run_listed.Tie as tie
 
-movement-count-requires : tie.Need-movement-count-requires
-movement-count-requires c κs = movements-headed _ (c .before .before .before .before .before .pre .1 .1 .0)
-
 run-modes-requires : tie.Need-run-modes-requires
 run-modes-requires c κs =
-    let counted = c .before .before .before in
-    let start = counted .before .before .before .before .before .before in (
-      record { opened = start .pre .0; startsAre = counted .before .starts .ensures; numbersAre = start .pre .1 .0 },
-      (rw (c .before .movements-at .ensures, counted .movement-count .ensures) (movements-stand _ (start .pre .1 .1 .0)), start .pre .1 .1 .1),
-    )
+    let counted = c .before .before in
+    let start = counted .before .before .before .before .before in
+    (start .pre .0, (rw (c .before .movements-at .ensures, counted .movement-count .ensures) (movements-stand _ (start .pre .1 .0)), start .pre .1 .1))
 
 returns : tie.Need-returns
 returns c =
     let ran = c .before .before in
     let place = ran .before .before in
-    rw (movements-are, ← place .movements-at .ensures, ← place .before .before .movement-count .ensures) (ran .run-modes .ensures)
+    rw (movements-are, ← place .movements-at .ensures, ← place .before .movement-count .ensures) (ran .run-modes .ensures)
 
 pub run-listed-spec : {M : Type 1} → statement M
 run-listed-spec =
     tie.close
     (tie.spec
-    (λ c κs. search needs)
-    movement-count-requires
+    (λ c κs. movements-headed _ (c .before .before .before .before .pre .1 .0))
     (λ c κs. search needs)
     run-modes-requires
     (λ c. search needs)

@@ -1,6 +1,7 @@
 -- Not there; or what firing the mode's arcs gives.
 use borrow.Author.Needs.{needs}
 use native.Mathlib.Omega.{arith}
+use Rattle.opened.proofs.Segments.{segment-own}
 use Rattle.run.proofs.Running.{absent-makes, there-makes}
 use Rattle.run.proofs.movements.step.Statement.{statement}
 use Rattle.run.proofs.movements.step.Tie as tie
@@ -13,7 +14,7 @@ returns-2 c =
     let fired = c .before .before in
     let found = fired .before .before .before in
     let start = found .before .before .before .before .before .before .before in
-    there-makes (start .pre .0 .opened) _ (found .before .if1 .left) (fired .fire-free .ensures _ (found .arcs-of .ensures .0) .each _)
+    there-makes (start .pre .0 .opened) _ (found .before .if1 .left) (fired .fire-free .ensures _ (segment-own (found .arcs-of .ensures)) .each _)
 
 fire-within-requires : tie.Need-fire-within-requires
 fire-within-requires c κs =
@@ -25,7 +26,7 @@ returns-3 c =
     let fired = c .before .before in
     let found = fired .before .before .before in
     let start = found .before .before .before .before .before .before .before in
-    there-makes (start .pre .0 .opened) _ (found .before .if1 .left) (fired .fire-within .ensures _ (found .arcs-of .ensures .0) .each _)
+    there-makes (start .pre .0 .opened) _ (found .before .if1 .left) (fired .fire-within .ensures _ (segment-own (found .arcs-of .ensures)) .each _)
 
 pub step-spec : {M : Type 1} → statement M
 step-spec =

@@ -9,19 +9,26 @@ use Rattle.run.proofs.numbers.arc_within.Tie as tie
 returns : tie.Need-returns
 returns c = below-pre (c .before .before .meet .ensures) (c .if1 .taken)
 
+add-k : tie.Need-add-k
+add-k c =
+    let pre = c .before .before .before .before .before .before .before .pre in
+    omega (arith, sizes (pre .0), pre .1 .1 .1 .own .fits)
+
 mul-result : tie.Need-mul-result
-mul-result c = omega (arith, sizes (c .before .before .before .before .before .before .pre .0) .arcsWithin)
+mul-result c =
+    let pre = c .before .before .before .before .before .before .before .pre in
+    omega (arith, sizes (pre .0), pre .1 .1 .1 .own .fits)
 
 shared-slice-read-result : tie.Need-shared-slice-read-result
 shared-slice-read-result c =
-    let pre = c .before .before .before .before .before .before .before .pre in
-    omega (arith, sizes (pre .0) .arcs, pre .1 .0 .long)
+    let pre = c .before .before .before .before .before .before .before .before .pre in
+    omega (arith, pre .1 .0 .long, pre .1 .1 .1 .own .fits)
 
 returns-2 : tie.Need-returns-2
 returns-2 c =
-    let test = c .before .before in
+    let test = c .before .before .before in
     let pre = test .before .before .before .before .before .before .pre in
-    below-number (test .before .before .meet .ensures) _ (pre .1 .0 .each _ (rw (sizes (pre .0) .arcs) at (pre .1 .1 .1))) (test .if1 .left)
+    below-number (test .before .before .meet .ensures) _ (pre .1 .0 .each _ (omega (arith, pre .1 .1 .1 .own .fits))) (test .if1 .left)
 
 pub arc-within-spec : {M : Type 1} → statement M
-arc-within-spec = tie.close (tie.spec (λ c κs. search needs) returns mul-result shared-slice-read-result returns-2)
+arc-within-spec = tie.close (tie.spec (λ c κs. search needs) returns add-k mul-result shared-slice-read-result returns-2)

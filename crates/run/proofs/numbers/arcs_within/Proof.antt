@@ -11,10 +11,10 @@ use Rattle.run.proofs.numbers.arcs_within.Statement.{statement}
 use Rattle.run.proofs.numbers.arcs_within.Tie as tie
 
 abbrev Inv-loop : tie.InvT-loop
-Inv-loop s net numbers marking start count i₀ i = (i ≤ count) × ((j : ℕ) → j < i → Free (netOf s) marking (start + j))
+Inv-loop s net numbers arcs marking count i₀ i = (i ≤ count) × ((j : ℕ) → j < i → Free (netOf s) marking (arcs .start + j))
 
 abbrev μ-loop : tie.MeasureT-loop
-μ-loop s net numbers marking start count i₀ i = count - i
+μ-loop s net numbers arcs marking count i₀ i = count - i
 
 loop-holds : tie.Need-loop-holds Inv-loop μ-loop
 loop-holds c = (search needs, λ j l. absurd (omega arith))
@@ -22,7 +22,7 @@ loop-holds c = (search needs, λ j l. absurd (omega arith))
 arc-within-requires : tie.Need-arc-within-requires Inv-loop μ-loop
 arc-within-requires c κs =
     let pre = c .before .before .before .before .before .pre in
-    (pre .1 .opened, (pre .0, (pre .1 .marking, omega arith)))
+    (pre .1 .opened, (pre .0, (pre .1 .marking, record { own = pre .1 .own; there = c .loop-test .taken })))
 
 returns : tie.Need-returns Inv-loop μ-loop
 returns c = λ t own.
@@ -42,7 +42,6 @@ arcs-within-spec =
     Inv-loop
     μ-loop
     loop-holds
-    (λ c. search needs)
     arc-within-requires
     returns
     (λ c. search needs)

@@ -10,11 +10,11 @@ use Rattle.sections.proofs.arcs.put_half_arcs.Statement.{statement}
 use Rattle.sections.proofs.arcs.put_half_arcs.Tie as tie
 
 abbrev Inv-loop : tie.InvT-loop
-Inv-loop s net below half start count out₀ at next₀ i₀ out next i =
+Inv-loop s net below half start count out₀ at arcs next₀ i₀ out next i =
     (i ≤ count) × Puts out₀ at (joined i (halfBytes (netOf s) half start)) out next
 
 abbrev μ-loop : tie.MeasureT-loop
-μ-loop s net below half start count out₀ at next₀ i₀ out next i = count - i
+μ-loop s net below half start count out₀ at arcs next₀ i₀ out next i = count - i
 
 loop-holds : tie.Need-loop-holds Inv-loop μ-loop
 loop-holds c = (search needs, puts-none _)
@@ -41,7 +41,6 @@ put-half-arcs-spec =
     Inv-loop
     μ-loop
     loop-holds
-    (λ c. search needs)
     put-half-arc-requires
     (λ c. search needs)
     (λ c. search needs)

@@ -1,4 +1,4 @@
--- The arc that was read is the k-th.
+-- The arc that was read is the i-th.
 use borrow.Author.Needs.{needs}
 use mathlib.Core.Path.{_∙_, ap}
 use lib.IntN.{pos, _*ℤ_, _-ℤ_}

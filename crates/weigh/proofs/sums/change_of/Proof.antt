@@ -2,12 +2,13 @@
 use borrow.Author.Needs.{needs}
 use mathlib.Core.Path.{_∙_}
 use mir.Facts.{toZ-ofZ}
+use Rattle.opened.proofs.Segments.{segment-own}
 use Rattle.weigh.proofs.Terms.{gains-change}
 use Rattle.weigh.proofs.sums.change_of.Statement.{statement}
 use Rattle.weigh.proofs.sums.change_of.Tie as tie
 
 returns : tie.Need-returns
-returns c = toZ-ofZ (record { sfits = c .gains .ok }) ∙ c .gains .ensures ∙ gains-change (c .before .before .before .before .pre .0) _ _ _ _ (c .before .arcs-of .ensures .0)
+returns c = toZ-ofZ (record { sfits = c .gains .ok }) ∙ c .gains .ensures ∙ gains-change (c .before .before .before .before .pre .0) _ _ _ _ (segment-own (c .before .arcs-of .ensures))
 
 pub change-of-spec : {M : Type 1} → statement M
 change-of-spec = tie.close (tie.spec (λ c κs. search needs) (λ c κs. search needs) returns)

@@ -1,6 +1,7 @@
--- The sum so far is that of the first k arcs.
+-- The sum so far is that of the first i arcs.
 use borrow.Author.Needs.{needs}
 use Prim.Native.Nat.{_+_, _≤_, _-_}
+use native.Mathlib.Omega.{arith}
 use mathlib.Core.Path.{_≡_, refl}
 use mir.Syntax.{w64}
 use mir.Val.{toZ}
@@ -8,16 +9,17 @@ use Rattle.model.specs.Nets.{arcNo}
 use Rattle.model.specs.Figures.{sum as sumTo}
 use Rattle.model.proofs.Figures.{sum-end, gain}
 use Rattle.sheets.specs.Decoded.{netOf, weightsOf}
+use Rattle.opened.proofs.Shapes.{sizes}
 use Rattle.weigh.proofs.Terms.{next-fits, next-is, change-terms}
 use Rattle.weigh.proofs.sums.gains.Statement.{statement}
 use Rattle.weigh.proofs.sums.gains.Tie as tie
 
 abbrev Inv-loop : tie.InvT-loop
-Inv-loop s net weights start count sum₀ k₀ sum k =
-    (k ≤ count) × (toZ w64 sum ≡ sumTo k (λ k. gain (weightsOf weights) (arcNo (netOf s .arcs) (start + k))))
+Inv-loop s net weights arcs count sum₀ i₀ sum i =
+    (i ≤ count) × (toZ w64 sum ≡ sumTo i (λ i. gain (weightsOf weights) (arcNo (netOf s .arcs) (arcs .start + i))))
 
 abbrev μ-loop : tie.MeasureT-loop
-μ-loop s net weights start count sum₀ k₀ sum k = count - k
+μ-loop s net weights arcs count sum₀ i₀ sum i = count - i
 
 loop-holds : tie.Need-loop-holds Inv-loop μ-loop
 unfolding sumTo
@@ -27,7 +29,7 @@ add-sum : tie.Need-add-sum Inv-loop μ-loop
 add-sum c =
     let b = c .before .before .before .before .before in
     let l = c .before .before .loop in
-    next-fits (change-terms (b .pre .0) _ (b .pre .1 .0) _ _ (b .pre .1 .1)) (l .k) (c .before .loop-test .taken) (c .arc-gain .ok) (l .inv .1)
+    next-fits (change-terms (b .pre .0) _ (b .pre .1 .0) _ _ (let z = sizes (b .pre .0) in omega (arith, b .pre .1 .1 .fits))) (l .i) (c .before .loop-test .taken) (c .arc-gain .ok) (l .inv .1)
     (c .arc-gain .ensures)
 
 loop-again : tie.Need-loop-again Inv-loop μ-loop
@@ -35,7 +37,7 @@ loop-again c =
     let b = c .before .before .before .before .before in
     let l = c .before .before .loop in (
       search needs,
-      next-is (change-terms (b .pre .0) _ (b .pre .1 .0) _ _ (b .pre .1 .1)) (l .k) (c .before .loop-test .taken) (c .arc-gain .ok) (l .inv .1)
+      next-is (change-terms (b .pre .0) _ (b .pre .1 .0) _ _ (let z = sizes (b .pre .0) in omega (arith, b .pre .1 .1 .fits))) (l .i) (c .before .loop-test .taken) (c .arc-gain .ok) (l .inv .1)
           (c .arc-gain .ensures),
     )
 
@@ -49,7 +51,6 @@ gains-spec =
     Inv-loop
     μ-loop
     loop-holds
-    (λ c. search needs)
     (λ c κs. search needs)
     add-sum
     (λ c. search needs)

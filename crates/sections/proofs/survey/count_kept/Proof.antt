@@ -4,8 +4,8 @@ use mathlib.Core.Path.{sym, ap}
 use lib.ListN.{length}
 use Rattle.sheets.specs.Decoded.{netArc}
 use Rattle.sections.proofs.Kept.{kept-none, kept-one}
-use Rattle.sections.proofs.arcs.count_kept.Statement.{statement}
-use Rattle.sections.proofs.arcs.count_kept.Tie as tie
+use Rattle.sections.proofs.survey.count_kept.Statement.{statement}
+use Rattle.sections.proofs.survey.count_kept.Tie as tie
 
 returns : tie.Need-returns
 returns c = (ap length (sym (kept-none (netArc (c .before .before .args .arc)) (c .before .is-blank .ensures) (c .if1 .taken))), search needs)

@@ -4,8 +4,8 @@ use mathlib.Core.Path.{_∙_, ap}
 use lib.ListN.{length, length-append}
 use native.Mathlib.Omega.{arith}
 use Rattle.sections.specs.Arcs.{kept}
-use Rattle.sections.proofs.arcs.count_halves.Statement.{statement}
-use Rattle.sections.proofs.arcs.count_halves.Tie as tie
+use Rattle.sections.proofs.survey.count_halves.Statement.{statement}
+use Rattle.sections.proofs.survey.count_halves.Tie as tie
 
 returns : tie.Need-returns
 returns c =
