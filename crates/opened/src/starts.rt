@@ -32,15 +32,16 @@ fn first_from(s: &[u8], net: NetShape, t: usize, k: usize) -> usize
     i
 }
 
-// The table for a run: entry t is the first arc whose mode is at least t.
+// The table for a run: entry t is the first arc whose mode is at least t. From the last mode on there is none, so the table begins with that.
 pub fn starts(s: &[u8], net: NetShape) -> [u16; 257]
     requires { ⌜ Open (now s) net ⌝ }
     ensures { λ r. ⌜ StartsAre (netOf (now (s .entry)) .arcs) r ⌝ }
 {
-    let mut table = [0u16; 257];
+    let modes = net.modes;
+    let mut table = [net.arcs as u16; 257];
     let mut k = 0;
     let mut t = 0;
-    while t < 257 {
+    while t < modes {
         k = first_from(s, net, t, k);
         table[t] = k as u16;
         t += 1;

@@ -1,32 +1,44 @@
--- The entries before t are right, and no arc before k has a mode of at least t.
+-- The entries before t are right, no arc before k has a mode of at least t, and the entries from t on say that no arc is left.
 use borrow.Author.Needs.{needs}
-use Prim.Native.Nat.{_≤_, _-_}
-use mathlib.Core.Path.{_≡_, refl, _∙_}
-use lib.ListN.{length, length-set}
+use Prim.Native.Nat.{ℕ, _≤_, _<_, _-_}
+use mathlib.Core.Path.{_≡_, _∙_}
+use mathlib.Core.Logic.{⊎-elim}
+use lib.ListN.{length, getD, length-set, length-replicate, getD-replicate}
+use lib.Seq.{getD-set-other}
 use native.Mathlib.Omega.{arith}
+use Rattle.model.proofs.First.{below-or}
 use Rattle.sheets.specs.Decoded.{netOf}
 use Rattle.opened.specs.Starts.{ModesBelow}
 use Rattle.opened.proofs.Shapes.{sizes}
-use Rattle.opened.proofs.Segments.{Filled, below-none, below-up, filled-more}
+use Rattle.opened.proofs.Segments.{Filled, below-none, below-up, first-ends, filled-more}
 use Rattle.opened.proofs.starts.starts.Statement.{statement}
 use Rattle.opened.proofs.starts.starts.Tie as tie
 
 abbrev Inv-loop : tie.InvT-loop
-Inv-loop s net table₀ k₀ t₀ table k t =
-    (t ≤ 257) × (length table ≡ 257) × (k ≤ net .arcs) × ModesBelow (netOf s .arcs) t k × Filled (netOf s .arcs) table t
+Inv-loop s net modes table₀ k₀ t₀ table k t =
+    (t ≤ modes)
+    × (length table ≡ 257)
+    × (k ≤ net .arcs)
+    × ModesBelow (netOf s .arcs) t k
+    × Filled (netOf s .arcs) table t
+    × ((u : ℕ) → t ≤ u → u < 257 → getD table u 0 ≡ net .arcs)
 
 abbrev μ-loop : tie.MeasureT-loop
-μ-loop s net table₀ k₀ t₀ table k t = 257 - t
+μ-loop s net modes table₀ k₀ t₀ table k t = modes - t
 
 loop-holds : tie.Need-loop-holds Inv-loop μ-loop
-loop-holds c = (omega arith, refl, omega arith, below-none _ _, λ t h. absurd (omega arith))
-
-cast-table : tie.Need-cast-table Inv-loop μ-loop
-cast-table c = omega (arith, c .first-from .ensures .inside, sizes (c .before .before .before .before .pre))
+loop-holds c = (
+  omega arith,
+  length-replicate 257 (c .before .before .args .net .arcs),
+  omega arith,
+  below-none _ _,
+  λ t h. absurd (omega arith),
+  λ u l h. getD-replicate 257 u (c .before .before .args .net .arcs) 0 h,
+)
 
 loop-again : tie.Need-loop-again Inv-loop μ-loop
 loop-again c =
-    let z = sizes (c .before .before .before .before .pre) in
+    let z = sizes (c .before .before .before .before .before .pre) in
     let l = c .before .before .loop in
     let f = c .first-from .ensures in (
       omega arith,
@@ -34,10 +46,22 @@ loop-again c =
       omega arith,
       below-up _ _ _ (f .before),
       filled-more _ (l .table) (l .t) _ (omega arith) (l .inv .4) f,
+      λ u b h. getD-set-other (l .table) (l .t) u _ 0 (λ e. omega arith) ∙ l .inv .5 u (omega arith) h,
     )
 
 returns : tie.Need-returns Inv-loop μ-loop
-returns c = record { each = λ t h. c .before .loop .inv .4 t (omega arith) }
+returns c =
+    let l = c .before .loop in
+    let start = c .before .before .before .before in
+    let z = sizes (start .pre) in
+    let arcs = netOf (start .args .s .now) .arcs in
+    record {
+      each =
+          λ u h.
+          ⊎-elim (λ (b : u < l .t). l .inv .4 u b)
+          (λ (b : l .t ≤ u). rw (l .inv .5 u b h) (first-ends arcs u _ (z .arcs) (record { each = λ j i. omega (arith, z .modes, z .wellFormed .eachArc j (omega (arith, z .arcs)) .mode) })))
+          (below-or u (l .t));
+    }
 
 pub starts-spec : {M : Type 1} → statement M
 starts-spec =
@@ -45,11 +69,12 @@ starts-spec =
     (tie.spec
     Inv-loop
     μ-loop
+    (λ c. omega (arith, sizes (c .before .before .pre)))
     loop-holds
     (λ c κs. search needs)
-    cast-table
-    (λ c. search needs)
-    (λ c. search needs)
+    (λ c. omega (arith, c .first-from .ensures .inside, sizes (c .before .before .before .before .before .pre)))
+    (λ c. omega (arith, sizes (c .before .before .before .before .before .pre)))
+    (λ c. omega (arith, sizes (c .before .before .before .before .before .pre)))
     (λ c. search needs)
     (λ c. search needs)
     loop-again
