@@ -9,8 +9,8 @@
  * count is at most I; firing it takes Pre and gives Post. K and I may be unbounded. L, the number in the first 4 bytes of a sheet, is
  * how many bytes follow them.
  *
- * Slices. A pointer is followed by its length in elements. Bytes and counts that are only read may overlap one another;
- * a slice that is written (no const) overlaps no other. Counts (uint32_t) are aligned. Where the length is 0, the pointer
+ * Slices. A pointer is followed by its length in elements. Slices that are only read may overlap one another;
+ * a slice that is written (no const) overlaps no other. Counts (uint32_t) and modes are aligned. Where the length is 0, the pointer
  * may be NULL.
  *
  * Sheets. A call that takes a net, weights or movements takes one whole sheet: its refusals are those of the sheet's reader,
@@ -56,12 +56,13 @@ enum {
     PNET_NET = 0, /* also where a call is accepted, and for 10, 15, 16 and any number above 18 */
     PNET_WEIGHTS = 1,
     PNET_MOVEMENTS = 2, /* also a movement that a run or a certificate refuses */
-    PNET_ARGUMENT = 3   /* a marking, a claim or a mode */
+    PNET_ARGUMENT = 3   /* a marking, a claim, a mode or a step */
 };
 
-/* The limits of sheets. */
+/* The limits of sheets and steps. */
 enum {
     PNET_PAIRS = 256,             /* at most, and so many counts in a marking */
+    PNET_STEP = 64,               /* modes of a step, at most */
     PNET_LARGEST_NET = 35083,     /* bytes, of a complement too */
     PNET_LARGEST_COUNT = 1000000, /* in a sheet or a marking */
     PNET_TEXT_ROOM = 262144       /* bytes, for any text of replay */
@@ -78,9 +79,10 @@ enum {
  *       a field runs past L                                                       the field
  *       bytes are left over after the last field, or after the sheet              the first of them
  *    4  a count is outside its limits, or the running total passes 256            the count's field
+ *       a step is empty, or has more than PNET_STEP modes                         0
  *    5  a number is outside its range                                             its field; in a marking, the pair
  *    6  an arc's mode or pair is not there                                        its field in the arc
- *       a movement's mode, or the mode that is handed over, is not there          0
+ *       a movement's mode, the mode handed over or one of a step is not there     0
  *    7  an arc is not above the one before, by mode, then pair                    the arc
  *    8  an arc is blank: Pre and Post are 0, I is unbounded                       the arc
  *    9  a count is above a bounded K                                              the first marking's field; in a marking, the pair
@@ -163,6 +165,18 @@ struct pnet_answer pnet_test(const uint8_t *net, size_t net_length, const uint32
 /* Fires the mode: writes the marking after it. Refuses what pnet_test refuses; a refused call writes nothing. */
 struct pnet_answer pnet_fire(const uint8_t *net, size_t net_length, uint32_t *marking, size_t counts,
                              struct pnet_mode mode);
+
+/* Whether a step is enabled at the marking: its modes, 1 to PNET_STEP of them, fire at once. A mode may stand there more than once, and
+ * counts each time. Pre and Post are summed over the modes, and I is the least of theirs; a mode without an arc at a pair
+ * counts 0, 0 and unbounded there. Writes nothing.
+ * Refuses: the net; the marking: 17, then pair by pair 5 and 9; the step: 4, then 6 for any of its modes, then 11, 12, 13, 14 over the
+ * sums (all PNET_ARGUMENT). A step of one mode is answered as pnet_test answers the mode. */
+struct pnet_answer pnet_test_step(const uint8_t *net, size_t net_length, const uint32_t *marking, size_t counts,
+                                  const struct pnet_mode *modes, size_t modes_count);
+
+/* Fires a step: writes the marking after all its modes. Refuses what pnet_test_step refuses; a refused call writes nothing. */
+struct pnet_answer pnet_fire_step(const uint8_t *net, size_t net_length, uint32_t *marking, size_t counts,
+                                  const struct pnet_mode *modes, size_t modes_count);
 
 /* Runs the movements from the counts found in the marking, up to the first that is refused. The value is how many were accepted,
  * also where the answer is a refusal, and the marking is what those gave.

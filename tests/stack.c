@@ -3,7 +3,7 @@
  *
  *   cc -I include tests/stack.c target/staticlib/libabi.a -o stack && ./stack
  *
- * Exit status 1 where a call uses more than it may: pnet_run 12 KiB, every other 4 KiB.
+ * Exit status 1 where a call uses more than it may: pnet_run 12 KiB, steps 6 KiB, every other 4 KiB.
  */
 #include <stdio.h>
 #include <string.h>
@@ -69,6 +69,7 @@ static uint32_t marking[PNET_PAIRS];
 static uint8_t input[65536], out[PNET_TEXT_ROOM];
 static size_t input_length;
 static struct pnet_mode last = {255};
+static struct pnet_mode step[64];
 
 static unsigned char stack[ROOM];
 static volatile char *top;
@@ -93,6 +94,8 @@ CALL(read_movements, pnet_read_movements(MOVEMENTS).answer)
 CALL(begin, pnet_begin(NET, MARKING))
 CALL(test, pnet_test(NET, MARKING, last))
 CALL(fire, pnet_fire(NET, MARKING, last))
+CALL(test_step, pnet_test_step(NET, MARKING, step, 64))
+CALL(fire_step, pnet_fire_step(NET, MARKING, step, 64))
 CALL(run, pnet_run(NET, MOVEMENTS, MARKING).answer)
 CALL(certify, pnet_certify(NET, MOVEMENTS, MARKING))
 CALL(figure, pnet_figure(NET, WEIGHTS, MARKING).answer)
@@ -112,6 +115,7 @@ static const struct {
     {"pnet_read_net", read_net, 0, 4096},       {"pnet_read_weights", read_weights, 0, 4096},
     {"pnet_read_movements", read_movements, 0, 4096}, {"pnet_begin", begin, 0, 4096},
     {"pnet_test", test, 11, 4096},              {"pnet_fire", fire, 11, 4096},
+    {"pnet_test_step", test_step, 0, 6144},     {"pnet_fire_step", fire_step, 0, 6144},
     {"pnet_run", run, 11, 12288},               {"pnet_certify", certify, 11, 4096},
     {"pnet_figure", figure, 0, 4096},           {"pnet_change", change, 0, 4096},
     {"pnet_is_dead", is_dead, 0, 4096},         {"pnet_first_dead", first_dead, 0, 4096},
@@ -158,6 +162,8 @@ int main(void)
     for (int movement = 0; movement < 8192; movement++)
         put(&movements, 2, movement == 8191 ? 255 : movement % 255);
     close(&movements);
+    for (int member = 0; member < 64; member++)
+        step[member].number = (uint16_t)(3 * member);
     append(&full);
     append(&weights);
     append(&movements);

@@ -8,17 +8,18 @@ A list has, each with its lines below it, indented; `#` starts a comment, which 
 
     net NAME            places (colours of each), transitions (modes of each), `pair 0: K 5, first 3`, `mode 0, pair 0: Pre 1, Post 0, I 4`
     weights, movements, marking NAME: numbers
-    case NAME           `call fire, net P1, marking 3 1, mode 0`; what it answers, `accepted` or `refused by 13, thing 3, at 0` (a number that is not said is 0),
-                        with what it yields, `value 91`, `yes`, `no` or `mode 1 pair 1`; `leaves 2 1`, the marking after (else it is as before);
-                        `writes NAME`, the sheet in the bytes lent, of which it has `room` (else nothing is written)
+    case NAME           `call fire, net P1, marking 3 1, mode 0`, of a step `modes 0 1` or `modes 65 times 0`; what it answers, `accepted` or
+                        `refused by 13, thing 3, at 0` (a number that is not said is 0), with what it yields, `value 91`, `yes`, `no` or `mode 1 pair 1`;
+                        `leaves 2 1`, the marking after (else it is as before); `writes NAME`, the sheet in the bytes lent, of which it has `room` (else
+                        nothing is written)
     both NET, COMPLEMENT   a row is a marking, `|` and the counts of its complement pairs, a mode, and `to` the marking after, or the refusals: `13 at 0 | 11 at 2`.
                         Each is tested and fired, in the net and in its complement: four cases.
 
 Sheets at the limits are made by limits.py, by name. A call is added in two places: a row of CALLS, and an arm with its number in crates/cases/src/calls.rt, in the
 group that tells what it tells. A call that tells something new gets a group, a function in src/told.rt and a line in answer_of.
 
-A case in stdin is the length of what follows, then eight parts, a length before each: call, number and room; name; first and second run of bytes; counts lent; what
-is told; counts after; bytes written. Lengths and numbers are 4 bytes, big-endian."""
+A case in stdin is the length of what follows, then eight parts, a length before each: call, number and room; name; first and second run of bytes, where the modes of
+a step are counts; counts lent; what is told; counts after; bytes written. Lengths and numbers are 4 bytes, big-endian."""
 import pathlib, re, struct, sys
 
 here = pathlib.Path(__file__).resolve().parent
@@ -33,6 +34,8 @@ CALLS = {
     "test": (1, "net", ""),
     "fire": (2, "net", ""),
     "certify": (3, "net", "movements"),
+    "test_step": (4, "net", "modes"),
+    "fire_step": (5, "net", "modes"),
     "read_net": (16, "net", ""),
     "read_weights": (17, "weights", ""),
     "read_movements": (18, "movements", ""),
@@ -56,7 +59,10 @@ def number(word):
 
 
 def counts(words):
-    """Numbers, or the name of a marking."""
+    """Numbers, the name of a marking, or `65 times 0`."""
+    repeated = re.fullmatch(r"(\d+) times (\d+)", words)
+    if repeated:
+        return int(repeated[1]) * [int(repeated[2])]
     return markings[words] if words in markings else [int(word) for word in words.split()]
 
 
@@ -93,7 +99,7 @@ def add(name, call, arguments, told, after, written):
     left = lent if after is None else after
     room = int(arguments.get("room", 0))
     assert len(left) == len(lent) and len(written) <= room and set(arguments) <= known, name
-    runs = [bytes_of(arguments.get(word, "")) for word in (first, second)]
+    runs = [pack(counts(arguments[word])) if word == "modes" else bytes_of(arguments.get(word, "")) for word in (first, second)]
     if call == "adds_up":
         runs, lent, left = [pack(capacities[arguments["net"]]), pack(lent)], [], []
     argument = int(arguments.get("mode", arguments.get("pairs", 0)))

@@ -9,6 +9,7 @@ use Rattle.lists.specs.Weights.{weightsRefusal}
 use Rattle.lists.specs.Movements.{movementsRefusal}
 use Rattle.fire.specs.Calls.{beginRefusal, begun, testRefusal, firedBy}
 use Rattle.run.specs.Calls.{ranOf, runOf, certifyRefusal}
+use Rattle.step.specs.Calls.{testStepRefusal, steppedBy}
 use Rattle.weigh.specs.Calls as weigh
 use Rattle.dead.specs.IsDead as one
 use Rattle.dead.specs.FirstDead as first
@@ -44,6 +45,12 @@ module _ (net : List ℕ) where
 
   abbrev pub FireAllows : List ℕ → Mode → Answered × List ℕ → Type 0
   FireAllows marking t o = (o .0 ≡ answered (answer (testRefusal net marking t))) × (o .1 ≡ firedBy net marking t)
+
+  abbrev pub TestStepAllows : List ℕ → List ℕ → Answered → Type 0
+  TestStepAllows marking modes told = told ≡ answered (answer (testStepRefusal net marking modes))
+
+  abbrev pub FireStepAllows : List ℕ → List ℕ → Answered × List ℕ → Type 0
+  FireStepAllows marking modes o = (o .0 ≡ answered (answer (testStepRefusal net marking modes))) × (o .1 ≡ steppedBy net marking modes)
 
   abbrev pub RunAllows : List ℕ → List ℕ → Counted × List ℕ → Type 0
   RunAllows movements marking o = (o .0 ≡ ran (ranOf (runOf net movements marking))) × (o .1 ≡ runOf net movements marking .marking)

@@ -8,7 +8,9 @@ use fire::test;
 use model::Mode;
 use run::certify;
 use run::run;
-ghost use Rattle.abi.specs.Contracts.{BeginAllows, TestAllows, FireAllows, RunAllows, CertifyAllows};
+use step::fire_step;
+use step::test_step;
+ghost use Rattle.abi.specs.Contracts.{BeginAllows, TestAllows, FireAllows, TestStepAllows, FireStepAllows, RunAllows, CertifyAllows};
 
 #[no_mangle]
 pub extern "C" fn pnet_begin(net: &[u8], marking: &mut [u32]) -> Answered
@@ -29,6 +31,21 @@ pub extern "C" fn pnet_fire(net: &[u8], marking: &mut [u32], mode: Mode) -> Answ
     ensures { λ r. ⌜ FireAllows (now (net .entry)) (now (marking .entry)) mode (r, now (marking .exit)) ⌝ }
 {
     tell(fire(net, marking, mode))
+}
+
+// C lends modes: a `struct pnet_mode` is its number.
+#[no_mangle]
+pub extern "C" fn pnet_test_step(net: &[u8], marking: &[u32], modes: &[u16]) -> Answered
+    ensures { λ r. ⌜ TestStepAllows (now (net .entry)) (now (marking .entry)) (now (modes .entry)) r ⌝ }
+{
+    tell(test_step(net, marking, modes))
+}
+
+#[no_mangle]
+pub extern "C" fn pnet_fire_step(net: &[u8], marking: &mut [u32], modes: &[u16]) -> Answered
+    ensures { λ r. ⌜ FireStepAllows (now (net .entry)) (now (marking .entry)) (now (modes .entry)) (r, now (marking .exit)) ⌝ }
+{
+    tell(fire_step(net, marking, modes))
 }
 
 #[no_mangle]

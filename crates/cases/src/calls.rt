@@ -1,7 +1,8 @@
 // The calls, by the numbers that tests/cases/make.py gives them, 16 to each group that tells alike. `first` is the net or the sheet that is read, `second` the
-// weights or the movements. The last arm of a group is its last call.
+// weights, the movements or the modes of a step. The last arm of a group is its last call.
 use crate::parts::count_in;
 use crate::parts::part;
+use crate::steps::step;
 use crate::sums::add_up;
 use crate::told::Told;
 use crate::told::told_alone;
@@ -32,7 +33,8 @@ fn answer(call: u32, mode: Mode, first: &[u8], second: &[u8], marking: &mut [u32
         0 => pnet_begin(first, marking),
         1 => pnet_test(first, marking, mode),
         2 => pnet_fire(first, marking, mode),
-        _ => pnet_certify(first, second, marking),
+        3 => pnet_certify(first, second, marking),
+        _ => step(call, first, second, marking),
     }
 }
 

@@ -3,6 +3,7 @@
 mod calls;
 mod compared;
 mod parts;
+mod steps;
 mod sums;
 mod told;
 

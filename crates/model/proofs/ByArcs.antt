@@ -137,7 +137,7 @@ module _ (arc : ℕ → NetArc) (m : List ℕ) where
       (eq-or-lt-of-le (le-of-suc-le-suc h))
 
 -- either one of the arcs names p, or none does
-named-or-not : (c : ℕ) (arc : ℕ → NetArc) (p : ℕ) → ((k : ℕ) × Lowest c (λ k. arc k .pair .0 ≡ p) k) ⊎ NoneBelow c (λ k. arc k .pair .0 ≡ p)
+pub named-or-not : (c : ℕ) (arc : ℕ → NetArc) (p : ℕ) → ((k : ℕ) × Lowest c (λ k. arc k .pair .0 ≡ p) k) ⊎ NoneBelow c (λ k. arc k .pair .0 ≡ p)
 named-or-not c arc p =
     lowest-or-none {test = λ k. eqb (arc k .pair .0) p} (record { sound = λ k. eqb-true (arc k .pair .0) p; complete = λ k. eq-eqb (arc k .pair .0) p }) (λ k. k) c
 

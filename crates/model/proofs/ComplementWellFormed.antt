@@ -38,7 +38,7 @@ corresponds-marking net m m′ wf h c =
       within = λ p l. rw (capacity-complement net p) tt;
     }
 
-abbrev Small : Entry → Type 0
+abbrev pub Small : Entry → Type 0
 Small e = (e .pre ≤ limit) × (e .post ≤ limit)
 
 -- 16 was not given: the numbers at a complement pair are in range
@@ -59,7 +59,7 @@ complement-small net offset e t q = entry-holds (λ x. Small (complementEntry (K
         let both = or-neither (above (x .pre) (fin limit)) (above (x .post) (fin limit)) (rw s at passed) in
         (above-false (x .pre) (fin limit) (both .0), above-false (x .post) (fin limit) (both .1))
 
-row-small : (net : PNet) → WellFormed net → (t : Mode) (p : ℕ) → Small (row net t p)
+pub row-small : (net : PNet) → WellFormed net → (t : Mode) (p : ℕ) → Small (row net t p)
 row-small net wf t p = entry-holds Small t p (omega arith) (net .arcs) (λ k h s. let a = wf .eachArc k h in (a .pre, a .post))
 
 -- as many colours as a place has finite pairs, where it has any: 1 up to the place's own

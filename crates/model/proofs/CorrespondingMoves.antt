@@ -26,7 +26,7 @@ use Rattle.model.proofs.ComplementNet.{modes-complement, pairs-compleme
 use Rattle.model.proofs.RefusalsCorrespond.{row-becomes, none-becomes}
 
 -- a row's refusal depends on what stands at its pairs alone
-row-ext : (thing : Thing) (n : ℕ) (K K′ : Capacities) (r r′ : Row) (M : Counts)
+pub row-ext : (thing : Thing) (n : ℕ) (K K′ : Capacities) (r r′ : Row) (M : Counts)
     → ((p : ℕ) → p < n → K p ≡ K′ p) → ((p : ℕ) → p < n → r p ≡ r′ p) → rowRefusal thing n K r M ≡ rowRefusal thing n K′ r′ M
 unfolding rowRefusal ruleRefusal
 row-ext thing n K K′ r r′ M f g = rw (stop-ext Lacking, stop-ext OverCapacity, stop-ext Inhibited, stop-ext OverLimit)

@@ -29,3 +29,5 @@ pub mod Figures
 pub mod Refusals
 pub mod Decisions
 pub mod RefusalTables
+pub mod Steps
+pub mod CorrespondingSteps

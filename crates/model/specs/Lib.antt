@@ -19,3 +19,4 @@ pub mod Dead
 pub mod Complement
 pub mod DemandThree
 pub mod WorkedExamples
+pub mod Steps

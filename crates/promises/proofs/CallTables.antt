@@ -1,5 +1,5 @@
 -- Each call's chain of checks is read off its table.
-use Prim.Native.Nat.{ℕ, zero, suc, _+_, _<_}
+use Prim.Native.Nat.{ℕ, zero, suc, _+_, _-_, _<_}
 use mathlib.Core.Path.{_≡_, refl, sym, _∙_, ap, subst, subst⁻¹}
 use mathlib.Core.Bool.{false≢true, not, _&&_}
 use mathlib.Core.List.{List, [], _∷_}
@@ -11,21 +11,26 @@ use native.Mathlib.Omega.{arith}
 use Rattle.model.specs.declared.Mode.{Mode}
 use Rattle.model.specs.declared.Thing.{Thing}
 use Rattle.model.specs.declared.Thing.the-variants.{Net, Weights, Movements, Argument}
+use Rattle.model.specs.declared.Why.{Why}
+use Rattle.model.specs.declared.Why.the-variants.{Lacking, OverCapacity, Inhibited, OverLimit}
 use Rattle.model.specs.declared.Fault.the-variants.{EndsElsewhere}
 use Rattle.model.specs.declared.Refusal.{Refusal}
+use Rattle.model.specs.declared.Answer.the-variants.{Refused}
 use Rattle.model.specs.First.{_▸_, first}
-use Rattle.model.specs.Refusals.{wrong, thingNumber}
-use Rattle.model.specs.RefusalTables.{Table, _then_, Reads}
+use Rattle.model.specs.Refusals.{carried, wrong, thingNumber}
+use Rattle.model.specs.RefusalTables.{Table, row, _then_, each, Reads}
 use Rattle.model.specs.Numbers.{ℕ∞, fin, ∞, limit}
-use Rattle.model.specs.Nets.{PNet, pairs, pairNo, modeNo, count}
-use Rattle.model.specs.Firing.{modeRefusal, fired}
+use Rattle.model.specs.Nets.{PNet, pairs, pairNo, modeNo, K, count}
+use Rattle.model.specs.Firing.{stops, stopped, lowestStop, ruleRefusal, rowRefusal, modeRefusal, fired}
+use Rattle.model.specs.Steps.{together, stepRefusal}
 use Rattle.model.specs.Runs.{Outcome, goOn, runFrom, run, elsewhere, endsAt, certificateRefusal}
 use Rattle.model.specs.Complement.{finite, complement, refusal15, refusal16, sheetLimits, complementRefusal}
 use Rattle.model.proofs.First.{below-or, left-none, then-none, then-assoc, then-under}
 use Rattle.model.proofs.Runs.{runs}
-use Rattle.model.proofs.Decisions.{Decided, by-less, by-at-most, by-equal, by-not, by-or, by-and, by-other}
+use Rattle.model.proofs.Decisions.{Decided, by-less, by-at-most, by-equal, by-above, by-not, by-or, by-and, by-other}
 use Rattle.model.proofs.RefusalTables.{four, reads-plain, reads-then, reads-each, reads-either}
 use Rattle.model.proofs.Firing.{one-each-reads, missing-reads, refusal-table}
+use Rattle.model.proofs.Steps.{pre-is, post-is, by-some}
 use Rattle.heads.specs.Layout.{sheetEnd}
 use Rattle.sheets.specs.Whole.{bytesAfter, wholeNet, wholeWeights, wholeMovements}
 use Rattle.sheets.specs.Decoded.{netOf, movementsOf}
@@ -33,10 +38,11 @@ use Rattle.sheets.proofs.RefusalTables.{sheet-tables}
 use Rattle.written.specs.Written.{sheetOf}
 use Rattle.fire.specs.Calls.{beginRefusal, testRefusal}
 use Rattle.run.specs.Calls.{beforeRun, runOf, certifyRefusal}
+use Rattle.step.specs.Calls.{stepModes, testStepRefusal}
 use Rattle.weigh.specs.Calls.{figureRefusal, changeRefusal}
 use Rattle.dead.specs.IsDead.{deadRefusal}
 use Rattle.complement.specs.Complemented.{roomRefusal, complementingRefusal}
-use Rattle.promises.specs.CallTables.{bytesLeft, wholeNetTable, wholeWeightTable, wholeMovementTable, markingAfter, movesTable, certificateTable, roomTable, RunReads, CallTables}
+use Rattle.promises.specs.CallTables.{bytesLeft, wholeNetTable, wholeWeightTable, wholeMovementTable, markingAfter, movesTable, certificateTable, stepTable, roomTable, RunReads, CallTables}
 
 -- a sheet's table, then left-over bytes
 whole-reads : (thing : Thing) (s : List ℕ) {table : Table} {o : Option Refusal} → Reads table o → Reads (table then bytesLeft (thingNumber thing) s) (o ▸ bytesAfter thing s)
@@ -116,6 +122,24 @@ module _ (net movements marking : List ℕ) where
             (subst⁻¹ (Reads _) (runs (netOf net) (movementsOf movements) marking .refused (rw same at l)) (refusal-table .mode Movements (netOf net) _ _));
       }
 
+-- a step: 11 to 14 of its row, in the words of the members
+module _ (net : PNet) (ts : List Mode) (m : List ℕ) where
+  sums-read : (why : Why) {P : ℕ → Type 0} → ((p : ℕ) → Decided (stops why (together net ts p) (K net p) (count m p)) (P p))
+      → Reads (each (pairs net) (λ p. row (P p) (carried (Refused (stopped Argument why p)))))
+      (lowestStop Argument (pairs net) (K net) (together net ts) (count m) why)
+  sums-read why d = reads-each (pairs net) (λ p l. reads-plain _ (d p))
+
+  step-reads : Reads (stepTable net ts m) (stepRefusal net ts m)
+  unfolding stepRefusal rowRefusal ruleRefusal
+  step-reads =
+      reads-then (reads-plain _ (by-or (by-equal (length ts) 0) (by-less 64 (length ts))))
+      (reads-then (reads-each (length ts) (λ i l. missing-reads Argument net (getD ts i (modeNo 0))))
+      (subst (Reads _) (four _ _ _ _)
+      (reads-then (sums-read Lacking (λ p. rw (← pre-is net p ts) (by-less (count m p) (together net ts p .pre))))
+      (reads-then (sums-read OverCapacity (λ p. rw (← post-is net p ts) (by-above (count m p + together net ts p .post) (K net p))))
+      (reads-then (sums-read Inhibited (λ p. by-some net p (count m p) ts))
+      (sums-read OverLimit (λ p. rw (← pre-is net p ts, ← post-is net p ts) (by-less limit (count m p - together net ts p .pre + together net ts p .post)))))))))
+
 -- complementing
 by-finite : (x : ℕ∞) → Decided (finite x) ((i : ℕ) × (x ≡ fin i))
 by-finite (fin i) = record { sound = λ _. (i, refl); complete = λ _. refl }
@@ -147,7 +171,7 @@ room-reads s room =
     (by-less room (length (sheetOf (complement net)))))))
 
 pub call-tables : CallTables
-unfolding beginRefusal testRefusal certifyRefusal figureRefusal changeRefusal deadRefusal complementingRefusal
+unfolding beginRefusal testRefusal testStepRefusal certifyRefusal figureRefusal changeRefusal deadRefusal complementingRefusal
 call-tables =
     record {
       sheets = sheet-tables;
@@ -157,6 +181,9 @@ call-tables =
       begin = λ net marking. reads-then (net-reads net) (one-each-reads (netOf net) marking);
       test = λ net marking t.
           reads-then (net-reads net) (reads-then (refusal-table .marking (netOf net) marking) (refusal-table .mode Argument (netOf net) t marking));
+      testStep = λ net marking modes.
+          reads-then (net-reads net)
+          (reads-then (refusal-table .marking (netOf net) marking) (step-reads (netOf net) (stepModes modes) marking));
       run = run-reads;
       certify = λ net movements claim.
           reads-then (net-reads net) (reads-then (movements-reads movements) (certificate-reads (netOf net) (movementsOf movements) claim));

@@ -27,6 +27,7 @@ use Rattle.heads.specs.Bytes.{u16At, u32At}
 use Rattle.written.proofs.SheetLength.{sheet-size}
 use Rattle.fire.specs.Calls.{beginRefusal, testRefusal}
 use Rattle.run.specs.Calls.{beforeRun, runOf, certifyRefusal}
+use Rattle.step.specs.Calls.{testStepRefusal}
 use Rattle.weigh.specs.Calls.{figured, figureRefusal, changeRefusal}
 use Rattle.weigh.specs.Calls as weigh
 use Rattle.dead.specs.IsDead.{deadRefusal}
@@ -46,7 +47,7 @@ use Rattle.answers.specs.Told.{textTold}
 use Rattle.promises.specs.OwnExample as own
 use Rattle.statement.specs.Example as sheets
 use Rattle.promises.specs.ConstantAnswers.{Only, Never, NotConstant, Varies, PartVaries, full, ConstantAnswers}
-use Rattle.promises.proofs.OwnExample.{read-back, weights-read, movements-read, tests, runs-whole, own-example}
+use Rattle.promises.proofs.OwnExample.{read-back, weights-read, movements-read, tests, steps, runs-whole, own-example}
 
 module _ {I O : Type 0} (Allows : I → O → Type 0) (number : O → ℕ) where
   not-constant : (i j : I) → Only Allows number 0 i → Never Allows number 0 j → NotConstant Allows number
@@ -97,6 +98,10 @@ movements-cut = head-cut Movements _
 whole-cut : (more : Option Refusal) → wholeNet lone ▸ more ≡ some (cutShort Net)
 unfolding wholeNet
 whole-cut more = some-then more (some-then _ net-cut)
+
+step-cut : testStepRefusal lone [] [] ≡ some (cutShort Net)
+unfolding testStepRefusal
+step-cut = whole-cut _
 
 before-run-cut : beforeRun lone [] [] ≡ some (cutShort Net)
 unfolding beforeRun
@@ -195,6 +200,9 @@ constant-answers =
       test = varies _ _ (own.net, 3 ∷ 0 ∷ [], modeNo 0) (lone, [], modeNo 0) (says tests) (says (whole-cut _));
       fire =
           varies _ _ (own.net, 3 ∷ 0 ∷ [], modeNo 0) (lone, [], modeNo 0) (λ o a. own-example .fire o a .0) (λ o a. says (whole-cut _) (o .0) (a .0));
+      testStep = varies _ _ (own.net, 3 ∷ 0 ∷ [], 0 ∷ 0 ∷ 0 ∷ []) (lone, [], []) (says steps) (says step-cut);
+      fireStep =
+          varies _ _ (own.net, 3 ∷ 0 ∷ [], 0 ∷ 0 ∷ 0 ∷ []) (lone, [], []) (λ o a. own-example .fireStep o a .0) (λ o a. says step-cut (o .0) (a .0));
       run =
           varies _ _ (own.net, own.three, 3 ∷ 0 ∷ []) (lone, [], []) (λ o a. says runs-whole (o .0 .answer) (ap (λ r. r .answer) (a .0)))
           (λ o a. ap (λ r. number (r .answer)) (a .0) ∙ rw before-run-cut);

@@ -13,11 +13,13 @@ use Rattle.model.specs.Refusals.{answer}
 use Rattle.model.specs.Nets.{PNet}
 use Rattle.model.specs.Promises.{Leads, stays}
 use Rattle.model.specs.Firing.{fired}
+use Rattle.model.specs.Steps.{firedTogether}
 use Rattle.sheets.specs.Decoded.{netOf, movementsOf}
 use Rattle.firing.specs.Leaving.{written}
 use Rattle.fire.specs.Calls.{beginRefusal, testRefusal}
 use Rattle.run.specs.Calls.{runOf}
 use Rattle.run.proofs.Promises.{runs-leave}
+use Rattle.step.specs.Calls.{stepModes, testStepRefusal}
 use Rattle.complement.specs.Complemented.{complementSheet, complementingRefusal, told, complemented, output}
 use Rattle.text.specs.declared.Put.the-variants.{To, Full}
 use Rattle.text.specs.Puts.{endWithin, putTo, putInto}
@@ -65,6 +67,8 @@ demand-one =
           allows .1 ∙ kept (beginRefusal net marking) (netOf net .start) marking (subst Refused (allows .0) refused);
       fire = λ net marking t o allows refused.
           allows .1 ∙ kept (testRefusal net marking t) (fired (netOf net) t marking) marking (subst Refused (allows .0) refused);
+      fireStep = λ net marking modes o allows refused.
+          allows .1 ∙ kept (testStepRefusal net marking modes) (firedTogether (netOf net) (stepModes modes) marking) marking (subst Refused (allows .0) refused);
       complement = λ net out o allows refused.
           allows .1
           ∙ output-kept (complementingRefusal net (length out)) (length (complementSheet net)) (complementSheet net) out
@@ -84,6 +88,8 @@ demand-one-for-c =
           allows .1 ∙ kept (beginRefusal net marking) (netOf net .start) marking (subst (λ a. a .number ≢ 0) (allows .0) refused);
       fire = λ net marking t o allows refused.
           allows .1 ∙ kept (testRefusal net marking t) (fired (netOf net) t marking) marking (subst (λ a. a .number ≢ 0) (allows .0) refused);
+      fireStep = λ net marking modes o allows refused.
+          allows .1 ∙ kept (testStepRefusal net marking modes) (firedTogether (netOf net) (stepModes modes) marking) marking (subst (λ a. a .number ≢ 0) (allows .0) refused);
       complement = λ net out o allows refused.
           allows .1
           ∙ output-kept (complementingRefusal net (length out)) (length (complementSheet net)) (complementSheet net) out

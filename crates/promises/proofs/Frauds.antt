@@ -5,6 +5,7 @@ use Rattle.promises.proofs.ConstantAnswersForC.{constant-answers-for-c}
 use Rattle.promises.proofs.WritesNothing.{writes-nothing}
 use Rattle.promises.proofs.CopiesNet.{copies-net}
 use Rattle.promises.proofs.RunFrauds.{run-frauds}
+use Rattle.promises.proofs.StepFrauds.{first-member-alone}
 
 pub frauds : Frauds
 frauds =
@@ -14,4 +15,5 @@ frauds =
       firing = writes-nothing;
       copying = copies-net;
       running = run-frauds;
+      stepping = first-member-alone;
     }

@@ -1,6 +1,7 @@
 pub mod DemandOne
 pub mod DemandThree
 pub mod TwoRuns
+pub mod TwoSteps
 pub mod FigureOverRun
 pub mod Uniqueness
 pub mod OwnExample
@@ -10,6 +11,7 @@ pub mod Accepting
 pub mod WritesNothing
 pub mod CopiesNet
 pub mod RunFrauds
+pub mod StepFrauds
 pub mod Frauds
 pub mod CallTables
 pub mod Promises

@@ -8,6 +8,7 @@ use mathlib.Core.Option.{none, some}
 use lib.IntN.{pos, negsuc}
 use lib.ListN.{length}
 use native.Mathlib.Omega.{arith}
+use Rattle.model.specs.declared.Mode.{Mode}
 use Rattle.model.specs.declared.Thing.the-variants.{Argument, Movements}
 use Rattle.model.specs.declared.Why.the-variants.{Lacking}
 use Rattle.model.specs.Numbers.{∞}
@@ -20,6 +21,7 @@ use Rattle.model.specs.Dead.{deadPair, isDead, firstDead}
 use Rattle.model.specs.Complement.{bounded, complementRow, newPlaces, arcsOf, complement, refusal15, refusal16, sheetLimits, complementRefusal}
 use Rattle.model.specs.Lists.{joined, table}
 use Rattle.model.specs.Firing.{stopped, ruleRefusal, rowRefusal, modeRefusal, fired}
+use Rattle.model.specs.Steps.{together, stepRefusal, firedTogether}
 use Rattle.model.specs.WellFormed.{InRange, ArcOf, WellFormed}
 use Rattle.model.specs.Markings.{markingRefusal}
 use Rattle.model.proofs.First.{left-none, right-none, none-then}
@@ -40,6 +42,7 @@ use Rattle.fire.specs.Calls.{beginRefusal, testRefusal}
 use Rattle.run.specs.declared.Ran.{Ran}
 use Rattle.run.specs.Contracts.{RunAllows}
 use Rattle.run.specs.Calls.{ranOf, beforeRun, runOf, certifyRefusal}
+use Rattle.step.specs.Calls.{testStepRefusal}
 use Rattle.weigh.specs.Calls as weigh
 use Rattle.weigh.specs.Calls.{figured, figureRefusal, changeRefusal}
 use Rattle.dead.specs.IsDead as one
@@ -104,6 +107,21 @@ tests = none-then (read-back .accepted) (rw (read-back .same) (none-then start-a
 fires : fired example (modeNo 0) (3 ∷ 0 ∷ []) ≡ 2 ∷ 1 ∷ []
 unfolding fired table entryAt
 fires = refl
+
+abbrev atOnce : List Mode
+atOnce = modeNo 0 ∷ modeNo 0 ∷ modeNo 0 ∷ []
+
+moves-at-once : stepRefusal example atOnce (3 ∷ 0 ∷ []) ≡ none
+unfolding stepRefusal together rowRefusal ruleRefusal first _▸_ entryAt
+moves-at-once = refl
+
+pub steps : testStepRefusal own.net (3 ∷ 0 ∷ []) (0 ∷ 0 ∷ 0 ∷ []) ≡ none
+unfolding testStepRefusal
+steps = none-then (read-back .accepted) (rw (read-back .same) (none-then start-accepted moves-at-once))
+
+landed : firedTogether example atOnce (3 ∷ 0 ∷ []) ≡ 0 ∷ 3 ∷ []
+unfolding firedTogether together table entryAt
+landed = refl
 
 abbrev stops : Outcome
 stops = record { accepted = 3; refusal = some (stopped Movements Lacking 0); marking = 0 ∷ 3 ∷ [] }
@@ -187,6 +205,7 @@ own-example =
     record {
       begin = λ o a. (ap number (a .0) ∙ rw begins, a .1 ∙ rw (begins, read-back .same));
       fire = λ o a. (ap number (a .0) ∙ rw tests, a .1 ∙ rw (tests, read-back .same) fires);
+      fireStep = λ o a. (ap number (a .0) ∙ rw steps, a .1 ∙ rw (steps, read-back .same) landed);
       run = run-allows;
       certify = λ told a. ap number a ∙ rw certifies;
       figure = λ o a. ap weigh.told a ∙ rw (figure-accepted, read-back .same, figure-is);

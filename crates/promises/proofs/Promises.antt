@@ -9,6 +9,8 @@ use Rattle.model.proofs.ArcByArc.{arc-by-arc}
 use Rattle.model.proofs.WorkedExamples.{worked-examples}
 use Rattle.model.proofs.Demand3.{demand3}
 use Rattle.model.proofs.Edges.{starred}
+use Rattle.model.proofs.Steps.{step-rule, step-after, step-of-one}
+use Rattle.model.proofs.CorrespondingSteps.{steps-back, steps-forth, step-examples}
 use Rattle.sheets.proofs.Accepted.{well-formed}
 use Rattle.sheets.proofs.Lists.{movements-within, weights-within}
 use Rattle.lists.proofs.Signs.{signed-weights}
@@ -25,6 +27,7 @@ use Rattle.text.proofs.Decimals.{decimals}
 use Rattle.statement.proofs.TextOfRun.{text-of-run}
 use Rattle.statement.proofs.Example.{printed}
 use Rattle.promises.proofs.TwoRuns.{two-runs}
+use Rattle.promises.proofs.TwoSteps.{two-steps}
 use Rattle.promises.proofs.FigureOverRun.{figure-over-run}
 use Rattle.promises.proofs.CallTables.{call-tables}
 use Rattle.promises.proofs.Uniqueness.{uniqueness}
@@ -51,6 +54,12 @@ promises =
       workedExamples = worked-examples;
       demand3 = demand3;
       edges = starred;
+      stepRule = step-rule;
+      stepAfter = step-after;
+      stepOfOne = step-of-one;
+      stepsBack = steps-back;
+      stepsForth = steps-forth;
+      stepExamples = step-examples;
       acceptedNet = well-formed;
       acceptedMovements = movements-within;
       acceptedWeights = weights-within;
@@ -73,6 +82,7 @@ promises =
       namesFirst = names-first;
       overBytes = over-bytes;
       twoRuns = two-runs;
+      twoSteps = two-steps;
       decimals = decimals;
       textOfRun = text-of-run;
       printed = printed;

@@ -26,7 +26,7 @@ use Rattle.promises.specs.TwoRuns.{RunsAgree, TwoRuns}
 use Rattle.promises.proofs.DemandThree.{complementable, over-bytes}
 
 -- a call that answers a length was accepted
-length-accepted : (o : Option Refusal) (l : ℕ) {n : ℕ} → told (complemented o l) ≡ yields n → o ≡ none
+pub length-accepted : (o : Option Refusal) (l : ℕ) {n : ℕ} → told (complemented o l) ≡ yields n → o ≡ none
 length-accepted none l e = refl
 length-accepted (some r) l {n} e = let v : none ≡ some n = ap (λ r. r .value) e in absurd (Option·none-ne-some n v)
 
@@ -34,7 +34,7 @@ length-accepted (some r) l {n} e = let v : none ≡ some n = ap (λ r. r .value)
 length-is : {l n : ℕ} → yields l ≡ yields n → l ≡ n
 length-is {l} {n} e = let v : some l ≡ some n = ap (λ r. r .value) e in cc
 
-written : (net out : List ℕ) {n : ℕ} → complementingRefusal net (length out) ≡ none → told (complementOf net out) ≡ yields n → WrittenComplement net out n
+pub written : (net out : List ℕ) {n : ℕ} → complementingRefusal net (length out) ≡ none → told (complementOf net out) ≡ yields n → WrittenComplement net out n
 written net out q e =
     let w = over-bytes net out q in
     subst (λ (n : ℕ). WrittenComplement net out n) (length-is (sym (w .1 .answered) ∙ e)) (w .1)
@@ -52,19 +52,21 @@ run-from : (net movements marking : List ℕ) → wholeNet net ≡ none → mark
 unfolding runOf
 run-from net movements marking w a = rw (before-from net movements marking w a)
 
+-- a marking that corresponds to one that the net accepts, the complement accepts
+pub marking-beside : (net sheet marking marking′ : List ℕ) → Complementable (netOf net) → netOf sheet ≡ complement (netOf net)
+    → markingRefusal (netOf net) marking ≡ none → Corresponds (netOf net) marking marking′ → markingRefusal (netOf sheet) marking′ ≡ none
+marking-beside net sheet marking marking′ c same a h =
+    rw same
+    (marking-test (complement (netOf net)) marking′ .1
+    (corresponds-marking (netOf net) marking marking′ (c .wellFormed) (marking-test (netOf net) marking .0 a) h))
+
 module _ (net sheet movements marking marking′ : List ℕ) (c : Complementable (netOf net)) (same : netOf sheet ≡ complement (netOf net))
     (w : wholeNet net ≡ none) (w′ : wholeNet sheet ≡ none) (a : markingRefusal (netOf net) marking ≡ none) (h : Corresponds (netOf net) marking marking′) where
-  a′ : markingRefusal (netOf sheet) marking′ ≡ none
-  a′ =
-      rw same
-      (marking-test (complement (netOf net)) marking′ .1
-      (corresponds-marking (netOf net) marking marking′ (c .wellFormed) (marking-test (netOf net) marking .0 a) h))
-
   in-net : runOf net movements marking ≡ afterSheet (netOf net) movements marking
   in-net = run-from net movements marking w a
 
   in-complement : runOf sheet movements marking′ ≡ afterSheet (complement (netOf net)) movements marking′
-  in-complement = run-from sheet movements marking′ w′ a′ ∙ ap (λ n. afterSheet n movements marking′) same
+  in-complement = run-from sheet movements marking′ w′ (marking-beside net sheet marking marking′ c same a h) ∙ ap (λ n. afterSheet n movements marking′) same
 
   no15 : refusal15 (c .offset) (netOf net) ≡ none
   unfolding complementRefusal
@@ -91,7 +93,7 @@ module _ (net sheet movements marking marking′ : List ℕ) (c : Complementable
 begun-start : (net marking : List ℕ) → beginRefusal net marking ≡ none → begun net marking ≡ netOf net .start
 begun-start net marking b = rw b
 
-net-accepted : (net : List ℕ) (room : ℕ) → complementingRefusal net room ≡ none → wholeNet net ≡ none
+pub net-accepted : (net : List ℕ) (room : ℕ) → complementingRefusal net room ≡ none → wholeNet net ≡ none
 unfolding complementingRefusal
 net-accepted net room e = left-none _ _ e
 

@@ -1,17 +1,17 @@
 -- The exact refusal table of each call, row by row in document 01's words and order. A row is given, with its number, thing and position, exactly when its
 -- proposition holds and no earlier row's does.
-use Prim.Native.Nat.{ℕ, _<_}
+use Prim.Native.Nat.{ℕ, _+_, _-_, _<_}
 use mathlib.Core.Path.{_≡_}
-use mathlib.Core.List.{List, [], _∷_}
+use mathlib.Core.List.{List, [], _∷_, map}
 use mathlib.Core.Logic.{_⊎_, _≢_}
 use mathlib.Core.Option.{none}
 use lib.ListN.{length, take, getD}
 use Rattle.model.specs.declared.Mode.{Mode}
 use Rattle.model.specs.Refusals.{carries}
 use Rattle.model.specs.RefusalTables.{Table, row, _then_, each, Reads, oneEachTable, markingTable, missingTable, modeTable}
-use Rattle.model.specs.Numbers.{fin, ∞, limit}
+use Rattle.model.specs.Numbers.{fin, ∞, Above, limit}
 use Rattle.model.specs.Rows.{Entry}
-use Rattle.model.specs.Nets.{NetArc, PNet, pairs, modeNo, K, count, arcNo}
+use Rattle.model.specs.Nets.{NetArc, PNet, total, pairs, modeNo, K, count, arcNo, row as modeRow}
 use Rattle.model.specs.Firing.{fired}
 use Rattle.model.specs.Complement.{complementEntry, complement}
 use Rattle.heads.specs.Layout.{sheetEnd}
@@ -22,6 +22,7 @@ use Rattle.opened.specs.Shape.{arcOffset}
 use Rattle.written.specs.Written.{sheetOf}
 use Rattle.fire.specs.Calls.{beginRefusal, testRefusal}
 use Rattle.run.specs.Calls.{beforeRun, runOf, certifyRefusal}
+use Rattle.step.specs.Calls.{stepModes, testStepRefusal}
 use Rattle.weigh.specs.Calls.{figureRefusal, changeRefusal}
 use Rattle.dead.specs.IsDead.{deadRefusal}
 use Rattle.complement.specs.Complemented.{complementingRefusal}
@@ -56,6 +57,28 @@ certificateTable net ts claim =
     -- 18: "certificate ends at another marking", "lowest differing pair"
     then each (pairs net) (λ p. row (count (markingAfter net ts (net .start)) p ≢ count claim p) (carries 18 3 p))
 
+-- "4 for an empty or too long step, then 6, 11, 12, 13, 14 over the sums", a step being "a list of 1 to 64 modes"
+module _ (net : PNet) (ts : List Mode) (m : List ℕ) where
+  abbrev member : ℕ → Mode
+  member i = getD ts i (modeNo 0)
+
+  abbrev summedPre : ℕ → ℕ
+  summedPre p = total (map (λ t. modeRow net t p .pre) ts)
+
+  abbrev summedPost : ℕ → ℕ
+  summedPost p = total (map (λ t. modeRow net t p .post) ts)
+
+  abbrev pub stepTable : Table
+  stepTable =
+      row ((length ts ≡ 0) ⊎ (64 < length ts)) (carries 4 3 0)
+      then each (length ts) (λ i. missingTable 3 net (member i))
+      -- "summed Pre ≤ M, M + summed Post ≤ K, and M ≤ the least I of its members"
+      then each (pairs net) (λ p. row (count m p < summedPre p) (carries 11 3 p))
+      then each (pairs net) (λ p. row (Above (count m p + summedPost p) (K net p)) (carries 12 3 p))
+      then each (pairs net) (λ p.
+      row ((i : ℕ) × (i < length ts) × Above (count m p) (modeRow net (member i) p .inhibitor)) (carries 13 3 p))
+      then each (pairs net) (λ p. row (limit < count m p - summedPre p + summedPost p) (carries 14 3 p))
+
 -- "Complementing: net, 15, 16, 10, each at its first arc in order."
 module _ (s : List ℕ) (room : ℕ) where
   abbrev net : PNet
@@ -88,6 +111,9 @@ module _ (net : List ℕ) where
 
   abbrev pub testTable : List ℕ → Mode → Table
   testTable marking t = wholeNetTable net then markingTable (netOf net) marking then modeTable 3 (netOf net) t marking
+
+  abbrev pub testStepTable : List ℕ → List ℕ → Table
+  testStepTable marking modes = wholeNetTable net then markingTable (netOf net) marking then stepTable (netOf net) (stepModes modes) marking
 
   abbrev pub runTable : List ℕ → List ℕ → Table
   runTable movements marking =
@@ -133,6 +159,8 @@ pub record CallTables : Type 0 where
   pub begin : (net marking : List ℕ) → Reads (beginTable net marking) (beginRefusal net marking)
   -- test and fire
   pub test : (net marking : List ℕ) (t : Mode) → Reads (testTable net marking t) (testRefusal net marking t)
+  -- test step and fire step
+  pub testStep : (net marking modes : List ℕ) → Reads (testStepTable net marking modes) (testStepRefusal net marking modes)
   pub run : (net movements marking : List ℕ) → RunReads net movements marking
   pub certify : (net movements claim : List ℕ) → Reads (certifyTable net movements claim) (certifyRefusal net movements claim)
   pub figure : (net weights marking : List ℕ) → Reads (figureTable net weights marking) (figureRefusal net weights marking)

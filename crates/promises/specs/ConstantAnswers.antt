@@ -12,6 +12,7 @@ use Rattle.sheets.specs.Contracts.{AfterNetAllows, AfterWeightsAllows, AfterMov
 use Rattle.nets.specs.Contracts.{ReadNetAllows}
 use Rattle.fire.specs.Contracts.{BeginAllows, TestAllows, FireAllows}
 use Rattle.run.specs.Contracts.{RunAllows, CertifyAllows}
+use Rattle.step.specs.Contracts.{TestStepAllows, FireStepAllows}
 use Rattle.weigh.specs.Calls as weigh
 use Rattle.weigh.specs.Contracts.{FigureAllows, ChangeAllows}
 use Rattle.dead.specs.IsDead as one
@@ -68,6 +69,8 @@ pub record ConstantAnswers : Type 0 where
   pub begin : Varies (λ (i : List ℕ × List ℕ). BeginAllows (i .0) (i .1)) (λ o. number (o .0))
   pub test : Varies (λ (i : List ℕ × List ℕ × Mode). TestAllows (i .0) (i .1) (i .2)) number
   pub fire : Varies (λ (i : List ℕ × List ℕ × Mode). FireAllows (i .0) (i .1) (i .2)) (λ o. number (o .0))
+  pub testStep : Varies (λ (i : List ℕ × List ℕ × List ℕ). TestStepAllows (i .0) (i .1) (i .2)) number
+  pub fireStep : Varies (λ (i : List ℕ × List ℕ × List ℕ). FireStepAllows (i .0) (i .1) (i .2)) (λ o. number (o .0))
   pub run : Varies (λ (i : List ℕ × List ℕ × List ℕ). RunAllows (i .0) (i .1) (i .2)) (λ o. number (o .0 .answer))
   pub certify : Varies (λ (i : List ℕ × List ℕ × List ℕ). CertifyAllows (i .0) (i .1) (i .2)) number
   pub figure : Varies (λ (i : List ℕ × List ℕ × List ℕ). FigureAllows (i .0) (i .1) (i .2)) (λ o. weigh.told o .carried .number)

@@ -12,6 +12,8 @@ pub record ConstantAnswersForC : Type 0 where
   pub begin : Varies (λ (i : List ℕ × List ℕ). c.BeginAllows (i .0) (i .1)) (λ o. o .0 .number)
   pub test : Varies (λ (i : List ℕ × List ℕ × Mode). c.TestAllows (i .0) (i .1) (i .2)) (λ o. o .number)
   pub fire : Varies (λ (i : List ℕ × List ℕ × Mode). c.FireAllows (i .0) (i .1) (i .2)) (λ o. o .0 .number)
+  pub testStep : Varies (λ (i : List ℕ × List ℕ × List ℕ). c.TestStepAllows (i .0) (i .1) (i .2)) (λ o. o .number)
+  pub fireStep : Varies (λ (i : List ℕ × List ℕ × List ℕ). c.FireStepAllows (i .0) (i .1) (i .2)) (λ o. o .0 .number)
   pub run : Varies (λ (i : List ℕ × List ℕ × List ℕ). c.RunAllows (i .0) (i .1) (i .2)) (λ o. o .0 .answer .number)
   pub certify : Varies (λ (i : List ℕ × List ℕ × List ℕ). c.CertifyAllows (i .0) (i .1) (i .2)) (λ o. o .number)
   pub figure : Varies (λ (i : List ℕ × List ℕ × List ℕ). c.FigureAllows (i .0) (i .1) (i .2)) (λ o. o .answer .number)

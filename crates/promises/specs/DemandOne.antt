@@ -13,6 +13,7 @@ use Rattle.sheets.specs.Decoded.{netOf, movementsOf}
 use Rattle.fire.specs.Contracts.{BeginAllows, FireAllows}
 use Rattle.run.specs.declared.Ran.{Ran}
 use Rattle.run.specs.Contracts.{RunAllows}
+use Rattle.step.specs.Contracts.{FireStepAllows}
 use Rattle.complement.specs.declared.Complemented.{Complemented}
 use Rattle.complement.specs.Complemented.{told}
 use Rattle.complement.specs.Contracts.{ComplementAllows}
@@ -33,6 +34,7 @@ Refused answer = number answer ≢ 0
 pub record DemandOne : Type 0 where
   pub begin : (net marking : List ℕ) (o : Answer × List ℕ) → BeginAllows net marking o → Refused (o .0) → o .1 ≡ marking
   pub fire : (net marking : List ℕ) (t : Mode) (o : Answer × List ℕ) → FireAllows net marking t o → Refused (o .0) → o .1 ≡ marking
+  pub fireStep : (net marking modes : List ℕ) (o : Answer × List ℕ) → FireStepAllows net marking modes o → Refused (o .0) → o .1 ≡ marking
   pub complement : (net out : List ℕ) (o : Complemented × List ℕ) → ComplementAllows net out o → told (o .0) .carried .number ≢ 0 → o .1 ≡ out
   -- the exception; with none accepted the marking is as it was
   pub run : (net movements marking : List ℕ) (o : Ran × List ℕ) → RunAllows net movements marking o → Refused (o .0 .answer)
@@ -46,6 +48,7 @@ pub record DemandOne : Type 0 where
 pub record DemandOneForC : Type 0 where
   pub begin : (net marking : List ℕ) (o : Answered × List ℕ) → forC.BeginAllows net marking o → o .0 .number ≢ 0 → o .1 ≡ marking
   pub fire : (net marking : List ℕ) (t : Mode) (o : Answered × List ℕ) → forC.FireAllows net marking t o → o .0 .number ≢ 0 → o .1 ≡ marking
+  pub fireStep : (net marking modes : List ℕ) (o : Answered × List ℕ) → forC.FireStepAllows net marking modes o → o .0 .number ≢ 0 → o .1 ≡ marking
   pub complement : (net out : List ℕ) (o : Counted × List ℕ) → forC.ComplementAllows net out o → o .0 .answer .number ≢ 0 → o .1 ≡ out
   pub statement : (input out : List ℕ) (o : Counted × List ℕ) → forC.StatementAllows input out o → o .0 .answer .number ≢ 0 → o .1 ≡ out
   pub run : (net movements marking : List ℕ) (o : Counted × List ℕ) → forC.RunAllows net movements marking o → o .0 .answer .number ≢ 0

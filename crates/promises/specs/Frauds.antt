@@ -12,6 +12,7 @@ use Rattle.model.specs.Refusals.{number}
 use Rattle.model.specs.Numbers.{fin}
 use Rattle.model.specs.Nets.{PNet, pairs, modeNo, K, row}
 use Rattle.model.specs.Firing.{modeRefusal, fired}
+use Rattle.model.specs.Steps.{together}
 use Rattle.model.specs.Complement.{Corresponds}
 use Rattle.model.specs.Promises.{Leads}
 use Rattle.sheets.specs.Decoded.{netOf, movementsOf}
@@ -19,6 +20,8 @@ use Rattle.fire.specs.Contracts.{FireAllows}
 use Rattle.run.specs.declared.Ran.{Ran}
 use Rattle.run.specs.Calls.{beforeRun, runOf}
 use Rattle.run.specs.Contracts.{RunAllows}
+use Rattle.step.specs.Calls.{stepModes}
+use Rattle.step.specs.Contracts.{FireStepAllows}
 use Rattle.complement.specs.declared.Complemented.{Complemented}
 use Rattle.complement.specs.Complemented.{told}
 use Rattle.complement.specs.Contracts.{ComplementAllows}
@@ -72,9 +75,16 @@ pub record RunFrauds : Type 0 where
       → taken (netOf net) (later net movements marking) p ≢ given (netOf net) (later net movements marking) p
       → (o : Ran × List ℕ) → RunAllows net movements marking o → o .1 ≢ afterFirst net movements marking
 
+-- A step that fires only its first member: those after it take another number from some pair than they give.
+abbrev pub FirstMemberAlone : Type 0
+FirstMemberAlone = (net marking : List ℕ) (first : ℕ) (later : List ℕ) (p : ℕ) → p < pairs (netOf net)
+    → together (netOf net) (stepModes later) p .pre ≢ together (netOf net) (stepModes later) p .post
+    → (o : Answer × List ℕ) → FireStepAllows net marking (first ∷ later) o → number (o .0) ≡ 0 → o .1 ≢ fired (netOf net) (modeNo first) marking
+
 pub record Frauds : Type 0 where
   pub constant : ConstantAnswers
   pub constantForC : ConstantAnswersForC
   pub firing : WritesNothing
   pub copying : CopiesNet
   pub running : RunFrauds
+  pub stepping : FirstMemberAlone

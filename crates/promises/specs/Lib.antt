@@ -2,6 +2,7 @@ pub mod Promises
 pub mod DemandOne
 pub mod DemandThree
 pub mod TwoRuns
+pub mod TwoSteps
 pub mod FigureOverRun
 pub mod Uniqueness
 pub mod OwnExample

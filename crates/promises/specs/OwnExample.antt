@@ -15,6 +15,7 @@ use Rattle.written.specs.Written.{sheetOf}
 use Rattle.fire.specs.Contracts.{BeginAllows, FireAllows}
 use Rattle.run.specs.declared.Ran.{Ran}
 use Rattle.run.specs.Contracts.{RunAllows, CertifyAllows}
+use Rattle.step.specs.Contracts.{FireStepAllows}
 use Rattle.weigh.specs.declared.Figured.{Figured}
 use Rattle.weigh.specs.Calls as weigh
 use Rattle.weigh.specs.Contracts.{FigureAllows, ChangeAllows}
@@ -55,6 +56,8 @@ pub record RunsTo (o : Ran × List ℕ) : Type 0 where
 pub record OwnExample : Type 0 where
   pub begin : (o : Answer × List ℕ) → BeginAllows net (0 ∷ 0 ∷ []) o → (number (o .0) ≡ 0) × (o .1 ≡ 3 ∷ 0 ∷ [])
   pub fire : (o : Answer × List ℕ) → FireAllows net (3 ∷ 0 ∷ []) (modeNo 0) o → (number (o .0) ≡ 0) × (o .1 ≡ 2 ∷ 1 ∷ [])
+  -- the three aboard, landed at once
+  pub fireStep : (o : Answer × List ℕ) → FireStepAllows net (3 ∷ 0 ∷ []) (0 ∷ 0 ∷ 0 ∷ []) o → (number (o .0) ≡ 0) × (o .1 ≡ 0 ∷ 3 ∷ [])
   -- "refused 4 0 11 0", "end 3 0"
   pub run : (o : Ran × List ℕ) → RunAllows net movements (3 ∷ 0 ∷ []) o → RunsTo o
   pub certify : (told : Answer) → CertifyAllows net three (0 ∷ 3 ∷ []) told → number told ≡ 0

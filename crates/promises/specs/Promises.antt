@@ -3,6 +3,7 @@ use Rattle.model.specs.Promises as model
 use Rattle.model.specs.Edges.{Edges}
 use Rattle.model.specs.WorkedExamples.{WorkedExamples}
 use Rattle.model.specs.DemandThree.{Demand3}
+use Rattle.model.specs.Steps as step
 use Rattle.sheets.specs.Accepted.{AcceptedNet, AcceptedMovements, AcceptedWeights}
 use Rattle.lists.specs.Promises.{SignedWeights}
 use Rattle.written.specs.Promises.{WrittenThenRead, ReadThenWritten, LargestSheet, ExampleLengths}
@@ -16,6 +17,7 @@ use Rattle.text.specs.Promises.{Decimals}
 use Rattle.statement.specs.Promises.{TextOfRun}
 use Rattle.statement.specs.Example.{Printed}
 use Rattle.promises.specs.TwoRuns.{TwoRuns}
+use Rattle.promises.specs.TwoSteps.{TwoSteps}
 use Rattle.promises.specs.FigureOverRun.{FigureOverRun}
 use Rattle.promises.specs.CallTables.{CallTables}
 use Rattle.promises.specs.Uniqueness.{Uniqueness}
@@ -41,6 +43,12 @@ pub record Promises : Type 0 where
   pub workedExamples : WorkedExamples
   pub demand3 : Demand3
   pub edges : Edges
+  pub stepRule : step.StepRule
+  pub stepAfter : step.StepAfter
+  pub stepOfOne : step.StepOfOne
+  pub stepsBack : step.StepsBack
+  pub stepsForth : step.StepsForth
+  pub stepExamples : step.StepExamples
   -- of sheets, read and written
   pub acceptedNet : AcceptedNet
   pub acceptedMovements : AcceptedMovements
@@ -65,6 +73,7 @@ pub record Promises : Type 0 where
   pub namesFirst : NamesFirst
   pub overBytes : OverBytes
   pub twoRuns : TwoRuns
+  pub twoSteps : TwoSteps
   pub decimals : Decimals
   pub textOfRun : TextOfRun
   pub printed : Printed

@@ -9,6 +9,7 @@ use Rattle.sheets.specs.Contracts.{AfterNetAllows, AfterWeightsAllows, AfterMov
 use Rattle.nets.specs.Contracts.{ReadNetAllows}
 use Rattle.fire.specs.Contracts.{BeginAllows, TestAllows, FireAllows}
 use Rattle.run.specs.Contracts.{RunAllows, CertifyAllows}
+use Rattle.step.specs.Contracts.{TestStepAllows, FireStepAllows}
 use Rattle.weigh.specs.Contracts.{FigureAllows, ChangeAllows}
 use Rattle.dead.specs.Contracts.{IsDeadAllows, FirstDeadAllows}
 use Rattle.size.specs.Contracts.{SizeAllows}
@@ -29,6 +30,8 @@ pub record UniqueForC : Type 0 where
   pub begin : (net marking : List ℕ) → Unique (c.BeginAllows net marking)
   pub test : (net marking : List ℕ) (t : Mode) → Unique (c.TestAllows net marking t)
   pub fire : (net marking : List ℕ) (t : Mode) → Unique (c.FireAllows net marking t)
+  pub testStep : (net marking modes : List ℕ) → Unique (c.TestStepAllows net marking modes)
+  pub fireStep : (net marking modes : List ℕ) → Unique (c.FireStepAllows net marking modes)
   pub run : (net movements marking : List ℕ) → Unique (c.RunAllows net movements marking)
   pub certify : (net movements claim : List ℕ) → Unique (c.CertifyAllows net movements claim)
   pub figure : (net weights marking : List ℕ) → Unique (c.FigureAllows net weights marking)
@@ -53,6 +56,8 @@ pub record Uniqueness : Type 0 where
   pub begin : (net marking : List ℕ) → Unique (BeginAllows net marking)
   pub test : (net marking : List ℕ) (t : Mode) → Unique (TestAllows net marking t)
   pub fire : (net marking : List ℕ) (t : Mode) → Unique (FireAllows net marking t)
+  pub testStep : (net marking modes : List ℕ) → Unique (TestStepAllows net marking modes)
+  pub fireStep : (net marking modes : List ℕ) → Unique (FireStepAllows net marking modes)
   pub run : (net movements marking : List ℕ) → Unique (RunAllows net movements marking)
   pub certify : (net movements claim : List ℕ) → Unique (CertifyAllows net movements claim)
   pub figure : (net weights marking : List ℕ) → Unique (FigureAllows net weights marking)

@@ -1,5 +1,6 @@
 //! The inputs at full size, and at a part of it.
 
+use pnet::Mode;
 use reference::build::{OPEN, PlainArc, PlainNet, movements, weights};
 
 /// How large the inputs are.
@@ -39,6 +40,9 @@ pub struct Inputs {
     pub pairs: usize,
     /// Its last mode.
     pub last: u16,
+    /// A step of 64 modes, by their numbers and as modes.
+    pub step: Vec<u16>,
+    pub members: Vec<Mode>,
     /// 8,192 movements, all of them accepted.
     pub movements: Vec<u8>,
     /// Where they start.
@@ -61,6 +65,7 @@ impl Inputs {
         let (pairs, modes) = (net.pairs.len(), 4 * transitions);
         // A walk over all modes in no simple order.
         let list: Vec<u16> = (0..8_192 / part).map(|k| (k * 167 % 251 % modes) as u16).collect();
+        let step: Vec<u16> = (0..64).map(|k| (k * 167 % 251 % modes) as u16).collect();
         let kilograms: Vec<i32> = (0..pairs as i32).map(|pair| 250 * (pair % 9) - 500).collect();
         let (sheet, movements, weights) = (net.sheet(), movements(&list), weights(&kilograms));
         let marking: Vec<u32> = net.pairs.iter().map(|pair| pair.1).collect();
@@ -69,6 +74,8 @@ impl Inputs {
         Inputs {
             pairs,
             last: modes as u16 - 1,
+            members: step.iter().copied().map(Mode).collect(),
+            step,
             marking,
             claim,
             bounded: bounded.sheet(),

@@ -67,13 +67,22 @@ pub const STATEMENT: Work = beside(
 pub const SIZED: [Work; 4] = [READ, RUN, COMPLEMENT, STATEMENT];
 
 /// The other calls, at full size; a call with a mode is given the last.
-pub const OTHERS: [Work; 11] = [
+pub const OTHERS: [Work; 13] = [
     beside("size", |i, _| pnet::size(&i.net).is_ok(), |i, _| swift::size(&i.net).is_ok()),
     own("read_weights", |i, _| pnet::read_weights(&i.weights, i.pairs).is_ok()),
     own("read_movements", |i, _| pnet::read_movements(&i.movements).is_ok()),
     own("begin", |i, l| pnet::begin(&i.net, &mut l.marking).is_ok()),
     own("test", |i, l| pnet::test(&i.net, &l.marking, Mode(i.last)).is_ok()),
     own("fire", |i, l| pnet::fire(&i.net, &mut l.marking, Mode(i.last)).is_ok()),
+    own("test_step", |i, l| pnet::test_step(&i.net, &l.marking, &i.members).is_ok()),
+    Work {
+        name: "fire_step",
+        by: [
+            Some(|i, l| pnet::fire_step(&i.net, &mut l.marking, &i.members).is_ok()),
+            Some(|i, l| twopass::fire_step(&i.net, &mut l.marking, &i.step).number == 0),
+            None,
+        ],
+    },
     own("certify", |i, _| pnet::certify(&i.net, &i.movements, &i.claim).is_ok()),
     own("figure", |i, l| pnet::figure(&i.net, &i.weights, &l.marking).is_ok()),
     own("change", |i, _| pnet::change(&i.net, &i.weights, Mode(i.last)).is_ok()),

@@ -1,4 +1,4 @@
-//! One input for every call: sheets, a marking, a claim, a mode.
+//! One input for every call: sheets, a marking, a claim, a mode, a step.
 
 use pnet::Mode;
 use reference::build::{PlainNet, movements, weights};
@@ -16,6 +16,8 @@ pub struct Case {
     pub marking: Vec<u32>,
     pub claim: Vec<u32>,
     pub mode: u16,
+    /// The modes of a step.
+    pub step: Vec<u16>,
     /// What the weights' reader is given for the net's pair count.
     pub pairs: usize,
     /// The length of the complement's output slice.
@@ -46,6 +48,7 @@ impl Case {
             marking,
             claim,
             mode: random.below(total(&plain.modes).max(1)) as u16,
+            step: generator::step(random, plain),
             pairs: plain.pairs.len(),
             room: pnet::LARGEST_NET,
             net,
@@ -60,6 +63,8 @@ impl Case {
         same.begin(&self.net, &self.marking);
         same.test(&self.net, &self.marking, self.mode);
         same.fire(&self.net, &self.marking, self.mode);
+        same.test_step(&self.net, &self.marking, &self.step);
+        same.fire_step(&self.net, &self.marking, &self.step);
         same.run(&self.net, &self.movements, &self.marking);
         same.certify(&self.net, &self.movements, &self.claim);
         same.figure(&self.net, &self.weights, &self.marking);

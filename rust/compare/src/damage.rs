@@ -7,7 +7,7 @@ use crate::generator::{Random, total};
 
 /// One fault more, in any of the things.
 pub fn damage(random: &mut Random, case: &mut Case, plain: &mut PlainNet) {
-    match random.below(16) {
+    match random.below(17) {
         0..=2 => spoil_sheet(random, &mut case.net),
         3..=7 => {
             spoil_net(random, plain);
@@ -23,6 +23,10 @@ pub fn damage(random: &mut Random, case: &mut Case, plain: &mut PlainNet) {
             case.claim.resize(length, 1);
         }
         14 => case.mode = random.pick(&[total(&plain.modes) as u16, 256, 65_535]),
+        15 => {
+            let length = random.pick(&[0, 65, 66, 8_192]);
+            case.step.resize(length, 0);
+        }
         _ => case.room = random.below(case.net.len() + 64),
     }
 }

@@ -1,4 +1,4 @@
-//! A net and its complement: what docs/RULES.md says of the two, for any list of movements.
+//! A net and its complement: what docs/RULES.md says of the two, for any list of movements and any step.
 
 use reference::build::{OPEN, PlainNet, movements};
 
@@ -19,6 +19,8 @@ pub fn in_step(same: &mut Same, random: &mut Random, style: Style, net: &PlainNe
     for start in [first, other] {
         let list = walk(random, &sheet, &start, total(&net.modes), most);
         one_by_one(same, net, (&sheet, &complement), &start, &list);
+        let modes = generator::step(random, net);
+        at_once(same, net, (&sheet, &complement), &start, &modes);
     }
     true
 }
@@ -51,6 +53,29 @@ fn one_by_one(
     assert_eq!(accepted, both_accepted, "{}: {net:?}", same.part);
     assert_eq!(both_after, completed(net, &after), "{}: {net:?}", same.part);
     assert_eq!(become_11(answer.0), other.0, "{}: {net:?}", same.part);
+}
+
+/// A step that the complement accepts the net accepts, and the markings after correspond; where no inhibitor is finite, a step that
+/// the net accepts the complement accepts.
+fn at_once(
+    same: &mut Same,
+    net: &PlainNet,
+    (sheet, complement): (&[u8], &[u8]),
+    counts: &[u32],
+    modes: &[u16],
+) {
+    let (answer, after) = same.fire_step(sheet, counts, modes);
+    let (other, both_after) = same.fire_step(complement, &completed(net, counts), modes);
+    let (own, both) = (answer.0 == 0, other.0 == 0);
+    let uninhibited = net.arcs.iter().all(|arc| arc.inhibitor == OPEN);
+    assert!(own || !both, "{}: {modes:?} at {counts:?} of {net:?}", same.part);
+    assert!(both || !own || !uninhibited, "{}: {modes:?} at {counts:?} of {net:?}", same.part);
+    if both {
+        assert_eq!(both_after, completed(net, &after), "{}: {modes:?} at {counts:?} of {net:?}", same.part);
+        same.hits.value(if uninhibited { "step without an inhibitor" } else { "step of both" });
+    } else if own {
+        same.hits.value("step of the net alone");
+    }
 }
 
 /// "11, 12 and 13 in the net become 11 in its complement; 6 and 14 stay."

@@ -191,6 +191,19 @@ pub fn fire(net: &[u8], marking: &mut [u32], mode: Mode) -> Result<(), Refusal> 
     writing(net, marking, |net, marking| pnet::fire(net, marking, mode))
 }
 
+pub fn test_step(net: &[u8], marking: &[u32], modes: &[Mode]) -> Result<(), Refusal> {
+    lend(|lent| pnet::test_step(lent.net.show(net), lent.counts.show(marking), lent.sheet.show(modes)))
+}
+
+pub fn fire_step(net: &[u8], marking: &mut [u32], modes: &[Mode]) -> Result<(), Refusal> {
+    lend(|lent| {
+        let held = lent.written.lend(marking);
+        let answer = pnet::fire_step(lent.net.show(net), held, lent.sheet.show(modes));
+        marking.copy_from_slice(held);
+        answer
+    })
+}
+
 pub fn run(net: &[u8], movements: &[u8], marking: &mut [u32]) -> Ran {
     lend(|lent| {
         let held = lent.written.lend(marking);

@@ -12,6 +12,8 @@ pub enum Call {
     Begin,
     Test,
     Fire,
+    TestStep,
+    FireStep,
     Run,
     Certify,
     Figure,
@@ -25,13 +27,15 @@ pub enum Call {
 
 use Call::*;
 
-const CALLS: [Call; 15] = [
+const CALLS: [Call; 17] = [
     ReadNet,
     ReadWeights,
     ReadMovements,
     Begin,
     Test,
     Fire,
+    TestStep,
+    FireStep,
     Run,
     Certify,
     Figure,
@@ -55,6 +59,7 @@ const MOVEMENTS: &[Told] = &[(1, 2), (2, 2), (3, 2), (4, 2)];
 const MARKING: &[Told] = &[(17, 3), (5, 3), (9, 3)];
 const ONE_EACH: &[Told] = &[(17, 3)];
 const MODE: &[Told] = &[(6, 3)];
+const STEP: &[Told] = &[(4, 3)];
 const STOPPED: &[Told] = &[(11, 3), (12, 3), (13, 3), (14, 3)];
 const MOVEMENT: &[Told] = &[(6, 2), (11, 2), (12, 2), (13, 2), (14, 2)];
 const ELSEWHERE: &[Told] = &[(18, 3)];
@@ -69,6 +74,7 @@ fn refusals(call: Call) -> Vec<Told> {
         ReadMovements => MOVEMENTS.to_vec(),
         Begin => [NET, ONE_EACH].concat(),
         Test | Fire => [NET, MARKING, MODE, STOPPED].concat(),
+        TestStep | FireStep => [NET, MARKING, STEP, MODE, STOPPED].concat(),
         Run => [NET, MOVEMENTS, MARKING, MOVEMENT].concat(),
         Certify => [NET, MOVEMENTS, ONE_EACH, MOVEMENT, ELSEWHERE].concat(),
         Figure => [NET, WEIGHTS, MARKING].concat(),
@@ -87,7 +93,7 @@ pub struct Hits {
     runs: usize,
     whole: usize,
     longest: usize,
-    /// Values that are no numbers: yes, no, a mode named, none named; and what a text is of.
+    /// Values that are no numbers: yes, no, a mode named, none named; what a text is of; by which of a net and its complement a step is accepted.
     values: BTreeMap<&'static str, usize>,
 }
 
@@ -137,6 +143,8 @@ impl Hits {
             "text of a stopped run",
             "text of a bad sheet",
             "long",
+            "step of both",
+            "step without an inhibitor",
         ] {
             if self.values.get(value).copied().unwrap_or(0) < ENOUGH {
                 wants.push(format!("the value '{value}' came up too rarely"));

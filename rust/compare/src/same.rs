@@ -25,6 +25,11 @@ fn plain_of<V>(result: &Result<V, reference::Answer>) -> Plain {
     plain(reference::Answer::of(result))
 }
 
+/// The modes of a step.
+fn members(modes: &[u16]) -> Vec<Mode> {
+    modes.iter().copied().map(Mode).collect()
+}
+
 /// The comparison so far.
 #[derive(Default)]
 pub struct Same {
@@ -108,6 +113,21 @@ impl Same {
         let answer = told(&guarded::fire(net, &mut ours, Mode(mode)));
         let reference = plain(reference::fire(net, &mut theirs, mode));
         self.hold(Call::Fire, answer, (answer, &ours), (reference, &theirs), &[&net, &marking, &mode]);
+        (answer, ours)
+    }
+
+    pub fn test_step(&mut self, net: &[u8], marking: &[u32], modes: &[u16]) {
+        let answer = told(&guarded::test_step(net, marking, &members(modes)));
+        let reference = plain(reference::test_step(net, marking, modes));
+        self.hold(Call::TestStep, answer, answer, reference, &[&net, &marking, &modes]);
+    }
+
+    /// The answer, and the marking after it.
+    pub fn fire_step(&mut self, net: &[u8], marking: &[u32], modes: &[u16]) -> (Plain, Vec<u32>) {
+        let (mut ours, mut theirs) = (marking.to_vec(), marking.to_vec());
+        let answer = told(&guarded::fire_step(net, &mut ours, &members(modes)));
+        let reference = plain(reference::fire_step(net, &mut theirs, modes));
+        self.hold(Call::FireStep, answer, (answer, &ours), (reference, &theirs), &[&net, &marking, &modes]);
         (answer, ours)
     }
 

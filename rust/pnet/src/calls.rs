@@ -77,6 +77,31 @@ pub fn fire(net: &[u8], marking: &mut [u32], mode: Mode) -> Result<(), Refusal> 
         .result(Sheets::net(net))
 }
 
+/// Whether a step is enabled at the marking, or why not: 1 to 64 modes that fire at once, repeats allowed.
+pub fn test_step(net: &[u8], marking: &[u32], modes: &[Mode]) -> Result<(), Refusal> {
+    // SAFETY: pointers and lengths are slices', which are only read.
+    unsafe {
+        pnet_test_step(net.as_ptr(), net.len(), marking.as_ptr(), marking.len(), modes.as_ptr(), modes.len())
+    }
+    .result(Sheets::net(net))
+}
+
+/// Fires a step: the marking becomes the one after all its modes, or stays as it was.
+pub fn fire_step(net: &[u8], marking: &mut [u32], modes: &[Mode]) -> Result<(), Refusal> {
+    // SAFETY: pointers and lengths are slices', and the one that is written is lent by `&mut`.
+    unsafe {
+        pnet_fire_step(
+            net.as_ptr(),
+            net.len(),
+            marking.as_mut_ptr(),
+            marking.len(),
+            modes.as_ptr(),
+            modes.len(),
+        )
+    }
+    .result(Sheets::net(net))
+}
+
 /// How a run went.
 #[derive(Clone, Copy, Debug, PartialEq, Eq)]
 pub struct Ran {

@@ -10,7 +10,7 @@ pub enum Fault {
     WrongVersion,
     /// 3: the sheet is not as long as it says.
     WrongLength(Length),
-    /// 4: a count outside its limits, or the running total passes 256.
+    /// 4: a count outside its limits, or the running total passes 256; a step that is empty or has more than 64 modes.
     CountOutside,
     /// 5: a number outside its range.
     NumberOutside,

@@ -50,8 +50,8 @@ mod raw;
 mod refusal;
 
 pub use calls::{
-    Ran, Size, begin, certify, change, complement, figure, fire, first_dead, first_marking, is_dead,
-    read_movements, read_net, read_weights, run, size, statement, test,
+    Ran, Size, begin, certify, change, complement, figure, fire, fire_step, first_dead, first_marking,
+    is_dead, read_movements, read_net, read_weights, run, size, statement, test, test_step,
 };
 pub use fault::{Fault, Length};
 pub use kinds::{LARGEST_NET, Mode, Pair, TEXT_ROOM, Thing};

@@ -50,6 +50,22 @@ unsafe extern "C" {
         counts: usize,
         mode: Mode,
     ) -> Answer;
+    pub fn pnet_test_step(
+        net: *const u8,
+        net_length: usize,
+        marking: *const u32,
+        counts: usize,
+        modes: *const Mode,
+        modes_count: usize,
+    ) -> Answer;
+    pub fn pnet_fire_step(
+        net: *const u8,
+        net_length: usize,
+        marking: *mut u32,
+        counts: usize,
+        modes: *const Mode,
+        modes_count: usize,
+    ) -> Answer;
     pub fn pnet_run(
         net: *const u8,
         net_length: usize,

@@ -53,9 +53,8 @@ impl Refusal {
     pub fn offset(&self) -> Option<u64> {
         use Fault::*;
         let of_byte = match self.fault {
-            WrongVersion | WrongLength(_) | CountOutside | NotRising | Blank | InhibitedUnbounded
-            | ComplementAbove => true,
-            NumberOutside | AboveCapacity | NotOneEach => self.thing != Thing::Argument,
+            WrongVersion | WrongLength(_) | NotRising | Blank | InhibitedUnbounded | ComplementAbove => true,
+            CountOutside | NumberOutside | AboveCapacity | NotOneEach => self.thing != Thing::Argument,
             NotThere => self.thing == Thing::Net,
             _ => false,
         };
@@ -79,6 +78,7 @@ impl fmt::Display for Refusal {
             (Fault::WrongLength(Length::BytesLeftOver), thing) => {
                 write!(f, "the {thing} sheet has bytes left over from byte {at} on")
             }
+            (Fault::CountOutside, Thing::Argument) => write!(f, "the step has no mode, or more than 64"),
             (Fault::CountOutside, thing) => {
                 write!(f, "the count at byte {at} of the {thing} sheet is outside its limits")
             }

@@ -103,6 +103,19 @@ fn of_a_marking_and_a_mode() {
 }
 
 #[test]
+fn of_a_step() {
+    let plain = example();
+    let once = [Mode(0)];
+    says(test_step(&plain, &[3, 0], &[]), "4: the step has no mode, or more than 64");
+    says(test_step(&plain, &[3, 0], &[Mode(0); 65]), "4: the step has no mode, or more than 64");
+    says(fire_step(&plain, &mut [3, 0], &[Mode(0), Mode(1)]), "6: the mode is not there");
+    says(fire_step(&plain, &mut [3, 0], &[Mode(0); 4]), "11: pair 0 holds too few");
+    says(test_step(&plain, &[5, 0], &once), "13: pair 0 holds more than the inhibitor allows");
+    let mut marking = [3, 0];
+    assert_eq!((fire_step(&plain, &mut marking, &[Mode(0); 3]), marking), (Ok(()), [0, 3]));
+}
+
+#[test]
 fn of_a_complement() {
     let room = &mut [0; LARGEST_NET];
     says(
@@ -125,6 +138,11 @@ fn positions_are_pairs_or_offsets_or_nothing() {
     assert_eq!((refusal.pair(), refusal.offset(), refusal.thing()), (Some(Pair(0)), None, Thing::Argument));
     let refusal = read_net(&sheet(&[0, 0])).unwrap_err();
     assert_eq!((refusal.pair(), refusal.offset(), refusal.number()), (None, Some(5), 4));
+    let refusal = test_step(&example(), &[0, 0], &[]).unwrap_err();
+    assert_eq!(
+        (refusal.offset(), refusal.fault(), refusal.thing()),
+        (None, Fault::CountOutside, Thing::Argument)
+    );
     let refusal = test(&example(), &[0, 0], Mode(1)).unwrap_err();
     assert_eq!((refusal.pair(), refusal.offset(), refusal.position()), (None, None, 0));
 }

@@ -17,6 +17,14 @@ impl Bound {
         if field == UNBOUNDED { Bound::Unbounded } else { Bound::Finite(field) }
     }
 
+    /// The least of two bounds.
+    pub fn least(self, other: Bound) -> Bound {
+        match (self, other) {
+            (Bound::Finite(one), Bound::Finite(two)) => Bound::Finite(one.min(two)),
+            (Bound::Unbounded, bound) | (bound, Bound::Unbounded) => bound,
+        }
+    }
+
     /// Whether a number is above the bound; nothing is above an unbounded one.
     pub fn is_below(self, number: u32) -> bool {
         match self {

@@ -1,6 +1,7 @@
 //! "Pairs, modes and the firing rule": testing and firing one mode.
 
 use crate::answer::{Answer, Refusal, Thing};
+use crate::arc::Flow;
 use crate::kinds::Mode;
 use crate::limits::LARGEST;
 use crate::marking::check_marking;
@@ -39,7 +40,12 @@ pub fn check_mode(net: &Net, mode: Mode, thing: Thing) -> Result<(), Answer> {
 /// The marking M - Pre + Post, where the mode is enabled at M; the thing at fault where it is not.
 pub fn next_marking(net: &Net, marking: &[u32], mode: Mode, thing: Thing) -> Result<Vec<u32>, Answer> {
     check_mode(net, mode, thing)?;
-    let flows = net.flows(mode);
+    next_by(net, marking, &net.flows(mode), thing)
+}
+
+/// The marking M - Pre + Post by the Pre, Post and I of one mode, or summed over a step: "11 over all
+/// pairs, 12, 13, 14".
+pub fn next_by(net: &Net, marking: &[u32], flows: &[Flow], thing: Thing) -> Result<Vec<u32>, Answer> {
     // Pre is at most M once 11 is passed over, so M - Pre + Post is never below zero.
     let new_count = |p: usize| marking[p] - flows[p].pre + flows[p].post;
     let pairs = || 0..net.pair_count();

@@ -1,5 +1,6 @@
-//! A plain reading of docs/RULES.md: reading a finite P-net, testing and firing one mode, running a
-//! list of movements, checking a certificate, complementing, the figure, locally dead modes, `replay`.
+//! A plain reading of docs/RULES.md: reading a finite P-net, testing and firing one mode or a step of
+//! several at once, running a list of movements, checking a certificate, complementing, the figure,
+//! locally dead modes, `replay`.
 //!
 //! Each call takes sheets as bytes and gives the answer, value and lent slices of docs/RULES.md exactly.
 
@@ -23,6 +24,7 @@ mod replay;
 mod run;
 mod sheet;
 mod size;
+mod step;
 mod weight_sheet;
 
 pub mod build;
@@ -41,4 +43,5 @@ pub use net_sheet::read_net;
 pub use replay::replay;
 pub use run::run;
 pub use size::{Size, size};
+pub use step::{fire_step, test_step};
 pub use weight_sheet::read_weights;

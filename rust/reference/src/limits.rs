@@ -1,4 +1,6 @@
-//! The limits of docs/RULES.md, "Sheets" and "`replay`".
+//! The limits of docs/RULES.md: of sheets, of a step and of `replay`'s input.
+
+use std::ops::RangeInclusive;
 
 /// "Numbers in net sheets and markings are 0..1,000,000."
 pub const LARGEST: u32 = 1_000_000;
@@ -26,6 +28,9 @@ pub const ARC_BYTES: usize = 16;
 
 /// "Mode numbers, 2 bytes each, at most 8,192."
 pub const MOVEMENTS: usize = 8_192;
+
+/// "A step: a list of 1 to 64 modes, repeats allowed."
+pub const STEP: RangeInclusive<usize> = 1..=64;
 
 /// "A weight may be negative, from -1000000 to 1000000."
 pub const WEIGHT: i32 = 1_000_000;

@@ -121,12 +121,6 @@ fn complement_pairs(net: &PlainNet) -> Vec<Option<usize>> {
     net.pairs.iter().map(number).collect()
 }
 
-/// The marking of the complement: on each complement pair K less the original's.
-fn completed(net: &PlainNet, counts: &[u32]) -> Vec<u32> {
-    let finite = net.pairs.iter().zip(counts).filter(|((capacity, _), _)| *capacity != OPEN);
-    counts.iter().copied().chain(finite.map(|((capacity, _), count)| capacity - count)).collect()
-}
-
 /// "11, 12 and 13 in the net become 11 in its complement; 6 and 14 stay."
 fn correspond(net: &PlainNet, counts: &[u32], mode: u16, answer: Answer) -> Answer {
     if !matches!(answer.number, 12 | 13) {

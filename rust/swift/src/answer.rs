@@ -14,6 +14,7 @@ pub struct Answer {
 pub const NET: u8 = 0;
 pub const WEIGHTS: u8 = 1;
 pub const MOVEMENTS: u8 = 2;
+/// The thing of a marking or any other argument.
 pub const ARGUMENT: u8 = 3;
 
 /// "Numbers in net sheets and markings are 0..1,000,000."

@@ -22,7 +22,7 @@ mod weights;
 #[path = "../../reference/tests/support/generator.rs"]
 mod generator;
 
-pub use answer::{Answer, LARGEST};
+pub use answer::{ARGUMENT, Answer, LARGEST};
 pub use complement::complement;
 pub use layout::{read_net, size};
 pub use replay::replay;
@@ -32,6 +32,6 @@ pub use run::run;
 pub mod sheets {
     pub use crate::fault::of_movement as refused_movement;
     pub use crate::kernel::capacities;
-    pub use crate::layout::{Arc, Layout};
-    pub use crate::run::arguments;
+    pub use crate::layout::{Arc, Layout, whole_net};
+    pub use crate::run::{arguments, check_marking};
 }

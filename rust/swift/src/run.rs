@@ -33,10 +33,16 @@ pub fn run_from(layout: &Layout, list: &[[u8; 2]], marking: &mut [u32; 256]) -> 
 /// A net and a list that were accepted.
 pub type Arguments<'a> = (Layout<'a>, &'a [[u8; 2]]);
 
-/// "Net, weights, movements, then the marking (17, then pair by pair 5 before 9)."
+/// "Net, weights, movements, then the marking."
 pub fn arguments<'a>(net: &'a [u8], movements: &'a [u8], marking: &[u32]) -> Result<Arguments<'a>, Answer> {
     let layout = whole_net(net)?;
     let list = whole_list(movements)?;
+    check_marking(&layout, marking)?;
+    Ok((layout, list))
+}
+
+/// "Then the marking (17, then pair by pair 5 before 9)."
+pub fn check_marking(layout: &Layout, marking: &[u32]) -> Result<(), Answer> {
     if marking.len() != layout.pairs {
         return Err(Answer::refused(17, ARGUMENT, 0));
     }
@@ -48,5 +54,5 @@ pub fn arguments<'a>(net: &'a [u8], movements: &'a [u8], marking: &[u32]) -> Res
             return Err(Answer::refused(9, ARGUMENT, pair));
         }
     }
-    Ok((layout, list))
+    Ok(())
 }

@@ -1,6 +1,11 @@
 //! A run by the engine's own method, as well as Rust can say it: a mode's arcs are decoded when the net is
 //! read, and each movement tests them all in one pass before a second pass writes their pairs, and no other.
-//! Nothing is half written, so nothing is ever taken back. The sheets are read by `swift`.
+//! Nothing is half written, so nothing is ever taken back. A step is tested and written so by its sums. The
+//! sheets are read by `swift`.
+
+mod step;
+
+pub use step::fire_step;
 
 use swift::sheets::{Arc, Layout, arguments, capacities, refused_movement};
 use swift::{Answer, LARGEST};

@@ -144,6 +144,17 @@ pub fn list(random: &mut Random, net: &PlainNet, most: usize) -> Vec<u16> {
     list
 }
 
+/// The modes of a step, mostly a few, now and then none, 64, more, or one that is not there.
+pub fn step(random: &mut Random, net: &PlainNet) -> Vec<u16> {
+    let modes = total(&net.modes);
+    let length = if random.once_in(8) { random.pick(&[0, 63, 64, 65]) } else { 1 + random.below(4) };
+    let mut step: Vec<u16> = (0..length).map(|_| random.below(modes.max(1)) as u16).collect();
+    if random.once_in(12) {
+        step.insert(random.below(length + 1), random.pick(&[modes as u16, 256, 65_535]));
+    }
+    step
+}
+
 /// Weights over the whole range.
 pub fn weights(random: &mut Random, pairs: usize) -> Vec<i32> {
     let edges = [-1_000_000, -1, 0, 1, 250, 1_000_000];

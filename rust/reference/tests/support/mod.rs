@@ -63,3 +63,9 @@ pub fn complement_of(net: &[u8]) -> Vec<u8> {
     output.truncate(length);
     output
 }
+
+/// The marking of the complement: on each complement pair K less the original's.
+pub fn completed(net: &PlainNet, counts: &[u32]) -> Vec<u32> {
+    let finite = net.pairs.iter().zip(counts).filter(|((capacity, _), _)| *capacity != OPEN);
+    counts.iter().copied().chain(finite.map(|((capacity, _), count)| capacity - count)).collect()
+}

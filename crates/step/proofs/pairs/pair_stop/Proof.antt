@@ -1,0 +1,53 @@
+-- The test at one pair, over the sums there.
+use borrow.Author.Needs.{needs}
+use mathlib.Core.Path.{ap}
+use native.Mathlib.Omega.{arith}
+use Rattle.opened.proofs.Shapes.{sizes}
+use Rattle.step.proofs.AtPairs.{counted, stop-found, stop-passed}
+use Rattle.step.proofs.pairs.pair_stop.Statement.{statement}
+use Rattle.step.proofs.pairs.pair_stop.Tie as tie
+
+sum-at-requires : tie.Need-sum-at-requires
+sum-at-requires c κs = omega (arith, sizes (c .before .before .pre .0) .pairsWithin)
+
+capacity-requires : tie.Need-capacity-requires
+capacity-requires c κs =
+    let start = c .before .before .before .before in
+    (start .pre .0, omega (arith, ap (λ x. x .0) (c .before .sum-at .ensures .pair)))
+
+mul-t13 : tie.Need-mul-t13
+mul-t13 c = omega (arith, sizes (c .before .before .before .before .before .pre .0) .pairsWithin)
+
+shared-slice-read-t15 : tie.Need-shared-slice-read-t15
+shared-slice-read-t15 c =
+    let start = c .before .before .before .before .before .before in
+    omega (arith, sizes (start .pre .0) .pairs, start .pre .1 .0 .oneEach)
+
+is-stopped-requires : tie.Need-is-stopped-requires
+is-stopped-requires c κs =
+    let start = c .before .before .before .before .before .before in
+    counted (start .pre .0) (start .pre .1 .0) (start .pre .1 .1 .0) (start .pre .1 .1 .1) (c .before .before .before .sum-at .ensures)
+
+returns : tie.Need-returns
+returns c =
+    let test = c .before .before in
+    stop-found _ _ _ (test .before .before .before .before .sum-at .ensures) (test .before .before .capacity .ensures) _ (test .is-stopped .ensures) (c .before .if1 .taken)
+    (c .refused .ensures)
+
+returns-2 : tie.Need-returns-2
+returns-2 c =
+    let test = c .before in
+    stop-passed _ _ _ (test .before .before .before .before .sum-at .ensures) (test .before .before .capacity .ensures) _ (test .is-stopped .ensures) (c .if1 .left)
+
+pub pair-stop-spec : {M : Type 1} → statement M
+pair-stop-spec =
+    tie.close
+    (tie.spec
+    sum-at-requires
+    capacity-requires
+    mul-t13
+    shared-slice-read-t15
+    is-stopped-requires
+    (λ c κs. search needs)
+    returns
+    returns-2)
