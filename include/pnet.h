@@ -201,7 +201,8 @@ struct pnet_weighed pnet_figure(const uint8_t *net, size_t net_length, const uin
 struct pnet_weighed pnet_change(const uint8_t *net, size_t net_length, const uint8_t *weights, size_t weights_length,
                                 struct pnet_mode mode);
 
-/* Whether the mode is locally dead: at some pair Pre or Post is above K. Writes nothing.
+/* Whether the mode is locally dead: at some pair Pre is above the least of K less Post and I, or Post is above K. Exactly then no
+ * marking enables it. Writes nothing.
  * Refuses: the net; 6 for the mode (PNET_ARGUMENT). */
 struct pnet_decided pnet_is_dead(const uint8_t *net, size_t net_length, struct pnet_mode mode);
 

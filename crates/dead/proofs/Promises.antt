@@ -13,7 +13,7 @@ use Rattle.dead.specs.FirstDead as first
 use Rattle.dead.specs.Promises.{SaysDead, NamesFirst}
 
 -- an accepted call has its value
-value-is : {o : Option Refusal} (dead : Bool) → o ≡ none → one.told (deadness o dead) .value ≡ some dead
+pub value-is : {o : Option Refusal} (dead : Bool) → o ≡ none → one.told (deadness o dead) .value ≡ some dead
 value-is true e = rw e
 value-is false e = rw e
 

@@ -1,5 +1,6 @@
-// Locally dead modes: "A mode is locally dead when, at some pair, Pre or Post is above K" (document 01, "Certificate, figure, dead modes").
+// Locally dead modes: "A mode is locally dead when, at some pair, Pre is above the least of K less Post and I, or Post is above K" (document 01, "Certificate, figure, dead modes").
 use fields::numbers::above_bound;
+use fields::numbers::least;
 use model::Arc;
 use model::Fault;
 use model::Mode;
@@ -18,10 +19,12 @@ use opened::starts::starts;
 ghost use mathlib.Core.Path.{_≡_};
 ghost use mathlib.Core.Option.{none};
 ghost use Prim.Native.Nat.{_+_, _≤_, _<_};
+ghost use Rattle.model.specs.Numbers.{lessThan, leastOf};
 ghost use Rattle.model.specs.Nets.{modes, modeNo, K};
 ghost use Rattle.model.specs.declared.Thing.the-variants.{Argument};
 ghost use Rattle.model.specs.Firing.{absent};
 ghost use Rattle.model.specs.Dead.{kills as killsHere, isDead, firstDead};
+ghost use Rattle.fields.specs.Numbers.{bound};
 ghost use Rattle.sheets.specs.Decoded.{netOf, netArc};
 ghost use Rattle.opened.specs.Shape.{Open};
 ghost use Rattle.opened.specs.Starts.{StartsAre, SegmentOf};
@@ -43,7 +46,27 @@ pub enum FirstDead {
     Refused(Refusal),
 }
 
-// Pre or Post of an arc is above K of its pair.
+// "K less Post": unbounded where K is, 0 where Post is above K.
+fn less(capacity: u32, post: u32) -> u32
+    ensures { λ r. ⌜ bound r ≡ lessThan (bound capacity) post ⌝ }
+{
+    if capacity == 0xffff_ffff {
+        return capacity;
+    }
+    if capacity < post {
+        return 0;
+    }
+    capacity - post
+}
+
+// "the least of K less Post and I": the number that means unbounded is the largest of 32 bits.
+fn highest_pre(capacity: u32, post: u32, inhibitor: u32) -> u32
+    ensures { λ r. ⌜ bound r ≡ leastOf (lessThan (bound capacity) post) (bound inhibitor) ⌝ }
+{
+    least(less(capacity, post), inhibitor)
+}
+
+// "Pre is above the least of K less Post and I, or Post is above K", of an arc at its pair.
 fn kills(s: &[u8], net: NetShape, arc: Arc) -> bool
     requires { ⌜ Open (now s) net ⌝ }
     requires { ⌜ arc .pair .0 < net .pairs ⌝ }
@@ -51,13 +74,13 @@ fn kills(s: &[u8], net: NetShape, arc: Arc) -> bool
 {
     let pair = arc.pair;
     let most = capacity(s, net, pair);
-    if above_bound(arc.pre, most) {
+    if above_bound(arc.pre, highest_pre(most, arc.post, arc.inhibitor)) {
         return true;
     }
     above_bound(arc.post, most)
 }
 
-// Dead at a mode: looked for at the mode's own arcs, since nothing is above K where there is none.
+// Dead at a mode: looked for at the mode's own arcs, since nothing is above a bound where there is none.
 pub fn dead_at(s: &[u8], net: NetShape, mode: Mode) -> bool
     requires { ⌜ Open (now s) net ⌝ }
     requires { ⌜ mode .0 < net .modes ⌝ }

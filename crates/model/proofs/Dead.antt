@@ -1,36 +1,29 @@
 -- Locally dead modes: the searches name what the definitions mean.
 use Prim.Native.Nat.{ℕ, _+_, _-_, _≤_, _<_}
-use mathlib.Core.Path.{_≡_, refl, sym, _∙_, ap}
-use mathlib.Core.Bool.{Bool, true, false, _||_, or-true}
-use mathlib.Core.Logic.{_↔_, _⊎_, inl, inr, ⊎-elim}
+use mathlib.Core.Path.{_≡_, refl, sym, _∙_, ap, ap₂}
+use mathlib.Core.Bool.{Bool, true, false, _||_}
+use mathlib.Core.Logic.{_↔_, ⊎-elim}
 use mathlib.Core.Option.{Option, none, some, Option·map}
 use native.Mathlib.Omega.{arith}
 use Rattle.model.specs.declared.Mode.{Mode}
 use Rattle.model.specs.First.{onlyIf, lowest, Lowest, NoneBelow}
-use Rattle.model.specs.Numbers.{ℕ∞, fin, ∞, _≤∞_, above}
-use Rattle.model.specs.Rows.{Entry}
+use Rattle.model.specs.Numbers.{ℕ∞, fin, ∞, above}
+use Rattle.model.specs.Rows.{Entry, noArc}
 use Rattle.model.specs.Nets.{PNet, pairs, modes, pairNo, modeNo, K, arcNo, row}
-use Rattle.model.specs.Dead.{Kills, kills, deadPair, isDead, DeadMode, firstDead}
+use Rattle.model.specs.Dead.{highestPre, Kills, kills, deadPair, isDead, DeadMode, firstDead}
 use Rattle.model.specs.Promises.{KillsAt, DeadModes, FirstDead}
 use Rattle.model.proofs.First.{Decides, lowest-or-none, lowest-some, some-lowest, first-each, first-all, first-ext, first-at, first-found, first-sparse}
 use Rattle.model.proofs.ByArcs.{Listing}
-use Rattle.model.proofs.Numbers.{above-true, true-above, false-above}
+use Rattle.model.proofs.Numbers.{false-above}
+use Rattle.model.proofs.Decisions.{Decided, by-or, by-above}
 
-either : (a b : Bool) → a || b ≡ true → (a ≡ true) ⊎ (b ≡ true)
-either true b e = inl refl
-either false b e = inr e
-
-kills-true : (e : Entry) (k : ℕ∞) → kills e k ≡ true → Kills e k
-kills-true e k h =
-    ⊎-elim (λ a. inl (above-true (e .pre) k a)) (λ a. inr (above-true (e .post) k a)) (either (above (e .pre) k) (above (e .post) k) h)
-
-true-kills : (e : Entry) (k : ℕ∞) → Kills e k → kills e k ≡ true
-true-kills e k (inl a) = rw (true-above (e .pre) k a)
-true-kills e k (inr a) = rw (true-above (e .post) k a) (or-true (above (e .pre) k))
+-- the two tests say what they mean
+decided-kills : (e : Entry) (k : ℕ∞) → Decided (kills e k) (Kills e k)
+decided-kills e k = by-or (by-above (e .pre) (highestPre e k)) (by-above (e .post) k)
 
 module _ (net : PNet) (t : Mode) where
   decides-dead : Decides (λ p. kills (row net t p) (K net p)) (KillsAt net t)
-  decides-dead = record { sound = λ p. kills-true (row net t p) (K net p); complete = λ p. true-kills (row net t p) (K net p) }
+  decides-dead = record { sound = λ p. decided-kills (row net t p) (K net p) .sound; complete = λ p. decided-kills (row net t p) (K net p) .complete }
 
   lowest-dead : (p : ℕ) → Lowest (pairs net) (KillsAt net t) p → deadPair net t ≡ some p
   unfolding deadPair
@@ -67,9 +60,12 @@ module _ (net : PNet) (t : Mode) where
       ⊎-elim (λ (l : (p : ℕ) × Lowest (pairs net) (KillsAt net t) p). pair-dead (l .0) (lowest-dead (l .0) (l .1)))
       (λ nowhere. absurd (nowhere (r .0) (r .1) (r .2))) (lowest-or-none decides-dead (λ p. p) (pairs net))
 
-zero-le : (k : ℕ∞) → 0 ≤∞ k
-zero-le (fin k) = omega arith
-zero-le ∞ = tt
+zero-above : (b : ℕ∞) → above 0 b ≡ false
+zero-above (fin k) = false-above 0 (fin k) (omega arith)
+zero-above ∞ = refl
+
+no-arc-kills : (k : ℕ∞) → kills noArc k ≡ false
+no-arc-kills k = ap₂ _||_ (zero-above (highestPre noArc k)) (zero-above k)
 
 -- the k-th arc of a net makes its mode locally dead
 abbrev pub arcKills : PNet → ℕ → Bool
@@ -79,13 +75,13 @@ arcKills net k = kills (arcNo (net .arcs) k .entry) (K net (arcNo (net .arcs) k 
 abbrev pub Passed : PNet → ℕ → ℕ → Type 0
 Passed net start k = (i : ℕ) → i < k → start ≤ i → arcKills net i ≡ false
 
--- a mode's own arcs are enough: where no arc is written nothing is above K
+-- a mode's own arcs are enough: where no arc is written, 0 is above no bound
 module _ (net : PNet) (t : Mode) (start c : ℕ) (listing : Listing (pairs net) (row net t) c (λ k. arcNo (net .arcs) (start + k))) where
   dead-by-arcs : deadPair net t ≡ lowest c (λ k. arcKills net (start + k)) (λ k. arcNo (net .arcs) (start + k) .pair .0)
   unfolding deadPair
   dead-by-arcs =
       first-sparse (pairs net) c (λ p. onlyIf (kills (row net t p) (K net p)) p) (λ k. arcNo (net .arcs) (start + k) .pair .0) (listing .inside)
-      (listing .rising) (λ p h elsewhere. rw (listing .unwritten p h elsewhere, false-above 0 (K net p) (zero-le (K net p))))
+      (listing .rising) (λ p h elsewhere. rw (listing .unwritten p h elsewhere, no-arc-kills (K net p)))
       ∙ first-ext c _ _ (λ k h. rw (listing .written k h))
 
   pub arcs-alive : Passed net start (start + c) → deadPair net t ≡ none

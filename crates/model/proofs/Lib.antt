@@ -19,6 +19,7 @@ pub mod Firing
 pub mod Markings
 pub mod Runs
 pub mod Dead
+pub mod Possible
 pub mod Edges
 pub mod Nets
 pub mod PassBelow

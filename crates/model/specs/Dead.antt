@@ -1,20 +1,26 @@
--- Locally dead modes: "A mode is locally dead when, at some pair, Pre or Post is above K."
+-- Locally dead modes: "A mode is locally dead when, at some pair, Pre is above the least of K less Post and I, or Post is above K."
 use Prim.Native.Nat.{ℕ}
 use mathlib.Core.Bool.{Bool, true, false, _||_}
+use mathlib.Core.List.{List}
 use mathlib.Core.Option.{Option, none, some, Option·map}
 use mathlib.Core.Logic.{_⊎_}
 use Rattle.model.specs.declared.Pair.{Pair}
 use Rattle.model.specs.declared.Mode.{Mode}
 use Rattle.model.specs.First.{first, lowest}
-use Rattle.model.specs.Numbers.{ℕ∞, Above, above}
+use Rattle.model.specs.Numbers.{ℕ∞, Above, above, leastOf, lessThan}
 use Rattle.model.specs.Rows.{Entry}
+use Rattle.model.specs.Lists.{table}
 use Rattle.model.specs.Nets.{PNet, pairs, modes, pairNo, modeNo, K, row}
 
+-- "the least of K less Post and I"
+abbrev pub highestPre : Entry → ℕ∞ → ℕ∞
+highestPre e k = leastOf (lessThan k (e .post)) (e .inhibitor)
+
 abbrev pub Kills : Entry → ℕ∞ → Type 0
-Kills e k = Above (e .pre) k ⊎ Above (e .post) k
+Kills e k = Above (e .pre) (highestPre e k) ⊎ Above (e .post) k
 
 abbrev pub kills : Entry → ℕ∞ → Bool
-kills e k = above (e .pre) k || above (e .post) k
+kills e k = above (e .pre) (highestPre e k) || above (e .post) k
 
 -- the lowest pair that makes a mode locally dead
 unfoldable pub deadPair : PNet → Mode → Option ℕ
@@ -26,6 +32,10 @@ found (some p) = true
 
 unfoldable pub isDead : PNet → Mode → Bool
 isDead net t = found (deadPair net t)
+
+-- the lowest counts at which a mode lacks nothing: its Pre at each pair
+abbrev pub lowestMarking : PNet → Mode → List ℕ
+lowestMarking net t = table (pairs net) (λ p. row net t p .pre)
 
 pub record DeadMode : Type 0 where
   pub mode : Mode

@@ -2,7 +2,7 @@
 -- Each statement is a type; docs/ARCHITECTURE.md names the one term of proofs/ that has it, and the order to read the definitions in.
 use Prim.Native.Nat.{ℕ, suc, _-_, _≤_, _<_}
 use mathlib.Core.Path.{_≡_}
-use mathlib.Core.Bool.{true}
+use mathlib.Core.Bool.{true, false}
 use mathlib.Core.List.{List, [], _∷_, _++_, List·Memᴰ}
 use mathlib.Core.Logic.{_↔_, _⊎_}
 use mathlib.Core.Option.{none, some}
@@ -25,7 +25,7 @@ use Rattle.model.specs.WellFormed.{Blank, WellFormed}
 use Rattle.model.specs.Firing.{ruleRefusal, modeRefusal, fired}
 use Rattle.model.specs.Runs.{run, certificateRefusal}
 use Rattle.model.specs.Figures.{figure, changes}
-use Rattle.model.specs.Dead.{Kills, isDead, firstDead}
+use Rattle.model.specs.Dead.{Kills, isDead, lowestMarking, firstDead}
 use Rattle.model.specs.Complement.{boundedBelow, complementPair, original, complementEntry, complement, Corresponds}
 
 -- 1. The exact refusal tables of a marking and of a mode; those of sheets and calls are in sheets/specs/RefusalTables.antt and promises/specs/CallTables.antt.
@@ -85,7 +85,7 @@ abbrev pub FigureAfter : Type 0
 FigureAfter = (net : PNet) (weights : List ℤ) (ts : List Mode) (m : List ℕ)
     → figure net weights (run net ts m .marking) ≡ figure net weights m +ℤ changes net weights (take (run net ts m .accepted) ts)
 
--- 6. Locally dead: at some pair Pre or Post is above K; the first dead mode is the lowest, named with its lowest pair.
+-- 6. Locally dead: "at some pair, Pre is above the least of K less Post and I, or Post is above K"; the first dead mode is the lowest, named with its lowest pair.
 abbrev pub KillsAt : PNet → Mode → ℕ → Type 0
 KillsAt net t p = Kills (row net t p) (K net p)
 
@@ -96,6 +96,20 @@ abbrev pub FirstDead : Type 0
 FirstDead = (net : PNet) (t p : ℕ)
     → (firstDead net ≡ some (record { mode = modeNo t; pair = pairNo p }))
     ↔ (Lowest (modes net) (λ u. isDead net (modeNo u) ≡ true) t × Lowest (pairs net) (KillsAt net (modeNo t)) p)
+
+-- "a mode is locally dead exactly when no marking within capacity satisfies the three firing conditions, refusal 14 aside"
+abbrev pub DeadExactly : Type 0
+DeadExactly = (net : PNet) → WellFormed net → (t : Mode)
+    → (isDead net t ≡ true) ↔ ((m : List ℕ) → Marking net m → ¬ Enables (pairs net) (K net) (row net t) (count m))
+
+-- More is true: a dead mode is enabled at no counts of any size; and a mode that is there and not dead is accepted at the marking of its Pre, by 14 too.
+pub record DeadOrAccepted (net : PNet) (t : Mode) : Type 0 where
+  pub dead : isDead net t ≡ true → (M : Counts) → ¬ Enables (pairs net) (K net) (row net t) M
+  pub live : isDead net t ≡ false → t .0 < modes net
+      → Marking net (lowestMarking net t) × ((about : Thing) → modeRefusal about net t (lowestMarking net t) ≡ none)
+
+abbrev pub DeadOrLive : Type 0
+DeadOrLive = (net : PNet) → WellFormed net → (t : Mode) → DeadOrAccepted net t
 
 -- 7. At the complement of a pair of finite K stand K - IK and Pre - Post + K - IK, over the integers: figure 6.4, also where Post is above K.
 pub record Beside (k : ℕ) (e c : Entry) : Type 0 where

@@ -4,6 +4,7 @@ use Rattle.model.proofs.Markings.{mode-rule, marking-after, without-arcs, marki
 use Rattle.model.proofs.Runs.{runs, certificates}
 use Rattle.model.proofs.Figures.{figure-after}
 use Rattle.model.proofs.Dead.{dead-modes, first-dead}
+use Rattle.model.proofs.Possible.{dead-exactly, dead-or-live}
 use Rattle.model.proofs.Figure64.{figure-64}
 use Rattle.model.proofs.ArcByArc.{arc-by-arc}
 use Rattle.model.proofs.WorkedExamples.{worked-examples}
@@ -29,6 +30,7 @@ use Rattle.statement.proofs.Example.{printed}
 use Rattle.promises.proofs.TwoRuns.{two-runs}
 use Rattle.promises.proofs.TwoSteps.{two-steps}
 use Rattle.promises.proofs.FigureOverRun.{figure-over-run}
+use Rattle.promises.proofs.LiveModes.{live-modes}
 use Rattle.promises.proofs.CallTables.{call-tables}
 use Rattle.promises.proofs.Uniqueness.{uniqueness}
 use Rattle.promises.proofs.Frauds.{frauds}
@@ -49,6 +51,8 @@ promises =
       figureAfter = figure-after;
       deadModes = dead-modes;
       firstDead = first-dead;
+      deadExactly = dead-exactly;
+      deadOrLive = dead-or-live;
       figure64 = figure-64;
       arcByArc = arc-by-arc;
       workedExamples = worked-examples;
@@ -80,6 +84,7 @@ promises =
       figureOverRun = figure-over-run;
       saysDead = says-dead;
       namesFirst = names-first;
+      liveModes = live-modes;
       overBytes = over-bytes;
       twoRuns = two-runs;
       twoSteps = two-steps;

@@ -19,6 +19,7 @@ use Rattle.statement.specs.Example.{Printed}
 use Rattle.promises.specs.TwoRuns.{TwoRuns}
 use Rattle.promises.specs.TwoSteps.{TwoSteps}
 use Rattle.promises.specs.FigureOverRun.{FigureOverRun}
+use Rattle.promises.specs.LiveModes.{LiveModes}
 use Rattle.promises.specs.CallTables.{CallTables}
 use Rattle.promises.specs.Uniqueness.{Uniqueness}
 use Rattle.promises.specs.Frauds.{Frauds}
@@ -38,6 +39,8 @@ pub record Promises : Type 0 where
   pub figureAfter : model.FigureAfter
   pub deadModes : model.DeadModes
   pub firstDead : model.FirstDead
+  pub deadExactly : model.DeadExactly
+  pub deadOrLive : model.DeadOrLive
   pub figure64 : model.Figure64
   pub arcByArc : model.ArcByArc
   pub workedExamples : WorkedExamples
@@ -71,6 +74,7 @@ pub record Promises : Type 0 where
   pub figureOverRun : FigureOverRun
   pub saysDead : SaysDead
   pub namesFirst : NamesFirst
+  pub liveModes : LiveModes
   pub overBytes : OverBytes
   pub twoRuns : TwoRuns
   pub twoSteps : TwoSteps

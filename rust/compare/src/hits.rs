@@ -93,7 +93,7 @@ pub struct Hits {
     runs: usize,
     whole: usize,
     longest: usize,
-    /// Values that are no numbers: yes, no, a mode named, none named; what a text is of; by which of a net and its complement a step is accepted.
+    /// Values that are no numbers: yes, no, a mode named, none named; what a search for a marking found; what a text is of; by which of a net and its complement a step is accepted.
     values: BTreeMap<&'static str, usize>,
 }
 
@@ -139,6 +139,8 @@ impl Hits {
             "no",
             "named",
             "none named",
+            "a marking found",
+            "no marking found",
             "text of a whole run",
             "text of a stopped run",
             "text of a bad sheet",

@@ -8,6 +8,7 @@
 
 mod case;
 mod damage;
+mod dead;
 mod demand3;
 #[path = "../../reference/tests/support/generator.rs"]
 mod generator;
@@ -42,11 +43,15 @@ fn main() -> ExitCode {
     let mut numbers = words.iter().map(|word| word.parse().expect("SEED and ROUNDS are numbers"));
     let (seed, rounds) = (numbers.next().unwrap_or(1), numbers.next().unwrap_or(40_000));
     let (mut random, mut same, start) = (Random::new(seed), Same::default(), Instant::now());
+    let mut searches = Random::new(seed + 1);
     for round in 0..rounds {
         same.part = format!("seed {seed}, round {round}");
         any(&mut same, &mut random);
         if round % 16 == 0 {
             complements(&mut same, &mut random);
+        }
+        if round % 32 == 0 {
+            dead::searched(&mut same, &generator::net(&mut searches, Style::Small, 2, 2, 8));
         }
         if round % 400 == 0 {
             at_limits(&mut same, &mut random, round as usize / 400);

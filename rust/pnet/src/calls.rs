@@ -166,7 +166,8 @@ pub fn change(net: &[u8], weights: &[u8], mode: Mode) -> Result<i64, Refusal> {
     })
 }
 
-/// Whether the mode is locally dead: at some pair Pre or Post is above K.
+/// Whether the mode is locally dead: at some pair Pre is above the least of K less Post and I, or Post is above K. Exactly then no marking
+/// enables it.
 pub fn is_dead(net: &[u8], mode: Mode) -> Result<bool, Refusal> {
     // SAFETY: the pointer and the length are a slice's, which is only read.
     unsafe { pnet_is_dead(net.as_ptr(), net.len(), mode) }.result(Sheets::net(net))

@@ -32,4 +32,12 @@ impl Bound {
             Bound::Unbounded => false,
         }
     }
+
+    /// The bound less a number, unbounded where it is unbounded; none where the number is above it.
+    pub fn less(self, number: u32) -> Option<Bound> {
+        match self {
+            Bound::Finite(most) => most.checked_sub(number).map(Bound::Finite),
+            Bound::Unbounded => Some(Bound::Unbounded),
+        }
+    }
 }

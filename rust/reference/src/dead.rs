@@ -1,6 +1,9 @@
-//! "A mode is locally dead when, at some pair, Pre or Post is above K."
+//! "A mode is locally dead when, at some pair, Pre is above the least of K less Post and I, or Post is
+//! above K."
 
 use crate::answer::{Answer, Thing};
+use crate::arc::Flow;
+use crate::bound::Bound;
 use crate::firing::check_mode;
 use crate::kinds::{Mode, Pair};
 use crate::net::Net;
@@ -25,9 +28,17 @@ pub fn first_dead(net: &[u8]) -> Result<Option<(Mode, Pair)>, Answer> {
     Ok(None)
 }
 
-/// The lowest pair at which the mode's Pre or Post is above K.
+/// The lowest pair that makes the mode locally dead.
 fn lowest_dead_pair(net: &Net, mode: Mode) -> Option<Pair> {
     let flows = net.flows(mode);
-    let dead = |&p: &usize| net.capacity[p].is_below(flows[p].pre) || net.capacity[p].is_below(flows[p].post);
-    (0..net.pair_count()).find(dead).map(Pair::at)
+    (0..net.pair_count()).find(|&pair| is_dead_at(net.capacity[pair], flows[pair])).map(Pair::at)
+}
+
+/// Whether no count within K passes at a pair.
+fn is_dead_at(capacity: Bound, flow: Flow) -> bool {
+    match capacity.less(flow.post) {
+        Some(room) => room.least(flow.inhibitor).is_below(flow.pre),
+        // "Or Post is above K."
+        None => true,
+    }
 }

@@ -28,6 +28,7 @@ mod step;
 mod weight_sheet;
 
 pub mod build;
+pub mod search;
 
 pub use answer::{Answer, Refusal, Thing};
 pub use begin::begin;

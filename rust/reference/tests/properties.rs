@@ -172,21 +172,6 @@ fn a_complement_is_its_own_complement() {
 }
 
 #[test]
-fn a_locally_dead_mode_is_never_enabled() {
-    let mut random = Random::new(8);
-    for _ in 0..800 {
-        let (net, style) = small(&mut random);
-        let sheet = net.sheet();
-        let modes = total(&net.modes) as u16;
-        let dead: Vec<u16> = (0..modes).filter(|&mode| is_dead(&sheet, mode) == Ok(true)).collect();
-        let first = first_dead(&sheet).unwrap();
-        assert_eq!(first.map(|(mode, _)| mode.0), dead.first().copied());
-        let counts = marking(&mut random, style, &net);
-        assert!(dead.iter().all(|&mode| test(&sheet, &counts, mode) != ACCEPTED));
-    }
-}
-
-#[test]
 fn refused_calls_write_nothing_whatever_the_bytes() {
     let mut random = Random::new(9);
     for _ in 0..4_000 {

@@ -74,31 +74,6 @@ fn a_weight_change_is_post_less_pre() {
 }
 
 #[test]
-fn locally_dead_is_pre_or_post_above_k() {
-    let arcs = [
-        arc(0, 0, 5, 5, 0),    // Pre above I, Pre + Post above K: not dead
-        arc(1, 2, 9, 9, OPEN), // unbounded K: not dead
-        arc(3, 0, 5, 5, OPEN),
-        arc(3, 1, 0, 6, OPEN), // Post above K
-        arc(4, 0, 6, 0, OPEN), // Pre above K
-    ];
-    let net = PlainNet::plain(5, &[(5, 0), (5, 0), (OPEN, 0)], &arcs).sheet();
-    let dead: Vec<_> = (0..5).map(|mode| is_dead(&net, mode).unwrap()).collect();
-    assert_eq!(dead, [false, false, false, true, true]);
-    assert_eq!(first_dead(&net), Ok(Some((Mode(3), Pair(1)))));
-    assert_eq!(first_dead(&example().sheet()), Ok(None));
-    let zero = PlainNet::plain(1, &[(0, 0)], &[arc(0, 0, 0, 1, OPEN)]).sheet();
-    assert_eq!(first_dead(&zero), Ok(Some((Mode(0), Pair(0)))));
-}
-
-#[test]
-fn the_lowest_pair_of_the_lowest_dead_mode() {
-    let arcs = [arc(1, 1, 6, 0, OPEN), arc(1, 2, 0, 6, OPEN), arc(2, 0, 6, 6, OPEN)];
-    let net = PlainNet::plain(3, &[(5, 0); 3], &arcs).sheet();
-    assert_eq!(first_dead(&net), Ok(Some((Mode(1), Pair(1)))));
-}
-
-#[test]
 fn new_places_follow_the_old_with_their_finite_pairs() {
     let pairs = vec![(5, 1), (OPEN, 2), (7, 3), (OPEN, 4), (0, 0)];
     let arcs = vec![arc(0, 2, 0, 0, 3), arc(0, 4, 0, 0, 0), arc(1, 0, 2, 1, 4), arc(1, 3, 1, 1, OPEN)];

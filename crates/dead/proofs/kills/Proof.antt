@@ -4,12 +4,16 @@ use Rattle.dead.proofs.kills.Statement.{statement}
 use Rattle.dead.proofs.kills.Tie as tie
 
 returns : tie.Need-returns
-returns c = rw (← c .before .before .capacity .ensures, ← c .before .above-bound .ensures, c .if1 .taken)
+returns c =
+    let highest = c .before .before in
+    rw (← highest .before .capacity .ensures, ← highest .highest-pre .ensures, ← c .before .above-bound .ensures, c .if1 .taken)
 
 returns-2 : tie.Need-returns-2
 returns-2 c =
-    rw (← c .before .before .before .capacity .ensures, ← c .before .before .above-bound .ensures, c .before .if1 .left) (c .above-bound2 .ensures)
+    let highest = c .before .before .before in
+    rw (← highest .before .capacity .ensures, ← highest .highest-pre .ensures, ← c .before .before .above-bound .ensures, c .before .if1 .left)
+    (c .above-bound2 .ensures)
 
 pub kills-spec : {M : Type 1} → statement M
 kills-spec =
-    tie.close (tie.spec (λ c κs. search needs) (λ c κs. search needs) returns (λ c κs. search needs) returns-2)
+    tie.close (tie.spec (λ c κs. search needs) (λ c κs. search needs) (λ c κs. search needs) returns (λ c κs. search needs) returns-2)

@@ -1,0 +1,35 @@
+//! Locally dead modes: on small nets a marking that enables a mode is looked for by brute force.
+
+use pnet::Mode;
+use reference::build::PlainNet;
+use reference::search::marking_where;
+
+use crate::generator::total;
+use crate::guarded;
+use crate::same::Same;
+
+/// Counts up to this are tried, more than a small net's Pre.
+const MOST: u32 = 5;
+
+/// Some marking is found exactly for the live modes, and for them the marking of their Pre is one.
+pub fn searched(same: &mut Same, net: &PlainNet) {
+    if net.pairs.len() > 3 {
+        return;
+    }
+    let sheet = net.sheet();
+    for mode in 0..total(&net.modes) as u16 {
+        let accepts = |counts: &[u32]| guarded::test(&sheet, counts, Mode(mode)).is_ok();
+        let found = marking_where(net, MOST, accepts).is_some();
+        let of = format!("{}: mode {mode} of {net:?}", same.part);
+        assert_eq!(guarded::is_dead(&sheet, Mode(mode)), Ok(!found), "{of}");
+        assert_eq!(accepts(&pre(net, mode)), found, "{of}, where the marking is its Pre");
+        same.hits.value(if found { "a marking found" } else { "no marking found" });
+    }
+}
+
+/// A mode's Pre at each pair.
+fn pre(net: &PlainNet, mode: u16) -> Vec<u32> {
+    let mut pre = vec![0; net.pairs.len()];
+    net.arcs.iter().filter(|arc| arc.mode == mode).for_each(|arc| pre[usize::from(arc.pair)] = arc.pre);
+    pre
+}
