@@ -45,7 +45,8 @@ pub fn is_stopped(why: Why, at: AtPair) -> bool
     match why {
         Why::Lacking => at.count < arc.pre,
         Why::OverCapacity => above_bound(with_post(arc, at.count), at.capacity),
-        Why::Inhibited => above_bound(at.count, arc.inhibitor),
+        // no count is above the number that means unbounded
+        Why::Inhibited => arc.inhibitor < at.count,
         Why::OverLimit => 1_000_000 < moved(arc, at.count),
     }
 }
