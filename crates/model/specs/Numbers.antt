@@ -27,6 +27,11 @@ abbrev pub above : ℕ → ℕ∞ → Bool
 above n (fin k) = ltb k n
 above n ∞ = false
 
+-- by how much: the number less the bound
+abbrev pub aboveBy : ℕ → ℕ∞ → ℕ
+aboveBy n (fin k) = n - k
+aboveBy n ∞ = 0
+
 -- the lesser of a bound and a number, and of two bounds
 abbrev pub least : ℕ∞ → ℕ → ℕ
 least (fin k) n = min k n
