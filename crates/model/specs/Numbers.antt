@@ -1,6 +1,7 @@
 -- Numbers with ∞ (source document 000, Appendix A.1 and A.2.6), and the largest number of document 01.
 use Prim.Native.Nat.{ℕ, _-_, _≤_, _<_, min}
 use mathlib.Core.Bool.{Bool, false}
+use mathlib.Core.List.{List, [], _∷_}
 use lib.Dec.{ltb}
 use lib.IntN.{ℤ, pos, _-ℤ_}
 use lib.Signed.{_≤ℤ_}
@@ -40,6 +41,11 @@ least ∞ n = n
 abbrev pub leastOf : ℕ∞ → ℕ∞ → ℕ∞
 leastOf k (fin n) = fin (least k n)
 leastOf k ∞ = k
+
+-- the least of several, unbounded where all are
+unfoldable pub leastOfAll : List ℕ∞ → ℕ∞
+leastOfAll [] = ∞
+leastOfAll (k ∷ ks) = leastOf k (leastOfAll ks)
 
 -- k less n, or 0 where n is above k
 abbrev pub lessThan : ℕ∞ → ℕ → ℕ∞
