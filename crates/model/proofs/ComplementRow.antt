@@ -5,7 +5,7 @@ use mathlib.Core.Bool.{Bool, true, false, cond, _||_}
 use lib.Dec.{leb, ltb}
 use borrow.Author.Tests.{ltb-true, ltb-false, leb-true, lt-ltb, le-ltb}
 use native.Mathlib.Omega.{arith}
-use Rattle.model.specs.Numbers.{ℕ∞, fin, ∞, above, aboveBy}
+use Rattle.model.specs.Numbers.{ℕ∞, fin, ∞, above}
 use Rattle.model.specs.Rows.{Entry, Row, Capacities}
 use Rattle.model.specs.Firing.{after}
 use Rattle.model.specs.Complement.{boundedBelow, complementPair, complemented, reserve, complementPre, original, complementEntry, complementRow}
@@ -39,7 +39,7 @@ lacks-crowded k m m′ e s = go (ltb k (m + e .post)) refl
 pub lacks-by : (k m m′ : ℕ) (e : Entry) → m + m′ ≡ k → complementPre k e - m′ ≡ crowdedBy e (fin k) m
 lacks-by k m m′ e s = go (e .inhibitor)
   where
-    go : (i : ℕ∞) → max (e .post) (reserve k i) - m′ ≡ max (m + e .post - k) (aboveBy m i)
+    go : (i : ℕ∞) → max (e .post) (reserve k i) - m′ ≡ crowdedBy (record { pre = e .pre; post = e .post; inhibitor = i }) (fin k) m
     go (fin i) = rw reserve-is (omega arith)
     go ∞ = omega arith
 
