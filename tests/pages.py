@@ -97,7 +97,7 @@ def check_bytes(page):
 
 def check_complete(page):
     text = (top / page).read_text()
-    numbers = set(map(int, re.findall(r"= says (\d+) ", (top / "crates/model/specs/Refusals.antt").read_text())))
+    numbers = set(map(int, re.findall(r"= says(?:By)? (\d+) ", (top / "crates/model/specs/Refusals.antt").read_text())))
     rows = set(map(int, re.findall(r"^\| (\d+) \| .* \| .* \| .* \|$", text.split("## Refusals")[1].split("### What to do")[0], re.M)))
     advice = set(map(int, re.findall(r"^- \*\*(\d+), ", text, re.M)))
     if rows - {0} != numbers or advice != numbers:
