@@ -9,12 +9,12 @@ use Rattle.sections.proofs.arcs.put_mode.Tie as tie
 put-half-arcs-requires : tie.Need-put-half-arcs-requires
 put-half-arcs-requires c κs =
     let pre = c .before .before .before .before .pre in
-    (pre .0, (pre .1 .0, (pre .1 .1 .0, room-first _ _ (room-as (mode-part (pre .0) _ _ _ (pre .1 .1 .0)) (pre .1 .1 .1)))))
+    (pre .0, (pre .1 .0, (pre .1 .1 .0, (pre .1 .1 .1 .0, room-first _ _ (room-as (mode-part (pre .0) _ _ _ (pre .1 .1 .0)) (pre .1 .1 .1 .1))))))
 
 put-half-arcs-requires-2 : tie.Need-put-half-arcs-requires-2
 put-half-arcs-requires-2 c κs =
     let pre = c .before .before .before .before .before .before .before .before .pre in
-    (pre .0, (pre .1 .0, (pre .1 .1 .0, room-next _ _ (room-as (mode-part (pre .0) _ _ _ (pre .1 .1 .0)) (pre .1 .1 .1)) (c .before .before .before .put-half-arcs .ensures))))
+    (pre .0, (pre .1 .0, (pre .1 .1 .0, (pre .1 .1 .1 .0, room-next _ _ (room-as (mode-part (pre .0) _ _ _ (pre .1 .1 .0)) (pre .1 .1 .1 .1)) (c .before .before .before .put-half-arcs .ensures)))))
 
 returns : tie.Need-returns
 returns c =
