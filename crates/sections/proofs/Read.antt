@@ -9,7 +9,7 @@ use Rattle.model.specs.declared.Pair.{Pair}
 use Rattle.model.specs.declared.Arc.{Arc}
 use Rattle.model.specs.Nets.{NetArc, PNet, pairs, pairNo, modeNo, K, arcNo}
 use Rattle.model.specs.Dead.{isDead}
-use Rattle.model.specs.Complement.{finite, complementPair}
+use Rattle.model.specs.Complement.{finite, complementPair, inhibitsUnbounded}
 use Rattle.opened.specs.declared.shape.NetShape.{NetShape}
 use Rattle.fields.specs.Numbers.{bound}
 use Rattle.sheets.specs.Decoded.{netOf, netArc}
@@ -30,22 +30,24 @@ module _ {s : List ℕ} {net : NetShape} {k : ℕ} {a : Arc} (read : ArcIs s net
       record { pre = read .pre; post = read .post; capacity = rw e (sizes o .wellFormed .capacityInRange (a .pair .0) (rw (← sizes o .pairs) (read .pair))) }
 
   -- what 15 tests at it
+  pub inhibits-is : {i u : Bool} → finite (bound (a .inhibitor)) ≡ i → not (finite (K (netOf s) (a .pair .0))) ≡ u
+      → inhibitsUnbounded (netOf s) (arcNo (netOf s .arcs) k) ≡ (i && u)
+  inhibits-is e f = rw (← read .is, e, f)
+
   pub clear-finite : {f : Bool} (c : ℕ) → f ≡ finite (bound c) → f ≡ true → bound c ≡ K (netOf s) (a .pair .0) → true ≡ clearAt (netOf s) k
   unfolding clearAt
-  clear-finite c q h e =
-      rw (← read .is, ← e, ← q, h) (go (finite (bound (a .inhibitor))))
+  clear-finite c q h e = sym (ap not (inhibits-is refl (ap not (ap finite (sym e) ∙ sym q ∙ h))) ∙ go (finite (bound (a .inhibitor))))
     where
-      go : (b : Bool) → true ≡ not (b && false)
+      go : (b : Bool) → not (b && false) ≡ true
       go true = refl
       go false = refl
 
   pub clear-unbounded : {f i : Bool} (c : ℕ) → f ≡ finite (bound c) → f ≡ false → bound c ≡ K (netOf s) (a .pair .0) → i ≡ finite (bound (a .inhibitor))
       → not i ≡ clearAt (netOf s) k
   unfolding clearAt
-  clear-unbounded {i = i} c q h e g =
-      rw (← read .is, ← e, ← q, h, ← g) (go i)
+  clear-unbounded {i = i} c q h e g = sym (ap not (inhibits-is (sym g) (ap not (ap finite (sym e) ∙ sym q ∙ h)) ∙ go i))
     where
-      go : (b : Bool) → not b ≡ not (b && true)
+      go : (b : Bool) → b && true ≡ b
       go true = refl
       go false = refl
 
