@@ -221,7 +221,8 @@ struct pnet_decided pnet_is_dead(const uint8_t *net, size_t net_length, struct p
 struct pnet_named pnet_first_dead(const uint8_t *net, size_t net_length);
 
 /* Writes the sheet of the net's complement from the first byte of `out` on; the value is its length. No byte after it is touched,
- * and PNET_LARGEST_NET bytes are always room enough.
+ * and PNET_LARGEST_NET bytes are always room enough. A locally dead mode, which is enabled at no marking of either net, gives back at
+ * every complement pair what it takes there.
  * Refuses: the net; 15 at its first arc, of a locally dead mode too; 10 where the complement exceeds a sheet's limits or `room`. A
  * refused call writes nothing. */
 struct pnet_counted pnet_complement(const uint8_t *net, size_t net_length, uint8_t *out, size_t room);
