@@ -8,7 +8,6 @@ use lib.Dec.{leb, ltb, eqb}
 use lib.ListN.{length, getD, replicate}
 use Rattle.model.specs.declared.Mode.{Mode}
 use Rattle.model.specs.declared.Thing.the-variants.{Net}
-use Rattle.model.specs.declared.Fault.{Fault}
 use Rattle.model.specs.declared.Fault.the-variants.{InhibitedUnbounded, NoRoom}
 use Rattle.model.specs.declared.Refusal.{Refusal}
 use Rattle.model.specs.Refusals.{wrong}
@@ -102,16 +101,15 @@ complement net =
       arcs = arcsOf (modes net) (allPairs net) (λ t. complementRow (isDead net t) (pairs net) (K net) (row net t));
     }
 
--- Refusals of complementing: "net, 15, 16, 10, each at its first arc in order"; 16 "no longer occurs". `offset k` is where the k-th arc stands in the sheet.
-abbrev pub firstArc : PNet → (NetArc → Bool) → (ℕ → Fault) → Option Refusal
-firstArc net test fault = lowest (length (net .arcs)) (λ k. test (arcNo (net .arcs) k)) (λ k. wrong Net (fault k))
-
+-- Refusals of complementing: "net, 15, 16, 10, each at its first arc in order"; 16 "no longer occurs".
 -- "finite I at a pair of unbounded K"
 abbrev pub inhibitsUnbounded : PNet → NetArc → Bool
 inhibitsUnbounded net a = finite (a .entry .inhibitor) && not (finite (K net (a .pair .0)))
 
+-- `offset k` is where the k-th arc stands in the sheet
 unfoldable pub refusal15 : (ℕ → ℕ) → PNet → Option Refusal
-refusal15 offset net = firstArc net (inhibitsUnbounded net) (λ k. InhibitedUnbounded (offset k))
+refusal15 offset net =
+    lowest (length (net .arcs)) (λ k. inhibitsUnbounded net (arcNo (net .arcs) k)) (λ k. wrong Net (InhibitedUnbounded (offset k)))
 
 -- "complement exceeds the sheet's limits": what is written is counted
 unfoldable pub sheetLimits : PNet → Bool
