@@ -53,7 +53,7 @@ struct pnet_mode {
 
 /* What pnet_answer's thing says was at fault. */
 enum {
-    PNET_NET = 0, /* also where a call is accepted, and for 10, 15, 16 and any number above 18 */
+    PNET_NET = 0, /* also where a call is accepted, and for 10, 15 and any number above 18 */
     PNET_WEIGHTS = 1,
     PNET_MOVEMENTS = 2, /* also a movement that a run or a certificate refuses */
     PNET_ARGUMENT = 3   /* a marking, a claim, a mode or a step */
@@ -93,7 +93,7 @@ enum {
  *   13  the count is above I                                                      the lowest such pair
  *   14  the new count is above 1,000,000                                          the lowest such pair
  *   15  I is bounded at a pair of unbounded K                                     the arc
- *   16  a number of the complement is above 1,000,000                             the arc
+ *   16  reserved: no answer has it
  *   17  a marking or weights are not one for each pair                            0; in weights, 5
  *   18  a certificate ends at another marking than is claimed                     the lowest pair that differs
  *
@@ -216,13 +216,15 @@ struct pnet_weighed pnet_change(const uint8_t *net, size_t net_length, const uin
  * Refuses: the net; 6 for the mode (PNET_ARGUMENT). */
 struct pnet_decided pnet_is_dead(const uint8_t *net, size_t net_length, struct pnet_mode mode);
 
-/* The lowest locally dead mode, with the lowest pair that makes it so, if there is one. Writes nothing. Refuses: the net. */
+/* The lowest locally dead mode, with the lowest pair that makes it so, if there is one; a complement has none. Writes nothing.
+ * Refuses: the net. */
 struct pnet_named pnet_first_dead(const uint8_t *net, size_t net_length);
 
 /* Writes the sheet of the net's complement from the first byte of `out` on; the value is its length. No byte after it is touched,
- * and PNET_LARGEST_NET bytes are always room enough.
- * Refuses: the net; 15, then 16, each at its first arc; 10 where the complement exceeds a sheet's limits or `room`. A refused call
- * writes nothing. */
+ * and PNET_LARGEST_NET bytes are always room enough. A locally dead mode, which is enabled at no marking of either net, gives back at
+ * every complement pair what it takes there.
+ * Refuses: the net; 15 at its first arc, of a locally dead mode too; 10 where the complement exceeds a sheet's limits or `room`. A
+ * refused call writes nothing. */
 struct pnet_counted pnet_complement(const uint8_t *net, size_t net_length, uint8_t *out, size_t room);
 
 /* Writes the text that `replay` prints for an input (a net sheet, a weight sheet, a movement sheet, then nothing) from the first byte of

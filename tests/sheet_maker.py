@@ -140,9 +140,9 @@ with tempfile.TemporaryDirectory() as scratch:
     for example in ("document", "refit"):
         folder = pathlib.Path(scratch) / example
         subprocess.run([sys.executable, "-B", top / "examples" / example / "make.py", folder], check=True)
-        for name in ("net.sheet", "weights.sheet", "movements.sheet"):
-            if (folder / name).read_bytes() != (top / "examples" / example / name).read_bytes():
-                faults.append(f"examples/{example}/make.py does not write examples/{example}/{name}")
+        stored = {path.name: path.read_bytes() for path in (top / "examples" / example).glob("*.sheet")}
+        if len(stored) < 3 or stored != {path.name: path.read_bytes() for path in folder.glob("*.sheet")}:
+            faults.append(f"examples/{example}/make.py does not write the sheets of examples/{example}")
 
 for fault in faults:
     print(fault, file=sys.stderr)

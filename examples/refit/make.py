@@ -1,4 +1,5 @@
-"""A refit: pumps, cable drums and lead pigs between the store, two zones aboard and the quay, and a weight allowance.
+"""A refit: pumps, cable drums and lead pigs between the store, two zones aboard and the quay, and a weight allowance. `retired.sheet` is the same net with one
+movement more, which the yard has retired.
 
     python3 examples/refit/make.py [FOLDER]      # this folder, where none is named"""
 import pathlib, sys
@@ -33,9 +34,16 @@ ABOARD = [1200, 850, 25]  # a pump, a drum, a pig
 WEIGHTS = [0, 0, 0] + ABOARD + ABOARD + [0, 0, 0] + [-500]
 MOVEMENTS = [9, 3, 7, 7, 1, 13, 11, 11, 15, 3, 0]
 
+# The planning tool never takes a movement out: it asks for 1,000,000 of what stands there, so that nobody can enter it.
+with_retired = Named(*modes.groups, ("by the old crane", ["pump"]))
+old_crane = with_retired["by the old crane", "pump"]
+retired = [(old_crane, pairs["store", "pump"], 1, 0, UNBOUNDED), (old_crane, pairs["machinery", "pump"], 1000000, 1, 1)]
+
+folder = pathlib.Path(sys.argv[1] if len(sys.argv) > 1 else here)
 write(
-    sys.argv[1] if len(sys.argv) > 1 else here,
+    folder,
     net(pairs, modes, CAPACITIES_AND_FIRST, arcs),
     weights(WEIGHTS, pairs),
     movements(MOVEMENTS, modes),
 )
+(folder / "retired.sheet").write_bytes(net(pairs, with_retired, CAPACITIES_AND_FIRST, arcs + retired))

@@ -9,37 +9,34 @@ use lib.ListN.{length}
 use borrow.Author.Tests.{ltb-false, not-true}
 use native.Mathlib.Omega.{arith}
 use Rattle.model.specs.declared.Thing.the-variants.{Net}
-use Rattle.model.specs.declared.Fault.the-variants.{NoRoom, InhibitedUnbounded, ComplementAbove}
+use Rattle.model.specs.declared.Fault.the-variants.{NoRoom, InhibitedUnbounded}
 use Rattle.model.specs.declared.Refusal.{Refusal}
 use Rattle.model.specs.declared.Answer.{Answer}
 use Rattle.model.specs.declared.Answer.the-variants.{Accepted, Refused as Refused′}
-use Rattle.model.specs.Nets.{K, arcNo}
+use Rattle.model.specs.Nets.{arcNo}
 use Rattle.model.specs.First.{_▸_, first, onlyIf}
 use Rattle.model.specs.Refusals.{answer, wrong}
-use Rattle.model.specs.Complement.{complementEntry, inhibitsUnbounded, tooLarge, refusal15, refusal16, sheetLimits, complementRefusal}
+use Rattle.model.specs.Complement.{inhibitsUnbounded, refusal15, sheetLimits, complementRefusal}
 use Rattle.model.proofs.First.{then-assoc, none-then, right-none, first-all, first-split, only-if-none}
 use Rattle.model.proofs.Refusals.{answer-none, answer-stops}
 use Rattle.opened.specs.declared.shape.NetShape.{NetShape}
 use Rattle.sheets.specs.Decoded.{netOf}
 use Rattle.opened.specs.Shape.{Open, arcOffset}
 use Rattle.sections.specs.Arcs.{clearAt, every}
-use Rattle.sections.proofs.Every.{and-left, and-right, every-each}
+use Rattle.sections.proofs.Every.{every-each}
 use Rattle.written.proofs.Puts.{from-start}
 use Rattle.complement.specs.declared.Complemented.the-variants.{Length, Refused}
 use Rattle.complement.specs.declared.sheet.Sizes.{Sizes}
-use Rattle.complement.specs.declared.refusals.Obstacle.{Obstacle}
-use Rattle.complement.specs.declared.refusals.Obstacle.the-variants.{Inhibitor, Number}
-use Rattle.complement.specs.ArcRefusals.{obstacleAt, firstObstacle}
+use Rattle.complement.specs.ArcRefusals.{inhibitedAt}
 use Rattle.complement.specs.Complemented.{complementSheet, tooShort, roomRefusal, complemented, output}
 use Rattle.halves.specs.Puts.{Puts}
 use Rattle.complement.specs.Sizes.{SizesAre, inLimits, sizesRefusal, firstOf}
 use Rattle.complement.proofs.SheetParts.{size-is}
 
--- 15 and 16 are each the first of its arcs
-pub each-obstacle : (s : List ℕ) (obstacle : Obstacle) → first (length (netOf s .arcs)) (obstacleAt s obstacle) ≡ firstObstacle s obstacle
-unfolding refusal15 refusal16
-each-obstacle s Inhibitor = refl
-each-obstacle s Number = refl
+-- 15 is the first of its arcs
+pub each-arc : (s : List ℕ) → first (length (netOf s .arcs)) (inhibitedAt s) ≡ refusal15 (arcOffset s) (netOf s)
+unfolding refusal15
+each-arc s = refl
 
 -- where an arc of a mode's segment is refused, and where none is
 module _ (f : ℕ → Option Refusal) (start count : ℕ) (none-before : first start f ≡ none) where
@@ -53,17 +50,14 @@ module _ (f : ℕ → Option Refusal) (start count : ℕ) (none-before : first s
   goes-on e q = first-split start count f ∙ none-then none-before (answer-none _ e q)
 
 -- what the survey finds clear
-clear-here : (s : List ℕ) (obstacle : Obstacle) (k : ℕ) → clearAt (netOf s) k ≡ true → obstacleAt s obstacle k ≡ none
+pub clear-none : (s : List ℕ) → every (length (netOf s .arcs)) (clearAt (netOf s)) ≡ true → refusal15 (arcOffset s) (netOf s) ≡ none
 unfolding clearAt
-clear-here s Inhibitor k e =
-    ap (λ b. onlyIf b (wrong Net (InhibitedUnbounded (arcOffset s k)))) (not-true (inhibitsUnbounded (netOf s) (arcNo (netOf s .arcs) k)) (and-left _ _ e))
-clear-here s Number k e =
-    let a = arcNo (netOf s .arcs) k in
-    ap (λ b. onlyIf b (wrong Net (ComplementAbove (arcOffset s k)))) (not-true (tooLarge (complementEntry (K (netOf s) (a .pair .0)) (a .entry))) (and-right (not (inhibitsUnbounded (netOf s) a)) _ e))
-
-pub clear-none : (s : List ℕ) (obstacle : Obstacle) → every (length (netOf s .arcs)) (clearAt (netOf s)) ≡ true → firstObstacle s obstacle ≡ none
-clear-none s obstacle e =
-    sym (each-obstacle s obstacle) ∙ first-all (length (netOf s .arcs)) (obstacleAt s obstacle) (λ k h. clear-here s obstacle k (every-each (clearAt (netOf s)) _ e k h))
+clear-none s e =
+    sym (each-arc s)
+    ∙ first-all (length (netOf s .arcs)) (inhibitedAt s)
+    (λ k h.
+    ap (λ b. onlyIf b (wrong Net (InhibitedUnbounded (arcOffset s k))))
+    (not-true (inhibitsUnbounded (netOf s) (arcNo (netOf s .arcs) k)) (every-each (clearAt (netOf s)) _ e k h)))
 
 first-of : (o p : Option Refusal) → firstOf (answer o) (answer p) ≡ answer (o ▸ p)
 unfolding _▸_
@@ -80,15 +74,13 @@ module _ {s : List ℕ} {net : NetShape} (o : Open s net) {of : Sizes} (are : Si
   sizes-refusal =
       ap₂ (λ limits size. onlyIf (not limits) (wrong Net NoRoom) ▸ onlyIf (ltb room size) (wrong Net NoRoom)) (limits-are s of are) (size-is o are refl)
 
-  -- "15, 16, 10"
-  pub in-order : {inhibitors numbers fits later all : Answer} → inhibitors ≡ answer (refusal15 (arcOffset s) (netOf s)) → numbers ≡ answer (refusal16 (arcOffset s) (netOf s))
-      → fits ≡ answer (sizesRefusal of (net .transitions) room) → later ≡ firstOf numbers fits → all ≡ firstOf inhibitors later
-      → all ≡ answer (roomRefusal s room)
+  -- 15, then 10
+  pub in-order : {inhibitors fits all : Answer} → inhibitors ≡ answer (refusal15 (arcOffset s) (netOf s))
+      → fits ≡ answer (sizesRefusal of (net .transitions) room) → all ≡ firstOf inhibitors fits → all ≡ answer (roomRefusal s room)
   unfolding roomRefusal complementRefusal
-  in-order e f g h i =
-      let together : refusal15 (arcOffset s) (netOf s) ▸ refusal16 (arcOffset s) (netOf s) ▸ sizesRefusal of (net .transitions) room ≡ roomRefusal s room =
-      rw (then-assoc, then-assoc, sizes-refusal) in
-      i ∙ ap₂ firstOf e (h ∙ ap₂ firstOf f g ∙ first-of _ _) ∙ first-of _ _ ∙ ap answer together
+  in-order e f g =
+      let together : refusal15 (arcOffset s) (netOf s) ▸ sizesRefusal of (net .transitions) room ≡ roomRefusal s room = rw (then-assoc, sizes-refusal) in
+      g ∙ ap₂ firstOf e f ∙ first-of _ _ ∙ ap answer together
 
 pub room-enough : (s : List ℕ) (room : ℕ) → roomRefusal s room ≡ none → length (complementSheet s) ≤ room
 unfolding roomRefusal

@@ -1,5 +1,5 @@
 -- The complementing call: what it answers, and what it leaves in the output slice.
--- "Complementing: net, 15, 16, 10, each at its first arc in order."
+-- "Complementing: net, 15, 16, 10, each at its first arc in order."; 16 "no longer occurs".
 use Prim.Native.Nat.{ℕ}
 use mathlib.Core.List.{List, _++_}
 use mathlib.Core.Option.{Option, none, some}

@@ -1,6 +1,4 @@
-// Refusals 15 and 16: "each at its first arc in order", with the arc's offset in the sheet that was given.
-use halves::entry::complement_arc;
-use halves::entry::too_large;
+// Refusal 15, "finite I at a pair of unbounded K": at its first arc in order, with the arc's offset in the sheet that was given.
 use heads::head::refused;
 use model::Answer;
 use model::Fault;
@@ -17,22 +15,16 @@ ghost use mathlib.Core.Path.{_≡_};
 ghost use Prim.Native.Nat.{_+_};
 ghost use Rattle.model.specs.First.{first};
 ghost use Rattle.model.specs.Refusals.{answer};
+ghost use Rattle.model.specs.Complement.{refusal15};
 ghost use Rattle.sheets.specs.Decoded.{netOf};
-ghost use Rattle.opened.specs.Shape.{Open};
+ghost use Rattle.opened.specs.Shape.{Open, arcOffset};
 ghost use Rattle.opened.specs.Starts.{StartsAre, ModeArcs, OwnArc};
-ghost use Rattle.complement.specs.declared.refusals.Obstacle.the-variants.{Inhibitor, Number};
-ghost use Rattle.complement.specs.ArcRefusals.{obstacleAt, firstObstacle};
+ghost use Rattle.complement.specs.ArcRefusals.{inhibitedAt};
 
-// What an arc of the net may have that no complement can say: 15 "finite I at a pair of unbounded K", 16 "a complement number above 1,000,000".
-pub(crate) enum Obstacle {
-    Inhibitor,
-    Number,
-}
-
-fn inhibitor_answer(s: &[u8], net: NetShape, arcs: Segment, i: usize) -> Answer
+fn arc_answer(s: &[u8], net: NetShape, arcs: Segment, i: usize) -> Answer
     requires { ⌜ Open (now s) net ⌝ }
     requires { ⌜ OwnArc (netOf (now s) .arcs) arcs i ⌝ }
-    ensures { λ r. ⌜ r ≡ answer (obstacleAt (now (s .entry)) Inhibitor (arcs .start + i)) ⌝ }
+    ensures { λ r. ⌜ r ≡ answer (inhibitedAt (now (s .entry)) (arcs .start + i)) ⌝ }
 {
     let a = arc(s, net, arcs, i);
     if !is_finite(a.inhibitor) {
@@ -48,42 +40,15 @@ fn inhibitor_answer(s: &[u8], net: NetShape, arcs: Segment, i: usize) -> Answer
     Answer::Accepted
 }
 
-fn number_answer(s: &[u8], net: NetShape, arcs: Segment, i: usize) -> Answer
-    requires { ⌜ Open (now s) net ⌝ }
-    requires { ⌜ OwnArc (netOf (now s) .arcs) arcs i ⌝ }
-    ensures { λ r. ⌜ r ≡ answer (obstacleAt (now (s .entry)) Number (arcs .start + i)) ⌝ }
-{
-    let a = arc(s, net, arcs, i);
-    let pair = a.pair;
-    if too_large(complement_arc(a, capacity(s, net, pair), pair)) {
-        return refused(
-            Thing::Net,
-            Fault::ComplementAbove(arc_offset(s, net, arcs, i)),
-        );
-    }
-    Answer::Accepted
-}
-
-fn arc_answer(s: &[u8], net: NetShape, obstacle: Obstacle, arcs: Segment, i: usize) -> Answer
-    requires { ⌜ Open (now s) net ⌝ }
-    requires { ⌜ OwnArc (netOf (now s) .arcs) arcs i ⌝ }
-    ensures { λ r. ⌜ r ≡ answer (obstacleAt (now (s .entry)) obstacle (arcs .start + i)) ⌝ }
-{
-    match obstacle {
-        Obstacle::Inhibitor => inhibitor_answer(s, net, arcs, i),
-        Obstacle::Number => number_answer(s, net, arcs, i),
-    }
-}
-
-fn mode_answer(s: &[u8], net: NetShape, obstacle: Obstacle, arcs: Segment) -> Answer
+fn mode_answer(s: &[u8], net: NetShape, arcs: Segment) -> Answer
     requires { ⌜ Open (now s) net ⌝ }
     requires { ⌜ ModeArcs (netOf (now s) .arcs) (arcs .mode) (arcs .start) (arcs .count) ⌝ }
-    ensures { λ r. ⌜ r ≡ answer (first (arcs .count) (λ i. obstacleAt (now (s .entry)) obstacle (arcs .start + i))) ⌝ }
+    ensures { λ r. ⌜ r ≡ answer (first (arcs .count) (λ i. inhibitedAt (now (s .entry)) (arcs .start + i))) ⌝ }
 {
     let count = arcs.count;
     let mut i = 0;
     while i < count {
-        let answer = arc_answer(s, net, obstacle, arcs, i);
+        let answer = arc_answer(s, net, arcs, i);
         if let Answer::Refused(_) = answer {
             return answer;
         }
@@ -92,21 +57,16 @@ fn mode_answer(s: &[u8], net: NetShape, obstacle: Obstacle, arcs: Segment) -> An
     Answer::Accepted
 }
 
-pub(crate) fn arcs_answer(
-    s: &[u8],
-    net: NetShape,
-    starts: &[u16; 257],
-    obstacle: Obstacle,
-) -> Answer
+pub(crate) fn arcs_answer(s: &[u8], net: NetShape, starts: &[u16; 257]) -> Answer
     requires { ⌜ Open (now s) net ⌝ }
     requires { ⌜ StartsAre (netOf (now s) .arcs) (now starts) ⌝ }
-    ensures { λ r. ⌜ r ≡ answer (firstObstacle (now (s .entry)) obstacle) ⌝ }
+    ensures { λ r. ⌜ r ≡ answer (refusal15 (arcOffset (now (s .entry))) (netOf (now (s .entry)))) ⌝ }
 {
     let modes = net.modes;
     let mut t = 0;
     while t < modes {
         let arcs = arcs_of(s, net, starts, Mode(t as u16));
-        let answer = mode_answer(s, net, obstacle, arcs);
+        let answer = mode_answer(s, net, arcs);
         if let Answer::Refused(_) = answer {
             return answer;
         }

@@ -1,5 +1,4 @@
-// Refusal 10, and the order of the three: "Complementing: net, 15, 16, 10".
-use crate::refusals::Obstacle;
+// Refusal 10, after 15.
 use crate::refusals::arcs_answer;
 use crate::sheet::Sizes;
 use heads::head::refused;
@@ -85,7 +84,5 @@ pub(crate) fn complement_answer(
     if clear {
         return sizes_fit;
     }
-    let inhibitors = arcs_answer(s, net, starts, Obstacle::Inhibitor);
-    let numbers = arcs_answer(s, net, starts, Obstacle::Number);
-    then(inhibitors, then(numbers, sizes_fit))
+    then(arcs_answer(s, net, starts), sizes_fit)
 }

@@ -17,6 +17,7 @@ ghost use Rattle.sheets.specs.Decoded.{netOf};
 ghost use Rattle.opened.specs.Shape.{Open};
 ghost use Rattle.opened.specs.Starts.{StartsAre};
 ghost use Rattle.written.specs.Written.{sheetOf};
+ghost use Rattle.dead.specs.DeadModes.{DeadAre};
 ghost use Rattle.halves.specs.Bounded.{BelowAre};
 ghost use Rattle.complement.specs.Sizes.{SizesAre, Few, countsBytes, recordsBytes, arcsBytes};
 ghost use Rattle.halves.specs.Puts.{Room, Puts};
@@ -71,6 +72,7 @@ fn put_counted_arcs(
     net: NetShape,
     starts: &[u16; 257],
     below: &[u16; 257],
+    dead: &[bool; 256],
     arcs: usize,
     out: &mut [u8],
     at: usize,
@@ -78,12 +80,13 @@ fn put_counted_arcs(
     requires { ⌜ Open (now s) net ⌝ }
     requires { ⌜ StartsAre (netOf (now s) .arcs) (now starts) ⌝ }
     requires { ⌜ BelowAre (netOf (now s)) (now below) ⌝ }
+    requires { ⌜ DeadAre (netOf (now s)) (now dead) ⌝ }
     requires { ⌜ (arcs ≡ length (complement (netOf (now s)) .arcs)) × (arcs ≤ 4096) ⌝ }
     requires { ⌜ Room (now out) at (arcsBytes (complement (netOf (now s)))) ⌝ }
     ensures { λ r. ⌜ Puts (now (out .entry)) at (arcsBytes (complement (netOf (now (s .entry))))) (now (out .exit)) r ⌝ }
 {
     let at_arcs = put_count(out, at, arcs);
-    put_arcs(s, net, starts, below, out, at_arcs)
+    put_arcs(s, net, starts, below, dead, out, at_arcs)
 }
 
 pub(crate) fn put_sheet(
@@ -91,17 +94,19 @@ pub(crate) fn put_sheet(
     net: NetShape,
     starts: &[u16; 257],
     below: &[u16; 257],
+    dead: &[bool; 256],
     sizes: Sizes,
     out: &mut [u8],
 ) -> usize
     requires { ⌜ Open (now s) net ⌝ }
     requires { ⌜ StartsAre (netOf (now s) .arcs) (now starts) ⌝ }
     requires { ⌜ BelowAre (netOf (now s)) (now below) ⌝ }
+    requires { ⌜ DeadAre (netOf (now s)) (now dead) ⌝ }
     requires { ⌜ SizesAre (netOf (now s)) sizes × Few sizes ⌝ }
     requires { ⌜ Room (now out) 0 (sheetOf (complement (netOf (now s)))) ⌝ }
     ensures { λ r. ⌜ Puts (now (out .entry)) 0 (sheetOf (complement (netOf (now (s .entry))))) (now (out .exit)) r ⌝ }
 {
     let at_records = put_counts(s, net, sizes, out);
     let at_arcs = put_records(s, net, below, out, at_records);
-    put_counted_arcs(s, net, starts, below, sizes.arcs, out, at_arcs)
+    put_counted_arcs(s, net, starts, below, dead, sizes.arcs, out, at_arcs)
 }

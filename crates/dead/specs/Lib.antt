@@ -1,4 +1,5 @@
 pub mod IsDead
 pub mod FirstDead
+pub mod DeadModes
 pub mod Promises
 pub mod Contracts

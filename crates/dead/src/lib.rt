@@ -27,7 +27,8 @@ ghost use Rattle.model.specs.Dead.{kills as killsHere, isDead, firstDead};
 ghost use Rattle.fields.specs.Numbers.{bound};
 ghost use Rattle.sheets.specs.Decoded.{netOf, netArc};
 ghost use Rattle.opened.specs.Shape.{Open};
-ghost use Rattle.opened.specs.Starts.{StartsAre, SegmentOf};
+ghost use Rattle.opened.specs.Starts.{StartsAre, ModeArcs, SegmentOf};
+ghost use Rattle.dead.specs.DeadModes.{DeadAre};
 ghost use Rattle.dead.specs.IsDead.{deadness};
 ghost use Rattle.dead.specs.FirstDead.{named};
 ghost use Rattle.dead.specs.Contracts.{IsDeadAllows, FirstDeadAllows};
@@ -80,13 +81,12 @@ fn kills(s: &[u8], net: NetShape, arc: Arc) -> bool
     above_bound(arc.post, most)
 }
 
-// Dead at a mode: looked for at the mode's own arcs, since nothing is above a bound where there is none.
-pub fn dead_at(s: &[u8], net: NetShape, mode: Mode) -> bool
+// Dead by the arcs of a mode: looked for there alone, since nothing is above a bound where there is none.
+fn dead_by(s: &[u8], net: NetShape, arcs: Segment) -> bool
     requires { ⌜ Open (now s) net ⌝ }
-    requires { ⌜ mode .0 < net .modes ⌝ }
-    ensures { λ r. ⌜ r ≡ isDead (netOf (now (s .entry))) mode ⌝ }
+    requires { ⌜ ModeArcs (netOf (now s) .arcs) (arcs .mode) (arcs .start) (arcs .count) ⌝ }
+    ensures { λ r. ⌜ r ≡ isDead (netOf (now (s .entry))) (arcs .mode) ⌝ }
 {
-    let arcs = find_arcs(s, net, mode);
     let count = arcs.count;
     let mut i = 0;
     while i < count {
@@ -98,6 +98,14 @@ pub fn dead_at(s: &[u8], net: NetShape, mode: Mode) -> bool
     false
 }
 
+fn dead_at(s: &[u8], net: NetShape, mode: Mode) -> bool
+    requires { ⌜ Open (now s) net ⌝ }
+    requires { ⌜ mode .0 < net .modes ⌝ }
+    ensures { λ r. ⌜ r ≡ isDead (netOf (now (s .entry))) mode ⌝ }
+{
+    dead_by(s, net, find_arcs(s, net, mode))
+}
+
 // The arcs of the t-th mode.
 fn arcs_at(s: &[u8], net: NetShape, table: &[u16; 257], t: usize) -> Segment
     requires { ⌜ Open (now s) net ⌝ }
@@ -106,6 +114,22 @@ fn arcs_at(s: &[u8], net: NetShape, table: &[u16; 257], t: usize) -> Segment
     ensures { λ r. ⌜ SegmentOf (netOf (now (s .entry)) .arcs) (modeNo t) r ⌝ }
 {
     arcs_of(s, net, table, Mode(t as u16))
+}
+
+// The table: entry t says whether mode t is dead. Each arc is visited at most once.
+pub fn dead_modes(s: &[u8], net: NetShape, starts: &[u16; 257]) -> [bool; 256]
+    requires { ⌜ Open (now s) net ⌝ }
+    requires { ⌜ StartsAre (netOf (now s) .arcs) (now starts) ⌝ }
+    ensures { λ r. ⌜ DeadAre (netOf (now (s .entry))) r ⌝ }
+{
+    let mut table = [false; 256];
+    let modes = net.modes;
+    let mut t = 0;
+    while t < modes {
+        table[t] = dead_by(s, net, arcs_at(s, net, starts, t));
+        t += 1;
+    }
+    table
 }
 
 // The searches over modes and over their arcs both stop at the first fault; each arc is visited at most once.

@@ -2,10 +2,10 @@
 use Prim.Native.Nat.{ℕ, _-_, _≤_, _<_}
 use mathlib.Core.Path.{_≡_, refl}
 use mathlib.Core.Bool.{Bool, true, false, cond}
-use lib.Dec.{leb, eqb}
+use lib.Dec.{eqb}
 use native.Mathlib.Omega.{arith}
 use borrow.Author.Tests.{le-leb, lt-leb}
-use Rattle.model.specs.Numbers.{ℕ∞, fin, ∞}
+use Rattle.model.specs.Numbers.{fin, ∞}
 use Rattle.model.specs.Complement.{reserve}
 use Rattle.fields.specs.Numbers.{unbounded, bound}
 use Rattle.fields.proofs.Bounds.{bound-finite}
@@ -21,11 +21,3 @@ reserve-none k i h = go (eqb i unbounded)
 
 pub reserve-some : (k i : ℕ) → i < k → k ≤ unbounded → k - i ≡ reserve k (bound i)
 reserve-some k i h l = rw (bound-finite i (λ e. omega arith), lt-leb k i h)
-
-pub reserve-within : (k : ℕ) (i : ℕ∞) → reserve k i ≤ k
-reserve-within k (fin i) = go (leb k i)
-  where
-    go : (t : Bool) → cond t 0 (k - i) ≤ k
-    go true = omega arith
-    go false = omega arith
-reserve-within k ∞ = omega arith

@@ -1,6 +1,7 @@
 -- What one arc becomes: at its own pair, and at the complement pair.
 -- A reader of the promises may skip this file.
 use Prim.Native.Nat.{ℕ, _≤_}
+use mathlib.Core.Bool.{Bool}
 use Rattle.model.specs.declared.Pair.{Pair}
 use Rattle.model.specs.declared.Arc.{Arc}
 use Rattle.model.specs.Numbers.{ℕ∞, limit}
@@ -15,6 +16,6 @@ pub record Small (a : Arc) (k : ℕ) : Type 0 where
   pub post : a .post ≤ limit
   pub capacity : InRange (bound k)
 
--- what an arc puts at the complement pair; what it leaves at its own is `onOriginal` of model/specs/Promises.antt
-abbrev pub complementAt : Pair → ℕ∞ → NetArc → NetArc
-complementAt pair k a = record { mode = a .mode; pair = pair; entry = complementEntry k (a .entry) }
+-- what an arc of a mode, dead or not, puts at the complement pair; what it leaves at its own is `onOriginal` of model/specs/Promises.antt
+abbrev pub complementAt : Pair → Bool → ℕ∞ → NetArc → NetArc
+complementAt pair dead k a = record { mode = a .mode; pair = pair; entry = complementEntry dead k (a .entry) }

@@ -3,9 +3,10 @@ use model::Arc;
 use model::Pair;
 use opened::finite::is_finite;
 ghost use mathlib.Core.Path.{_≡_};
+ghost use mathlib.Core.Bool.{cond};
 ghost use Prim.Native.Nat.{_+_, _-_, _≤_, max};
 ghost use Rattle.model.specs.Numbers.{limit};
-ghost use Rattle.model.specs.Complement.{reserve, blank, tooLarge};
+ghost use Rattle.model.specs.Complement.{reserve, blank};
 ghost use Rattle.fields.specs.Numbers.{bound};
 ghost use Rattle.sheets.specs.Decoded.{netArc};
 ghost use Rattle.model.specs.Promises.{onOriginal};
@@ -45,18 +46,21 @@ pub fn original_arc(arc: Arc) -> Arc
     }
 }
 
-// "Post: that number plus the original Pre less the original Post".
-fn given_back(pre: u32, arc: Arc) -> u32
+// "Post: that number plus the original Pre less the original Post"; "For a locally dead mode .. each complement Post equal to its complement Pre".
+fn given_back(dead: bool, pre: u32, arc: Arc) -> u32
     requires { ⌜ (pre ≤ limit) × (arc .pre ≤ limit) × (arc .post ≤ pre) ⌝ }
-    ensures { λ r. ⌜ r ≡ pre + arc .pre - arc .post ⌝ }
+    ensures { λ r. ⌜ r ≡ cond dead pre (pre + arc .pre - arc .post) ⌝ }
 {
+    if dead {
+        return pre;
+    }
     pre + arc.pre - arc.post
 }
 
 // "Pre: the larger of Post and (K less I ..)". Nothing where K is unbounded.
-pub fn complement_arc(arc: Arc, capacity: u32, pair: Pair) -> Arc
+pub fn complement_arc(arc: Arc, dead: bool, capacity: u32, pair: Pair) -> Arc
     requires { ⌜ Small arc capacity ⌝ }
-    ensures { λ r. ⌜ netArc r ≡ complementAt pair (bound capacity) (netArc arc) ⌝ }
+    ensures { λ r. ⌜ netArc r ≡ complementAt pair dead (bound capacity) (netArc arc) ⌝ }
 {
     let mode = arc.mode;
     if !is_finite(capacity) {
@@ -73,7 +77,7 @@ pub fn complement_arc(arc: Arc, capacity: u32, pair: Pair) -> Arc
         mode,
         pair,
         pre,
-        post: given_back(pre, arc),
+        post: given_back(dead, pre, arc),
         inhibitor: 0xffff_ffff,
     }
 }
@@ -88,14 +92,4 @@ pub fn is_blank(arc: Arc) -> bool
         return false;
     }
     !is_finite(arc.inhibitor)
-}
-
-// "a complement number above 1,000,000"
-pub fn too_large(arc: Arc) -> bool
-    ensures { λ r. ⌜ r ≡ tooLarge (netArc arc .entry) ⌝ }
-{
-    if 1_000_000 < arc.pre {
-        return true;
-    }
-    1_000_000 < arc.post
 }

@@ -12,14 +12,13 @@ use borrow.Author.Tests.{eqb-true, ltb-false}
 use native.Mathlib.Omega.{arith}
 use native.Mathlib.Nat.{le-of-suc-le-suc, not-suc-le-zero}
 use Rattle.model.specs.declared.Mode.{Mode}
-use Rattle.model.specs.declared.Fault.{Fault}
-use Rattle.model.specs.declared.Fault.the-variants.{InhibitedUnbounded}
-use Rattle.model.specs.Numbers.{ℕ∞, fin, ∞}
+use Rattle.model.specs.Numbers.{ℕ∞, fin, ∞, limit}
 use Rattle.model.specs.Rows.{Entry, noArc, Capacities}
 use Rattle.model.specs.Nets.{NetArc, PNet, total, pairs, modes, K, count, arcNo, entryAt, row}
 use Rattle.model.specs.Markings.{Marking}
 use Rattle.model.specs.WellFormed.{WellFormed}
-use Rattle.model.specs.Complement.{finite, boundedBelow, complementPair, complementRow, newPlaces, less, boundedPairs, allPairs, complement, firstArc, inhibitsUnbounded, refusal15, Corresponds}
+use Rattle.model.specs.Dead.{isDead}
+use Rattle.model.specs.Complement.{finite, boundedBelow, complementPair, complementRow, newPlaces, less, boundedPairs, allPairs, complement, inhibitsUnbounded, refusal15, Corresponds}
 use Rattle.model.specs.Lists.{joined, listIf}
 use Rattle.model.proofs.First.{below-or, first-each, only-if-none}
 use Rattle.model.proofs.Joined.{joined-front, joined-ext}
@@ -94,9 +93,9 @@ module _ (net : PNet) where
       (λ (l : allPairs net ≤ p). List·getD-eq-default (replicate (allPairs net) ∞) ∞ (rw length-replicate l)) (below-or p (allPairs net))
 
   pub rows-complement : (t : Mode) (p : ℕ) → t .0 < modes net → p < allPairs net
-      → row (complement net) t p ≡ complementRow (pairs net) (K net) (row net t) p
+      → row (complement net) t p ≡ complementRow (isDead net t) (pairs net) (K net) (row net t) p
   unfolding complement
-  rows-complement = written-row (modes net) (allPairs net) (λ t. complementRow (pairs net) (K net) (row net t))
+  rows-complement = written-row (modes net) (allPairs net) (λ t. complementRow (isDead net t) (pairs net) (K net) (row net t))
 
 -- what holds of no arc, and of each arc at p, holds of what stands at p
 pub entry-holds : (P : Entry → Type 0) (t : Mode) (p : ℕ) → P noArc → (arcs : List NetArc)
@@ -111,9 +110,11 @@ entry-holds P t p n (a ∷ arcs) each =
     go true false e later = later
     go false y e later = later
 
-pub arc-passes : (net : PNet) (test : NetArc → Bool) (fault : ℕ → Fault) → firstArc net test fault ≡ none
-    → (k : ℕ) → k < length (net .arcs) → test (arcNo (net .arcs) k) ≡ false
-arc-passes net test fault e k h = only-if-none (test (arcNo (net .arcs) k)) _ (first-each (length (net .arcs)) _ e k h)
+abbrev pub Small : Entry → Type 0
+Small e = (e .pre ≤ limit) × (e .post ≤ limit)
+
+pub row-small : (net : PNet) → WellFormed net → (t : Mode) (p : ℕ) → Small (row net t p)
+row-small net wf t p = entry-holds Small t p (omega arith) (net .arcs) (λ k h s. let a = wf .eachArc k h in (a .pre, a .post))
 
 -- 15 was not given: no inhibitor stands at an unbounded pair
 pub uninhibited : (net : PNet) (offset : ℕ → ℕ) → refusal15 offset net ≡ none → (t : Mode) (p : ℕ) → K net p ≡ ∞ → row net t p .inhibitor ≡ ∞
@@ -123,7 +124,7 @@ uninhibited net offset e t p u = entry-holds (λ e. e .inhibitor ≡ ∞) t p re
     each : (k : ℕ) → k < length (net .arcs) → arcNo (net .arcs) k .pair .0 ≡ p → arcNo (net .arcs) k .entry .inhibitor ≡ ∞
     each k h s =
         go (arcNo (net .arcs) k .entry .inhibitor) refl
-        (rw (s, u) at (arc-passes net (inhibitsUnbounded net) (λ k. InhibitedUnbounded (offset k)) e k h))
+        (rw (s, u) at (only-if-none (inhibitsUnbounded net (arcNo (net .arcs) k)) _ (first-each (length (net .arcs)) _ e k h)))
       where
         go : (i : ℕ∞) → arcNo (net .arcs) k .entry .inhibitor ≡ i → (finite (arcNo (net .arcs) k .entry .inhibitor) && true) ≡ false
             → arcNo (net .arcs) k .entry .inhibitor ≡ ∞

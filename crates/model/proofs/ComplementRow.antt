@@ -20,6 +20,10 @@ reserve-is k i = go (leb k i) refl
     go true e = rw e (omega (arith, leb-true k i e))
     go false e = rw e
 
+pub reserve-within : (k : ℕ) (i : ℕ∞) → reserve k i ≤ k
+reserve-within k (fin i) = rw reserve-is (omega arith)
+reserve-within k ∞ = omega arith
+
 pub lacks-crowded : (k m m′ : ℕ) (e : Entry) → m + m′ ≡ k → above (complementPre k e) (fin m′) ≡ crowded e (fin k) m
 lacks-crowded k m m′ e s = go (ltb k (m + e .post)) refl
   where
@@ -44,26 +48,32 @@ lacks-by k m m′ e s = go (e .inhibitor)
     go ∞ = omega arith
 
 pub sum-kept : (k m m′ : ℕ) (e : Entry) → m + m′ ≡ k → e .pre ≤ m → complementPre k e ≤ m′
-    → after e m + after (complementEntry (fin k) e) m′ ≡ k
+    → after e m + after (complementEntry false (fin k) e) m′ ≡ k
 sum-kept k m m′ e s h l = omega arith
 
-module _ (n : ℕ) (K : Capacities) (row : Row) where
-  pub row-original : (p : ℕ) → p < n → complementRow n K row p ≡ original (row p)
+-- what a dead mode would take it gives back
+pub complement-within : (dead : Bool) (k m m′ : ℕ) (e : Entry) → m + m′ ≡ k → e .pre ≤ m → complementPre k e ≤ m′
+    → after (complementEntry dead (fin k) e) m′ ≤ k
+complement-within true k m m′ e s h l = omega arith
+complement-within false k m m′ e s h l = omega (arith, sum-kept k m m′ e s h l)
+
+module _ (dead : Bool) (n : ℕ) (K : Capacities) (row : Row) where
+  pub row-original : (p : ℕ) → p < n → complementRow dead n K row p ≡ original (row p)
   unfolding complementRow
   row-original p h = rw (lt-ltb p n h)
 
-  pub row-complement : (p k : ℕ) → p < n → K p ≡ fin k → complementRow n K row (complementPair n K p) ≡ complementEntry (fin k) (row p)
+  pub row-complement : (p k : ℕ) → p < n → K p ≡ fin k → complementRow dead n K row (complementPair n K p) ≡ complementEntry dead (fin k) (row p)
   unfolding complementRow
   row-complement p k h e =
       let out : ltb (complementPair n K p) n ≡ false = le-ltb (complementPair n K p) n (omega arith) in
       let back : complementPair n K p - n ≡ boundedBelow K p = omega arith in
       rw (out, back, bounded-at K n p k h e, e)
 
-  pub row-uninhibited : (p : ℕ) → complementRow n K row p .inhibitor ≡ ∞
+  pub row-uninhibited : (p : ℕ) → complementRow dead n K row p .inhibitor ≡ ∞
   unfolding complementRow
   row-uninhibited p = go (ltb p n) (K (complemented n K p))
     where
-      go : (b : Bool) (k : ℕ∞) → cond b (original (row p)) (complementEntry k (row (complemented n K p))) .inhibitor ≡ ∞
+      go : (b : Bool) (k : ℕ∞) → cond b (original (row p)) (complementEntry dead k (row (complemented n K p))) .inhibitor ≡ ∞
       go true k = refl
       go false (fin k) = refl
       go false ∞ = refl

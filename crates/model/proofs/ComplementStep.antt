@@ -1,6 +1,7 @@
 -- The step equation: what a row's complement answers, in terms of the row and of a corresponding marking.
 use Prim.Native.Nat.{ℕ, _+_, _≤_, _<_}
 use mathlib.Core.Path.{_≡_, refl, _∙_}
+use mathlib.Core.Bool.{Bool}
 use mathlib.Core.Option.{Option, none}
 use lib.ListN.{getD}
 use native.Mathlib.Omega.{arith}
@@ -17,14 +18,14 @@ use Rattle.model.specs.DemandThree.{crowded, crowdedBy, lowestCrowded}
 use Rattle.model.proofs.First.{first-split, then-under, then-none, then-assoc, first-all, first-ext, first-sparse, first-each, only-if-none}
 use Rattle.model.proofs.Numbers.{above-false, false-above}
 use Rattle.model.proofs.Bounded.{bounded-number, bounded-pair, at-complements, bounded-rises, unbounded}
-use Rattle.model.proofs.ComplementRow.{lacks-crowded, lacks-by, sum-kept, row-original, row-complement, row-uninhibited}
+use Rattle.model.proofs.ComplementRow.{lacks-crowded, lacks-by, complement-within, row-original, row-complement, row-uninhibited}
 
 -- the complement's answer in terms of the net's row and marking
 abbrev pub answerInComplement : Thing → ℕ → Capacities → Row → Counts → Option Refusal
 answerInComplement thing n K row M =
     lowestStop thing n K row M Lacking ▸ lowestCrowded thing n K row M ▸ lowestStop thing n K row M OverLimit
 
-module _ (thing : Thing) (n : ℕ) (K : Capacities) (row : Row) (M M′ : Counts)
+module _ (thing : Thing) (dead : Bool) (n : ℕ) (K : Capacities) (row : Row) (M M′ : Counts)
     (equal : (p : ℕ) → p < n → M′ p ≡ M p)
     (addUp : (p k : ℕ) → p < n → K p ≡ fin k → M p + M′ (complementPair n K p) ≡ k)
     (uninhibited : (p : ℕ) → p < n → K p ≡ ∞ → row p .inhibitor ≡ ∞)
@@ -33,7 +34,7 @@ module _ (thing : Thing) (n : ℕ) (K : Capacities) (row : Row) (M M′ : Counts
   at j = getD (bounded K n) j 0
 
   abbrev R : Row
-  R = complementRow n K row
+  R = complementRow dead n K row
 
   abbrev stopAt : Why → ℕ → Option Refusal
   stopAt why p = onlyIf (stops why (R p) ∞ (M′ p)) (stopped thing why p (stoppedBy why (R p) ∞ (M′ p)))
@@ -44,7 +45,7 @@ module _ (thing : Thing) (n : ℕ) (K : Capacities) (row : Row) (M M′ : Counts
   -- 11 and 14 look at Pre, Post and the count alone, which the originals keep
   originals : (why : Why) → ((e : Entry) (k : ℕ∞) (m : ℕ) → compared why (original e) ∞ m ≡ compared why e k m)
       → first n (stopAt why) ≡ lowestStop thing n K row M why
-  originals why same = first-ext n (stopAt why) _ (λ p h. rw (row-original n K row p h, equal p h, same (row p) (K p) (M p)))
+  originals why same = first-ext n (stopAt why) _ (λ p h. rw (row-original dead n K row p h, equal p h, same (row p) (K p) (M p)))
 
   -- 15 was not given: an unbounded pair is never crowded
   elsewhere : (p : ℕ) → p < n → ((j : ℕ) → j < boundedBelow K n → ¬ (at j ≡ p)) → crowdedAt p ≡ none
@@ -65,17 +66,17 @@ module _ (thing : Thing) (n : ℕ) (K : Capacities) (row : Row) (M M′ : Counts
     lacks-at : stopAt Lacking c ≡ crowdedAt p
     lacks-at =
         let s = addUp p k h e in
-        rw (row-complement n K row p k h e, e, lacks-crowded k (M p) (M′ c) (row p) s, lacks-by k (M p) (M′ c) (row p) s)
+        rw (row-complement dead n K row p k h e, e, lacks-crowded k (M p) (M′ c) (row p) s, lacks-by k (M p) (M′ c) (row p) s)
 
-    -- the counts after the movement add up to K too, and K is in range
+    -- the count after the movement is within K too, and K is in range
     within-limit : NothingLacks → after (R c) (M′ c) ≤ limit
     within-limit l =
-        rw (row-complement n K row p k h e)
+        rw (row-complement dead n K row p k h e)
         (omega (
           arith,
           inRange p k h e,
-          sum-kept k (M p) (M′ c) (row p) (addUp p k h e) (rw (row-original n K row p h, equal p h) at (enough l p (omega arith)))
-              (rw (row-complement n K row p k h e) at (enough l c (omega (arith, bounded-number K n p k h e)))),
+          complement-within dead k (M p) (M′ c) (row p) (addUp p k h e) (rw (row-original dead n K row p h, equal p h) at (enough l p (omega arith)))
+              (rw (row-complement dead n K row p k h e) at (enough l c (omega (arith, bounded-number K n p k h e)))),
         ))
 
     exceeds-at : NothingLacks → stopAt OverLimit c ≡ none
@@ -101,12 +102,12 @@ module _ (thing : Thing) (n : ℕ) (K : Capacities) (row : Row) (M M′ : Counts
       (then-none (lowestStop thing n K row M OverLimit))
 
   -- 12 and 13 are never given in the complement; 11 is given at an original, or at the complement of a crowded pair
-  pub row-step : rowRefusal thing (n + boundedBelow K n) (λ p. ∞) (complementRow n K row) M′ ≡ answerInComplement thing n K row M
+  pub row-step : rowRefusal thing (n + boundedBelow K n) (λ p. ∞) (complementRow dead n K row) M′ ≡ answerInComplement thing n K row M
   unfolding rowRefusal ruleRefusal
   row-step =
       rw (
         first-all (n + boundedBelow K n) (stopAt OverCapacity) (λ p h. refl),
-        first-all (n + boundedBelow K n) (stopAt Inhibited) (λ p h. rw (row-uninhibited n K row p)),
+        first-all (n + boundedBelow K n) (stopAt Inhibited) (λ p h. rw (row-uninhibited dead n K row p)),
         then-none {A = Refusal} none,
         then-none (first (n + boundedBelow K n) (stopAt Lacking)),
       )

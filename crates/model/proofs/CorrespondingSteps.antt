@@ -1,6 +1,7 @@
 -- Steps of a net and of its complement at corresponding markings.
 use Prim.Native.Nat.{ℕ, zero, suc, _+_, _-_, _≤_, _<_}
 use mathlib.Core.Path.{_≡_, refl, sym, _∙_}
+use mathlib.Core.Bool.{false}
 use mathlib.Core.List.{List, [], _∷_}
 use mathlib.Core.Logic.{⊎-elim}
 use mathlib.Core.Option.{none}
@@ -13,15 +14,17 @@ use Rattle.model.specs.Nets.{PNet, pairs, modes, K, count, entryAt, row}
 use Rattle.model.specs.WellFormed.{WellFormed}
 use Rattle.model.specs.Firing.{after, ruleRefusal, rowRefusal, modeRefusal, fired}
 use Rattle.model.specs.Runs.{runFrom}
-use Rattle.model.specs.Complement.{bounded, reserve, complementPair, original, complementEntry, complementRow, newPlaces, arcsOf, allPairs, complement, refusal15, refusal16, sheetLimits, complementRefusal, Corresponds}
+use Rattle.model.specs.Dead.{deadPair, isDead}
+use Rattle.model.specs.Complement.{bounded, reserve, complementPair, original, complementEntry, complementRow, newPlaces, arcsOf, allPairs, complement, refusal15, sheetLimits, complementRefusal, Corresponds}
 use Rattle.model.specs.Edges.{edgeNet}
 use Rattle.model.specs.Steps.{together, stepRefusal, firedTogether, StepsBack, StepsForth, StepExamples}
 use Rattle.model.proofs.First.{left-none}
 use Rattle.model.proofs.Numbers.{below-least-of}
+use Rattle.model.proofs.Each.{Each}
 use Rattle.model.proofs.Bounded.{bounded-number, original-or}
 use Rattle.model.proofs.ComplementRow.{reserve-is, row-original, row-complement, row-uninhibited}
 use Rattle.model.proofs.ComplementNet.{modes-complement, pairs-complement, capacity-complement, rows-complement, entry-holds, uninhibited}
-use Rattle.model.proofs.Steps.{There, Accepts, step-accepted, accepted-step, step-fired-at, step-fired-length}
+use Rattle.model.proofs.Steps.{There, Accepts, step-accepted, accepted-step, step-fired-at, step-fired-length, members-live}
 
 -- the step's row in the complement: at an original pair the same Pre and Post, and no inhibitor anywhere
 together-original : (net : PNet) (ts : List Mode) → There net ts → (p : ℕ) → p < pairs net
@@ -29,13 +32,13 @@ together-original : (net : PNet) (ts : List Mode) → There net ts → (p : ℕ)
 unfolding together
 together-original net [] h p l = refl
 together-original net (t ∷ ts) h p l =
-    rw (rows-complement net t p (h .0) (omega arith), row-original (pairs net) (K net) (row net t) p l, together-original net ts (h .1) p l)
+    rw (rows-complement net t p (h .0) (omega arith), row-original (isDead net t) (pairs net) (K net) (row net t) p l, together-original net ts (h .1) p l)
 
 together-uninhibited : (net : PNet) (ts : List Mode) → There net ts → (p : ℕ) → p < allPairs net → together (complement net) ts p .inhibitor ≡ ∞
 unfolding together
 together-uninhibited net [] h p l = refl
 together-uninhibited net (t ∷ ts) h p l =
-    rw (rows-complement net t p (h .0) l, row-uninhibited (pairs net) (K net) (row net t) p, together-uninhibited net ts (h .1) p l)
+    rw (rows-complement net t p (h .0) l, row-uninhibited (isDead net t) (pairs net) (K net) (row net t) p, together-uninhibited net ts (h .1) p l)
 
 -- 15 was not given: at an unbounded pair no member has an inhibitor
 unbounded-least : (net : PNet) (offset : ℕ → ℕ) → refusal15 offset net ≡ none → (ts : List Mode) (p : ℕ) → K net p ≡ ∞ → together net ts p .inhibitor ≡ ∞
@@ -55,8 +58,8 @@ module _ (net : PNet) (p k : ℕ) (inside : p < pairs net) (isBounded : K net p 
   inside′ : c < allPairs net
   inside′ = omega (arith, bounded-number (K net) (pairs net) p k inside isBounded)
 
-  row-at : (t : Mode) → t .0 < modes net → row (complement net) t c ≡ complementEntry (fin k) (row net t p)
-  row-at t h = rows-complement net t c h inside′ ∙ row-complement (pairs net) (K net) (row net t) p k inside isBounded
+  row-at : (t : Mode) → t .0 < modes net → row (complement net) t c ≡ complementEntry (isDead net t) (fin k) (row net t p)
+  row-at t h = rows-complement net t c h inside′ ∙ row-complement (isDead net t) (pairs net) (K net) (row net t) p k inside isBounded
 
   post-below : (ts : List Mode) → There net ts → together net ts p .post ≤ together (complement net) ts c .pre
   unfolding together
@@ -71,12 +74,12 @@ module _ (net : PNet) (p k : ℕ) (inside : p < pairs net) (isBounded : K net p 
       below-least-of m (row net t p .inhibitor) (together net ts p .inhibitor) .1
       (reserve-low k m m′ (row net t p .inhibitor) s (omega arith), low-below ts (h .1) m m′ s (omega arith))
 
-  -- Pre, Post and their complements add up alike
-  sums : (ts : List Mode) → There net ts
+  -- Pre, Post and their complements add up alike where no member is dead
+  sums : (ts : List Mode) → There net ts → Each (λ t. isDead net t ≡ false) ts
       → together (complement net) ts c .post + together net ts p .post ≡ together (complement net) ts c .pre + together net ts p .pre
   unfolding together
-  sums [] h = refl
-  sums (t ∷ ts) h = rw (row-at t (h .0)) (omega (arith, sums ts (h .1)))
+  sums [] h live = refl
+  sums (t ∷ ts) h live = rw (row-at t (h .0), live .0) (omega (arith, sums ts (h .1) (live .1)))
 
   -- without inhibitors the complement's Pre is Post
   pre-is-post : ((t : Mode) → row net t p .inhibitor ≡ ∞) → (ts : List Mode) → There net ts → together (complement net) ts c .pre ≡ together net ts p .post
@@ -134,7 +137,7 @@ module _ (net : PNet) (wf : WellFormed net) (offset : ℕ → ℕ) (no15 : refus
         addUp = λ p k h e.
             let l = in-complement (inside′ net p k h e) in
             rw (step-fired-at net ts m p h, step-fired-at (complement net) ts m′ (other p) l)
-            (omega (arith, c .addUp p k h e, sums net p k h e ts (a .there), a .passes .enough p h, a′ .passes .enough (other p) l));
+            (omega (arith, c .addUp p k h e, sums net p k h e ts (a .there) (members-live net ts m a), a .passes .enough p h, a′ .passes .enough (other p) l));
       }
 
   -- what the net accepts, the complement accepts where there is no inhibitor
@@ -147,7 +150,7 @@ module _ (net : PNet) (wf : WellFormed net) (offset : ℕ → ℕ) (no15 : refus
     small-at : (p k : ℕ) (h : p < pairs net) (e : K net p ≡ fin k) → after (together (complement net) ts (other p)) (count m′ (other p)) ≤ limit
     small-at p k h e =
         let most : k ≤ limit = rw e at (wf .capacityInRange p h) in
-        omega (arith, c .addUp p k h e, sums net p k h e ts (a .there), a .passes .enough p h, enough-at p k h e)
+        omega (arith, c .addUp p k h e, sums net p k h e ts (a .there) (members-live net ts m a), a .passes .enough p h, enough-at p k h e)
 
     accepted-forth : Accepts (complement net) ts m′
     accepted-forth =
@@ -207,7 +210,7 @@ edge-corresponds k i pre post m c s =
     addUp (suc p) j h e = absurd (omega arith)
 
 pub step-examples : StepExamples
-unfolding stepRefusal rowRefusal ruleRefusal together runFrom modeRefusal fired _▸_ first complementRefusal refusal15 refusal16 sheetLimits complement arcsOf newPlaces complementRow bounded joined entryAt table
+unfolding stepRefusal rowRefusal ruleRefusal together runFrom modeRefusal fired _▸_ first complementRefusal refusal15 deadPair isDead sheetLimits complement arcsOf newPlaces complementRow bounded joined entryAt table
 step-examples =
     record {
       section63 = record { accepted = refl; corresponds = edge-corresponds 5 (fin 4) 1 0 3 2 refl; inNet = refl; fewer = refl; refused = refl };

@@ -14,7 +14,7 @@ use Rattle.model.specs.Nets.{PNet, modeNo}
 use Rattle.model.specs.WellFormed.{WellFormed}
 use Rattle.model.specs.Firing.{modeRefusal, fired}
 use Rattle.model.specs.Runs.{Outcome, goOn, runFrom, run}
-use Rattle.model.specs.Complement.{complement, refusal15, refusal16, sheetLimits, complementRefusal, Corresponds}
+use Rattle.model.specs.Complement.{complement, refusal15, sheetLimits, complementRefusal, Corresponds}
 use Rattle.model.specs.DemandThree.{becomes, Agreement, Demand3}
 use Rattle.model.proofs.First.{below-or, left-none, right-none, only-if-none}
 use Rattle.model.proofs.Runs.{runs}
@@ -89,10 +89,9 @@ module _ (net : PNet) (wf : WellFormed net) (offset : ℕ → ℕ) (no15 : refus
 pub demand3 : Demand3
 unfolding complementRefusal
 demand3 net c =
-    let later = right-none (refusal15 (c .offset) net) _ (c .accepted) in
     record {
       isNet =
-          complement-well-formed net (c .wellFormed) (c .offset) (left-none (refusal16 (c .offset) net) _ later)
-          (not-false (sheetLimits net) (only-if-none _ _ (right-none (refusal16 (c .offset) net) _ later)));
+          complement-well-formed net (c .wellFormed)
+          (not-false (sheetLimits net) (only-if-none _ _ (right-none (refusal15 (c .offset) net) _ (c .accepted))));
       runs = agreement net (c .wellFormed) (c .offset) (left-none (refusal15 (c .offset) net) _ (c .accepted));
     }

@@ -14,7 +14,8 @@ use Rattle.model.specs.Numbers.{ℕ∞, fin, ∞}
 use Rattle.model.specs.Rows.{Row, Capacities, Counts}
 use Rattle.model.specs.Firing.{ruleRefusal, rowRefusal, modeRefusal}
 use Rattle.model.specs.Nets.{modeNo, K, entryAt, row}
-use Rattle.model.specs.Complement.{bounded, reserve, complementRow, newPlaces, arcsOf, complement, refusal15, refusal16, sheetLimits, complementRefusal}
+use Rattle.model.specs.Dead.{deadPair, isDead}
+use Rattle.model.specs.Complement.{bounded, reserve, complementRow, newPlaces, arcsOf, complement, refusal15, sheetLimits, complementRefusal}
 use Rattle.model.specs.Lists.{joined}
 use Rattle.model.specs.Promises.{stays}
 use Rattle.model.specs.Edges.{answerAt, numberAt, edges, complementGives, edgeNet, Edges}
@@ -52,7 +53,7 @@ pre-six i pre =
     let net = edgeNet 5 i pre 6 in
     ap (λ e. e .pre)
     (rows-complement net (modeNo 0) 1 (omega arith) (omega arith)
-    ∙ row-complement 1 (K net) (row net (modeNo 0)) 0 5 (omega arith) refl)
+    ∙ row-complement (isDead net (modeNo 0)) 1 (K net) (row net (modeNo 0)) 0 5 (omega arith) refl)
     ∙ larger i
   where
     larger : (i : ℕ∞) → max 6 (reserve 5 i) ≡ 6
@@ -60,7 +61,7 @@ pre-six i pre =
     larger ∞ = refl
 
 pub starred : Edges
-unfolding answerAt edges modeRefusal rowRefusal ruleRefusal _▸_ first complementGives complementRefusal refusal15 refusal16 sheetLimits complement arcsOf newPlaces complementRow bounded joined entryAt
+unfolding answerAt edges modeRefusal rowRefusal ruleRefusal _▸_ first complementGives complementRefusal refusal15 deadPair isDead sheetLimits complement arcsOf newPlaces complementRow bounded joined entryAt
 starred =
     record {
       answers = refl;

@@ -13,6 +13,7 @@ use Rattle.model.specs.Numbers.{ℕ∞, fin, ∞}
 use Rattle.model.specs.Rows.{Entry}
 use Rattle.model.specs.Nets.{pairs, K, row}
 use Rattle.model.specs.Billington.{_∩_, IK}
+use Rattle.model.specs.Dead.{isDead}
 use Rattle.model.specs.Complement.{complementPair, reserve, complementPre, complementPost, complementEntry, complement}
 use Rattle.model.specs.Promises.{Beside, Figure64}
 use Rattle.model.proofs.First.{below-or}
@@ -48,15 +49,16 @@ larger-is k post (fin i) = rw reserve-is (go (ltZ (pos k -ℤ pos post) (pos i))
 larger-is k post ∞ = ap pos (omega arith) ∙ sym (minus-back (pos k) (pos post))
 
 -- document 01's lines at one complement pair
-beside : (k : ℕ) (e : Entry) → Beside k e (complementEntry (fin k) e)
-beside k e =
+beside : (dead : Bool) (k : ℕ) (e : Entry) → Beside dead k e (complementEntry dead (fin k) e)
+beside dead k e =
     record {
       pre = larger-is k (e .post) (e .inhibitor);
-      post =
-          let order : complementPost k e ≡ complementPre k e - e .post + e .pre = omega arith in
-          ap pos order ∙ pos-after (complementPre k e) (e .post) (e .pre) (omega arith)
+      post = λ alive.
+          let order : complementPost false k e ≡ complementPre k e - e .post + e .pre = omega arith in
+          rw alive (ap pos order) ∙ pos-after (complementPre k e) (e .post) (e .pre) (omega arith)
           ∙ ap (λ x. x +ℤ (pos (e .pre) -ℤ pos (e .post))) (larger-is k (e .post) (e .inhibitor))
           ∙ +ℤ-comm (pos k -ℤ IK k e) (pos (e .pre) -ℤ pos (e .post));
+      postOfDead = λ d. rw d;
       inhibitor = refl;
     }
 
@@ -69,9 +71,9 @@ figure-64 net =
       sameModes = refl;
       unbounded = ap (λ n. replicate n ∞) (sym (pairs-complement net));
       start = first-corresponds net;
-      originals = λ t p h l. rows-complement net t p h (omega arith) ∙ row-original n (K net) (row net t) p l;
+      originals = λ t p h l. rows-complement net t p h (omega arith) ∙ row-original (isDead net t) n (K net) (row net t) p l;
       besides = λ t p k h l e.
           let pair = complementPair n (K net) p in
-          let is = rows-complement net t pair h (omega (arith, bounded-number (K net) n p k l e)) ∙ row-complement n (K net) (row net t) p k l e in
-          rw is (beside k (row net t p));
+          let is = rows-complement net t pair h (omega (arith, bounded-number (K net) n p k l e)) ∙ row-complement (isDead net t) n (K net) (row net t) p k l e in
+          rw is (beside (isDead net t) k (row net t p));
     }

@@ -33,3 +33,4 @@ pub mod Decisions
 pub mod RefusalTables
 pub mod Steps
 pub mod CorrespondingSteps
+pub mod DeadComplement

@@ -1,5 +1,5 @@
 -- A mode is locally dead exactly when no marking within capacity enables it; the counts of its Pre are the witness.
-use Prim.Native.Nat.{ℕ, _+_, _≤_, _<_}
+use Prim.Native.Nat.{ℕ, _+_, _-_, _≤_, _<_, max}
 use mathlib.Core.Path.{_≡_, refl, sym, _∙_}
 use mathlib.Core.Bool.{Bool, true, false, true≢false}
 use mathlib.Core.List.{List}
@@ -14,11 +14,13 @@ use Rattle.model.specs.WellFormed.{WellFormed}
 use Rattle.model.specs.Markings.{Marking}
 use Rattle.model.specs.Firing.{rooms}
 use Rattle.model.specs.Dead.{highestPre, Kills, isDead, lowestMarking}
+use Rattle.model.specs.Complement.{reserve, complementPre, complementPost}
 use Rattle.model.specs.Promises.{DeadExactly, DeadOrLive}
 use Rattle.model.proofs.Numbers.{le-not-above, le-le∞, le-as, room-le}
 use Rattle.model.proofs.Tables.{table-at, table-length}
 use Rattle.model.proofs.Firing.{Passes, passes-enables, passes-accepted}
-use Rattle.model.proofs.ComplementWellFormed.{row-small}
+use Rattle.model.proofs.ComplementNet.{row-small}
+use Rattle.model.proofs.ComplementRow.{reserve-is}
 use Rattle.model.proofs.Dead.{dead-modes}
 
 -- at one pair the count of Pre is within K and passes
@@ -41,6 +43,14 @@ lives e k h =
     fits pre post (fin k) ∞ a b = (omega arith, tt)
     fits pre post ∞ (fin i) a b = (tt, a)
     fits pre post ∞ ∞ a b = (tt, tt)
+
+-- at the complement of such a pair both numbers are within K
+pub lives-beside : (k : ℕ) (e : Entry) → Lives e (fin k) → (complementPre k e ≤ k) × (complementPost false k e ≤ k)
+lives-beside k e h = go (e .inhibitor) (h .low)
+  where
+    go : (i : ℕ∞) → e .pre ≤∞ i → (max (e .post) (reserve k i) ≤ k) × (max (e .post) (reserve k i) + e .pre - e .post ≤ k)
+    go (fin i) low = rw reserve-is (omega (arith, h .room))
+    go ∞ low = omega (arith, h .room)
 
 -- at one pair no count within K passes the three conditions
 kills-stops : (e : Entry) (k : ℕ∞) (m : ℕ) → Kills e k → m ≤∞ k → e .pre ≤ m → m + e .post ≤∞ k → m ≤∞ e .inhibitor → ⊥
@@ -72,10 +82,10 @@ module _ (net : PNet) (t : Mode) where
       go true d = absurd (never d M h)
       go false d = d
 
-  module _ (wf : WellFormed net) (alive : isDead net t ≡ false) where
-    lives-at : (p : ℕ) → p < pairs net → Lives (row net t p) (K net p)
-    lives-at p h = lives (row net t p) (K net p) (λ k. true≢false (sym (dead-modes net t .1 (p, h, k)) ∙ alive))
+  pub lives-at : isDead net t ≡ false → (p : ℕ) → p < pairs net → Lives (row net t p) (K net p)
+  lives-at alive p h = lives (row net t p) (K net p) (λ k. true≢false (sym (dead-modes net t .1 (p, h, k)) ∙ alive))
 
+  module _ (wf : WellFormed net) (alive : isDead net t ≡ false) where
     low-at : (p : ℕ) → p < pairs net → count (lowestMarking net t) p ≡ row net t p .pre
     low-at p h = table-at (pairs net) (λ p. row net t p .pre) 0 p h
 
@@ -84,15 +94,15 @@ module _ (net : PNet) (t : Mode) where
         record {
           oneEach = table-length (pairs net) _;
           inRange = λ p h. rw (low-at p h) (row-small net wf t p .0);
-          within = λ p h. rw (low-at p h) (lives-at p h .within);
+          within = λ p h. rw (low-at p h) (lives-at alive p h .within);
         }
 
     low-passes : Passes (pairs net) (rooms net (row net t)) (row net t) (count (lowestMarking net t))
     low-passes =
         record {
           enough = λ p h. rw (low-at p h) (omega arith);
-          room = λ p h. rw (low-at p h) (lives-at p h .room);
-          low = λ p h. rw (low-at p h) (lives-at p h .low);
+          room = λ p h. rw (low-at p h) (lives-at alive p h .room);
+          low = λ p h. rw (low-at p h) (lives-at alive p h .low);
           small = λ p h. rw (low-at p h) (omega (arith, row-small net wf t p .1));
         }
 

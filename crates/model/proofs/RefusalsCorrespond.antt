@@ -82,14 +82,17 @@ module _ (thing : Thing) (n : ℕ) (k : Capacities) (r : Row) (M : Counts) where
       (find OverCapacity))
       (find Lacking)
 
+  -- where nothing is lacking and nothing crowded, none of 11, 12 and 13 is given
+  pub uncrowded : lowestStop thing n k r M Lacking ≡ none → crowd ≡ none → ruleRefusal thing n k r M ≡ none
+  unfolding ruleRefusal
+  uncrowded l c = none-then l (none-then (first-all n _ (λ p h. rw (passed p h .0))) (first-all n _ (λ p h. rw (passed p h .1))))
+    where
+      passed : (p : ℕ) → p < n → (stops OverCapacity (r p) (k p) (M p) ≡ false) × (stops Inhibited (r p) (k p) (M p) ≡ false)
+      passed p h = or-neither (stops OverCapacity (r p) (k p) (M p)) _ (only-if-none _ _ (first-each n _ c p h))
+
   -- what the complement accepts, the net accepts
   pub none-becomes : answerInComplement thing n k r M ≡ none → rowRefusal thing n k r M ≡ none
-  unfolding rowRefusal ruleRefusal
+  unfolding rowRefusal
   none-becomes e =
       let rest = right-none (lowestStop thing n k r M Lacking) _ e in
-      let passed = crowd-passed (left-none crowd _ rest) in
-      none-then (none-then (left-none _ _ e) (none-then (first-all n _ (λ p h. rw (passed p h .0))) (first-all n _ (λ p h. rw (passed p h .1)))))
-      (right-none crowd _ rest)
-    where
-      crowd-passed : crowd ≡ none → (p : ℕ) → p < n → (stops OverCapacity (r p) (k p) (M p) ≡ false) × (stops Inhibited (r p) (k p) (M p) ≡ false)
-      crowd-passed c p h = or-neither (stops OverCapacity (r p) (k p) (M p)) _ (only-if-none _ _ (first-each n _ c p h))
+      none-then (uncrowded (left-none _ _ e) (left-none crowd _ rest)) (right-none crowd _ rest)

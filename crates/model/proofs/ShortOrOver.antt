@@ -8,7 +8,7 @@ use Rattle.model.specs.declared.Thing.{Thing}
 use Rattle.model.specs.declared.Why.{Why}
 use Rattle.model.specs.declared.Why.the-variants.{Lacking, OverCapacity, Inhibited, OverLimit}
 use Rattle.model.specs.declared.Fault.{Fault}
-use Rattle.model.specs.declared.Fault.the-variants.{CutShort, WrongVersion, WrongLength, CountOutside, NumberOutside, MarkingOutside, NotThereAt, NotThere, NotRising, Blank, StartAboveCapacity, MarkingAboveCapacity, NoRoom, Stopped, InhibitedUnbounded, ComplementAbove, NotOneEach, EndsElsewhere}
+use Rattle.model.specs.declared.Fault.the-variants.{CutShort, WrongVersion, WrongLength, CountOutside, NumberOutside, MarkingOutside, NotThereAt, NotThere, NotRising, Blank, StartAboveCapacity, MarkingAboveCapacity, NoRoom, Stopped, InhibitedUnbounded, NotOneEach, EndsElsewhere}
 use Rattle.model.specs.declared.Answer.{Answer}
 use Rattle.model.specs.declared.Answer.the-variants.{Accepted, Refused}
 use Rattle.model.specs.Refusals.{answer, line, number, amount}
@@ -37,7 +37,6 @@ other-numbers (Stopped OverCapacity p by) h = ⊎-elim (λ l. omega (arith, l)) 
 other-numbers (Stopped Inhibited p by) h = ⊎-elim (λ l. omega (arith, l)) (λ l. omega (arith, l)) h
 other-numbers (Stopped OverLimit p by) h = ⊎-elim (λ l. omega (arith, l)) (λ l. omega (arith, l)) h
 other-numbers (InhibitedUnbounded at) h = refl
-other-numbers (ComplementAbove at) h = refl
 other-numbers (NotOneEach at) h = refl
 other-numbers (EndsElsewhere p) h = refl
 

@@ -13,19 +13,21 @@ use Rattle.model.specs.declared.Mode.{Mode}
 use Rattle.model.specs.declared.Thing.the-variants.{Argument}
 use Rattle.model.specs.First.{_▸_, first}
 use Rattle.model.specs.Numbers.{ℕ∞, fin, ∞, _≤∞_, Above, above, leastOf, leastOfAll, limit}
-use Rattle.model.specs.Rows.{Entry, noArc}
-use Rattle.model.specs.Nets.{PNet, total, pairs, modes, modeNo, count, row}
+use Rattle.model.specs.Rows.{Entry, noArc, Counts}
+use Rattle.model.specs.Nets.{PNet, total, pairs, modes, modeNo, K, count, row}
+use Rattle.model.specs.Dead.{isDead}
 use Rattle.model.specs.WellFormed.{WellFormed}
 use Rattle.model.specs.Firing.{after, rooms, modeRefusal, fired}
-use Rattle.model.specs.Steps.{beside, together, stepRefusal, firedTogether, StepRule, StepAfter, StepOfOne}
+use Rattle.model.specs.Steps.{beside, together, stepRefusal, firedTogether, StepRule, StepAfter, StepOfOne, StepMembers}
 use Rattle.model.proofs.First.{below-or, left-none, right-none, none-then, first-each, first-all, only-if-none}
 use Rattle.model.proofs.Both.{or-neither}
 use Rattle.model.proofs.Each.{Each, each-at, at-each}
-use Rattle.model.proofs.Numbers.{above-true, above-false, not-above, below-least-of, least-assoc, least-none}
+use Rattle.model.proofs.Numbers.{above-true, above-false, not-above, le-le∞, le-room, below-least-of, least-assoc, least-none}
 use Rattle.model.proofs.Decisions.{Decided}
 use Rattle.model.proofs.Firing.{Passes, row-passes, mode-there}
 use Rattle.model.proofs.Markings.{row-fired-at, row-fired-length}
-use Rattle.model.proofs.ComplementWellFormed.{row-small}
+use Rattle.model.proofs.ComplementNet.{row-small}
+use Rattle.model.proofs.Possible.{enabled-live}
 
 abbrev pub There : PNet → List Mode → Type 0
 There net ts = Each (λ t. t .0 < modes net) ts
@@ -161,6 +163,30 @@ step-after net ts m e = (
   λ p h. rw (step-fired-at net ts m p h) (omega (arith, step-accepted net ts m e .passes .enough p h)),
   step-fired-length net ts m,
 )
+
+-- a member has no more Pre and Post than the step, and no lower I: what enables the step shows it alive
+live-each : (net : PNet) (M : Counts) (ts : List Mode) → ((p : ℕ) → p < pairs net → together net ts p .pre ≤ M p)
+    → ((p : ℕ) → p < pairs net → M p + together net ts p .post ≤∞ K net p) → ((p : ℕ) → p < pairs net → M p ≤∞ together net ts p .inhibitor)
+    → Each (λ t. isDead net t ≡ false) ts
+unfolding together
+live-each net M [] enough room low = tt
+live-each net M (t ∷ ts) enough room low =
+    let least : (p : ℕ) → p < pairs net → (M p ≤∞ row net t p .inhibitor) × (M p ≤∞ together net ts p .inhibitor) =
+    λ p h. below-least-of (M p) (row net t p .inhibitor) (together net ts p .inhibitor) .0 (low p h) in (
+      enabled-live net t M
+          (record {
+            enough = λ p h. omega (arith, enough p h);
+            room = λ p h. le-room (M p) (row net t p .post) (K net p) (omega arith) (omega arith) (le-le∞ _ _ (K net p) (omega arith) (room p h));
+            uninhibited = λ p h. least p h .0;
+          }),
+      live-each net M ts (λ p h. omega (arith, enough p h)) (λ p h. le-le∞ _ _ (K net p) (omega arith) (room p h)) (λ p h. least p h .1),
+    )
+
+pub members-live : (net : PNet) (ts : List Mode) (m : List ℕ) → Accepts net ts m → Each (λ t. isDead net t ≡ false) ts
+members-live net ts m a = live-each net (count m) ts (a .passes .enough) (a .passes .room) (a .passes .low)
+
+pub step-members : StepMembers
+step-members net ts m e = each-at (λ t. isDead net t ≡ false) (modeNo 0) ts (members-live net ts m (step-accepted net ts m e))
 
 -- a step of one mode
 pub entry-is : {a b : Entry} → a .pre ≡ b .pre → a .post ≡ b .post → a .inhibitor ≡ b .inhibitor → a ≡ b

@@ -2,10 +2,11 @@
 use mathlib.Core.Path.{refl}
 use Rattle.model.specs.First.{_▸_, first}
 use Rattle.model.specs.Nets.{entryAt}
-use Rattle.model.specs.Complement.{bounded, complementRow, newPlaces, arcsOf, complement, refusal15, refusal16, sheetLimits, complementRefusal}
+use Rattle.model.specs.Dead.{deadPair, isDead}
+use Rattle.model.specs.Complement.{bounded, complementRow, newPlaces, arcsOf, complement, refusal15, sheetLimits, complementRefusal}
 use Rattle.model.specs.Lists.{joined}
 use Rattle.model.specs.WorkedExamples.{WorkedExamples}
 
 pub worked-examples : WorkedExamples
-unfolding complementRefusal refusal15 refusal16 sheetLimits _▸_ first complement arcsOf newPlaces complementRow bounded joined entryAt
+unfolding complementRefusal refusal15 deadPair isDead sheetLimits _▸_ first complement arcsOf newPlaces complementRow bounded joined entryAt
 worked-examples = record { accepted = refl; complemented = refl }

@@ -1,22 +1,22 @@
 -- The complemented net (document 01, "The complemented net"; source document 000, section 6.2.3 and figure 6.4).
 use Prim.Native.Nat.{ℕ, _+_, _-_, _<_, max}
 use mathlib.Core.Path.{_≡_}
-use mathlib.Core.Bool.{Bool, true, false, cond, not, _&&_, _||_}
+use mathlib.Core.Bool.{Bool, true, false, cond, not, _&&_}
 use mathlib.Core.List.{List, [], _∷_, _++_, map}
 use mathlib.Core.Option.{Option}
 use lib.Dec.{leb, ltb, eqb}
 use lib.ListN.{length, getD, replicate}
 use Rattle.model.specs.declared.Mode.{Mode}
 use Rattle.model.specs.declared.Thing.the-variants.{Net}
-use Rattle.model.specs.declared.Fault.{Fault}
-use Rattle.model.specs.declared.Fault.the-variants.{InhibitedUnbounded, ComplementAbove, NoRoom}
+use Rattle.model.specs.declared.Fault.the-variants.{InhibitedUnbounded, NoRoom}
 use Rattle.model.specs.declared.Refusal.{Refusal}
 use Rattle.model.specs.Refusals.{wrong}
 use Rattle.model.specs.First.{_▸_, onlyIf, lowest}
 use Rattle.model.specs.Lists.{joined, listIf}
-use Rattle.model.specs.Numbers.{ℕ∞, fin, ∞, above, limit}
+use Rattle.model.specs.Numbers.{ℕ∞, fin, ∞}
 use Rattle.model.specs.Rows.{Entry, noArc, Row, Capacities}
 use Rattle.model.specs.Nets.{NetArc, PNet, pairs, modes, pairNo, modeNo, K, count, arcNo, row}
+use Rattle.model.specs.Dead.{isDead}
 
 abbrev pub finite : ℕ∞ → Bool
 finite (fin k) = true
@@ -46,22 +46,22 @@ reserve k ∞ = 0
 abbrev pub complementPre : ℕ → Entry → ℕ
 complementPre k e = max (e .post) (reserve k (e .inhibitor))
 
--- "Post: that number plus the original Pre less the original Post"
-abbrev pub complementPost : ℕ → Entry → ℕ
-complementPost k e = complementPre k e + e .pre - e .post
+-- "Post: that number plus the original Pre less the original Post"; "For a locally dead mode .. each complement Post equal to its complement Pre"
+abbrev pub complementPost : Bool → ℕ → Entry → ℕ
+complementPost dead k e = cond dead (complementPre k e) (complementPre k e + e .pre - e .post)
 
 -- "All K and I become unbounded. Original Pre, Post and first marking stay."
 abbrev pub original : Entry → Entry
 original e = record { pre = e .pre; post = e .post; inhibitor = ∞ }
 
--- what stands at the complement pair where the original has e and its capacity is k; an unbounded pair has none
-abbrev pub complementEntry : ℕ∞ → Entry → Entry
-complementEntry (fin k) e = record { pre = complementPre k e; post = complementPost k e; inhibitor = ∞ }
-complementEntry ∞ e = noArc
+-- what a mode, dead or not, has at the complement pair where at the original it has e and the capacity is k; an unbounded pair has none
+abbrev pub complementEntry : Bool → ℕ∞ → Entry → Entry
+complementEntry dead (fin k) e = record { pre = complementPre k e; post = complementPost dead k e; inhibitor = ∞ }
+complementEntry dead ∞ e = noArc
 
 -- a row over the n originals, then over their complement pairs; beyond those it is never asked
-unfoldable pub complementRow : ℕ → Capacities → Row → Row
-complementRow n K row p = cond (ltb p n) (original (row p)) (complementEntry (K (complemented n K p)) (row (complemented n K p)))
+unfoldable pub complementRow : Bool → ℕ → Capacities → Row → Row
+complementRow dead n K row p = cond (ltb p n) (original (row p)) (complementEntry dead (K (complemented n K p)) (row (complemented n K p)))
 
 -- "one for each place with a finite pair, with as many colours as it has finite pairs"
 unfoldable pub newPlaces : Capacities → List ℕ → List ℕ
@@ -98,26 +98,18 @@ complement net =
       modesOf = net .modesOf;
       capacity = replicate (allPairs net) ∞;
       start = net .start ++ map (λ p. less (K net p) (count (net .start) p)) (boundedPairs net);
-      arcs = arcsOf (modes net) (allPairs net) (λ t. complementRow (pairs net) (K net) (row net t));
+      arcs = arcsOf (modes net) (allPairs net) (λ t. complementRow (isDead net t) (pairs net) (K net) (row net t));
     }
 
--- Refusals of complementing: "net, 15, 16, 10, each at its first arc in order". `offset k` is where the k-th arc stands in the sheet.
-abbrev pub firstArc : PNet → (NetArc → Bool) → (ℕ → Fault) → Option Refusal
-firstArc net test fault = lowest (length (net .arcs)) (λ k. test (arcNo (net .arcs) k)) (λ k. wrong Net (fault k))
-
+-- Refusals of complementing: "net, 15, 16, 10, each at its first arc in order"; 16 "no longer occurs".
 -- "finite I at a pair of unbounded K"
 abbrev pub inhibitsUnbounded : PNet → NetArc → Bool
 inhibitsUnbounded net a = finite (a .entry .inhibitor) && not (finite (K net (a .pair .0)))
 
+-- `offset k` is where the k-th arc stands in the sheet
 unfoldable pub refusal15 : (ℕ → ℕ) → PNet → Option Refusal
-refusal15 offset net = firstArc net (inhibitsUnbounded net) (λ k. InhibitedUnbounded (offset k))
-
--- "a complement number above 1,000,000"
-abbrev pub tooLarge : Entry → Bool
-tooLarge e = above (e .pre) (fin limit) || above (e .post) (fin limit)
-
-unfoldable pub refusal16 : (ℕ → ℕ) → PNet → Option Refusal
-refusal16 offset net = firstArc net (λ a. tooLarge (complementEntry (K net (a .pair .0)) (a .entry))) (λ k. ComplementAbove (offset k))
+refusal15 offset net =
+    lowest (length (net .arcs)) (λ k. inhibitsUnbounded net (arcNo (net .arcs) k)) (λ k. wrong Net (InhibitedUnbounded (offset k)))
 
 -- "complement exceeds the sheet's limits": what is written is counted
 unfoldable pub sheetLimits : PNet → Bool
@@ -126,7 +118,7 @@ sheetLimits net =
 
 -- An output slice that is too short is refused by 10 too, after these.
 unfoldable pub complementRefusal : (ℕ → ℕ) → PNet → Option Refusal
-complementRefusal offset net = refusal15 offset net ▸ refusal16 offset net ▸ onlyIf (not (sheetLimits net)) (wrong Net NoRoom)
+complementRefusal offset net = refusal15 offset net ▸ onlyIf (not (sheetLimits net)) (wrong Net NoRoom)
 
 -- Corresponding markings of a net and of its complement (source document 000, equation 6.7): equal on the original pairs,
 -- and each bounded pair and its complement add up to its capacity.

@@ -83,9 +83,9 @@ pub record Edges : Type 0 where
   -- Post 6, K 5: never enabled; complement Pre 6, for any I and Pre
   pub never : (i : ℕ∞) (pre m : ℕ) → numberAt (fin 5) i pre 6 m ≢ 0
   pub preSix : (i : ℕ∞) (pre : ℕ) → row (complement (edgeNet 5 i pre 6)) (modeNo 0) 1 .pre ≡ 6
-  pub preSixAccepted : complementGives 5 ∞ 0 6 ≡ gives 0 6 0
-  -- K 1,000,000, I 0, Post 0: Pre 0 gives complement Post 1,000,000; Pre 1 gives 16
+  pub preSixAccepted : complementGives 5 ∞ 0 6 ≡ gives 0 6 6
+  -- K 1,000,000, I 0, Post 0: Pre 0 gives complement Post 1,000,000; so does Pre 1, of a locally dead mode
   pub postMost : complementGives 1000000 (fin 0) 0 0 ≡ gives 0 1000000 1000000
-  pub postAbove : complementGives 1000000 (fin 0) 1 0 ≡ gives 16 0 0
+  pub postAbove : complementGives 1000000 (fin 0) 1 0 ≡ gives 0 1000000 1000000
   -- the empty list: the certificate is accepted for the first marking
   pub empty : (net : PNet) → length (net .start) ≡ pairs net → certificateRefusal net [] (net .start) ≡ none

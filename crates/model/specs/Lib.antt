@@ -18,5 +18,6 @@ pub mod Figures
 pub mod Dead
 pub mod Complement
 pub mod DemandThree
+pub mod DeadComplement
 pub mod WorkedExamples
 pub mod Steps

@@ -2,7 +2,7 @@
 -- Each statement is a type; docs/ARCHITECTURE.md names the one term of proofs/ that has it, and the order to read the definitions in.
 use Prim.Native.Nat.{ℕ, suc, _-_, _≤_, _<_}
 use mathlib.Core.Path.{_≡_}
-use mathlib.Core.Bool.{true, false}
+use mathlib.Core.Bool.{Bool, true, false}
 use mathlib.Core.List.{List, [], _∷_, _++_, List·Memᴰ}
 use mathlib.Core.Logic.{_↔_, _⊎_, _≢_}
 use mathlib.Core.Option.{none, some}
@@ -119,10 +119,12 @@ pub record DeadOrAccepted (net : PNet) (t : Mode) : Type 0 where
 abbrev pub DeadOrLive : Type 0
 DeadOrLive = (net : PNet) → WellFormed net → (t : Mode) → DeadOrAccepted net t
 
--- 7. At the complement of a pair of finite K stand K - IK and Pre - Post + K - IK, over the integers: figure 6.4, also where Post is above K.
-pub record Beside (k : ℕ) (e c : Entry) : Type 0 where
+-- 7. At the complement of a pair of finite K stand K - IK and, of a mode that is not dead, Pre - Post + K - IK, over the integers: figure 6.4. A dead mode, which
+-- source document 000 does not name, has K - IK twice.
+pub record Beside (dead : Bool) (k : ℕ) (e c : Entry) : Type 0 where
   pub pre : pos (c .pre) ≡ pos k -ℤ IK k e
-  pub post : pos (c .post) ≡ (pos (e .pre) -ℤ pos (e .post)) +ℤ (pos k -ℤ IK k e)
+  pub post : dead ≡ false → pos (c .post) ≡ (pos (e .pre) -ℤ pos (e .post)) +ℤ (pos k -ℤ IK k e)
+  pub postOfDead : dead ≡ true → c .post ≡ c .pre
   pub inhibitor : c .inhibitor ≡ ∞
 
 module _ (net : PNet) where
@@ -139,7 +141,7 @@ module _ (net : PNet) where
     pub start : Marking net (net .start) → Corresponds net (net .start) (complement net .start)
     pub originals : (t : Mode) (p : ℕ) → t .0 < modes net → p < pairs net → row (complement net) t p ≡ original (row net t p)
     pub besides : (t : Mode) (p k : ℕ) → t .0 < modes net → p < pairs net → K net p ≡ fin k
-        → Beside k (row net t p) (row (complement net) t (complementPair (pairs net) (K net) p))
+        → Beside (isDead net t) k (row net t p) (row (complement net) t (complementPair (pairs net) (K net) p))
 
 abbrev pub Figure64 : Type 0
 Figure64 = (net : PNet) → IsFigure64 net
@@ -151,7 +153,11 @@ onOriginal a = record { mode = a .mode; pair = a .pair; entry = original (a .ent
 
 abbrev pub onComplement : PNet → NetArc → NetArc
 onComplement net a =
-    record { mode = a .mode; pair = pairNo (complementPair (pairs net) (K net) (a .pair .0)); entry = complementEntry (K net (a .pair .0)) (a .entry) }
+    record {
+      mode = a .mode;
+      pair = pairNo (complementPair (pairs net) (K net) (a .pair .0));
+      entry = complementEntry (isDead net (a .mode)) (K net (a .pair .0)) (a .entry);
+    }
 
 abbrev pub ArcByArc : Type 0
 ArcByArc = (net : PNet) → WellFormed net → (b : NetArc)

@@ -1,7 +1,7 @@
 -- Steps (document 02, P1): "a list of 1 to 64 modes, repeats allowed", entered as one. The definitions, then what is promised of them.
 use Prim.Native.Nat.{ℕ, suc, _+_, _≤_, _<_}
 use mathlib.Core.Path.{_≡_}
-use mathlib.Core.Bool.{_||_}
+use mathlib.Core.Bool.{false, _||_}
 use mathlib.Core.List.{List, [], _∷_, map}
 use mathlib.Core.Logic.{_↔_}
 use mathlib.Core.Option.{Option, none, some}
@@ -20,6 +20,7 @@ use Rattle.model.specs.Billington.{Follows}
 use Rattle.model.specs.Nets.{PNet, total, pairs, modes, modeNo, K, count, arcNo, row}
 use Rattle.model.specs.Firing.{stopped, rowRefusal, absent, rooms, modeRefusal, firedRow, fired}
 use Rattle.model.specs.Runs.{run}
+use Rattle.model.specs.Dead.{isDead}
 use Rattle.model.specs.Complement.{complement, complementRefusal, Corresponds}
 use Rattle.model.specs.DemandThree.{Complementable}
 use Rattle.model.specs.Edges.{edgeNet}
@@ -78,6 +79,11 @@ StepsBack = (net : PNet) → Complementable net → (ts : List Mode) (m m′ : L
 abbrev pub StepsForth : Type 0
 StepsForth = (net : PNet) → Complementable net → ((k : ℕ) → k < length (net .arcs) → arcNo (net .arcs) k .entry .inhibitor ≡ ∞)
     → (ts : List Mode) (m m′ : List ℕ) → Corresponds net m m′ → stepRefusal net ts m ≡ none → stepRefusal (complement net) ts m′ ≡ none
+
+-- No member of an accepted step is locally dead.
+abbrev pub StepMembers : Type 0
+StepMembers = (net : PNet) (ts : List Mode) (m : List ℕ) → stepRefusal net ts m ≡ none
+    → (i : ℕ) → i < length ts → isDead net (getD ts i (modeNo 0)) ≡ false
 
 -- 4. "It is false in general": n + 1 times the one mode of a net passes at the count m, and in the complement, where c stands beside m, only n times does.
 abbrev pub times : ℕ → List Mode

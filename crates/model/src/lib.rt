@@ -34,7 +34,8 @@ pub enum Why {
     OverLimit,
 }
 
-// What is wrong: a case for each refusal number and kind of position. A usize is the offset of a byte; 11 to 14 say by how much.
+// What is wrong: a case for each refusal number and kind of position. A usize is the offset of a byte; 11 to 14 say by how much. Number 16 is reserved and has no
+// case: "show that 16 no longer occurs, and keep its number reserved" (document 02).
 pub enum Fault {
     CutShort,
     WrongVersion(usize),
@@ -51,7 +52,6 @@ pub enum Fault {
     NoRoom,
     Stopped(Why, Pair, u32),
     InhibitedUnbounded(usize),
-    ComplementAbove(usize),
     NotOneEach(usize),
     EndsElsewhere(Pair),
 }

@@ -3,8 +3,7 @@ use Prim.Native.Nat.{ℕ, _+_, _-_, _≤_, _<_}
 use mathlib.Core.Path.{_≡_, refl}
 use mathlib.Core.List.{List}
 use mathlib.Core.Logic.{_⊎_, inl, inr, ⊎-elim}
-use lib.ListN.{length, getD, set}
-use lib.Seq.{getD-set-same, getD-set-other}
+use lib.ListN.{length}
 use native.Mathlib.Omega.{arith}
 use native.Mathlib.Nat.{eq-or-lt-of-le}
 use Rattle.model.specs.declared.Mode.{Mode}
@@ -50,15 +49,6 @@ module _ (arcs : List NetArc) where
 
   pub first-ends : (t k : ℕ) → k ≡ length arcs → ModesBelow arcs t k → FirstFrom arcs t k
   first-ends t k e below = record { inside = omega arith; before = below; after = λ j b i. absurd (omega arith) }
-
-  -- the first n entries of a table of starts, and one more
-  abbrev pub Filled : List ℕ → ℕ → Type 0
-  Filled starts n = (t : ℕ) → t < n → FirstFrom arcs t (getD starts t 0)
-
-  pub filled-more : (starts : List ℕ) (t k : ℕ) → t < length starts → Filled starts t → FirstFrom arcs t k → Filled (set starts t k) (t + 1)
-  filled-more starts t k h filled f u l =
-      ⊎-elim (λ (b : u < t). rw (getD-set-other starts t u k 0 (λ e. omega arith)) (filled u b))
-      (λ (q : u ≡ t). rw (q, getD-set-same starts t k 0 h) f) (below-next t u l)
 
   module _ (t : Mode) (start end : ℕ) (starts : FirstFrom arcs (t .0) start) (ends : FirstFrom arcs (t .0 + 1) end) where
     pub in-turn : start ≤ end

@@ -14,7 +14,7 @@ ghost use Rattle.sheets.specs.Decoded.{netOf};
 ghost use Rattle.opened.specs.Shape.{Open, ArcIs, arcOffset};
 ghost use Rattle.opened.specs.Starts.{OwnArc};
 
-// The position of refusals 15 and 16.
+// The position of refusal 15.
 pub fn arc_offset(s: &[u8], net: NetShape, arcs: Segment, i: usize) -> usize
     requires { ⌜ Open (now s) net ⌝ }
     requires { ⌜ OwnArc (netOf (now s) .arcs) arcs i ⌝ }

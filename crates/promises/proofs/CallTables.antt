@@ -24,7 +24,7 @@ use Rattle.model.specs.Nets.{PNet, pairs, pairNo, modeNo, K, count}
 use Rattle.model.specs.Firing.{stops, stoppedBy, stopped, lowestStop, ruleRefusal, rowRefusal, modeRefusal, fired}
 use Rattle.model.specs.Steps.{together, stepRefusal}
 use Rattle.model.specs.Runs.{Outcome, goOn, runFrom, run, elsewhere, endsAt, certificateRefusal}
-use Rattle.model.specs.Complement.{finite, complement, refusal15, refusal16, sheetLimits, complementRefusal}
+use Rattle.model.specs.Complement.{finite, complement, refusal15, sheetLimits, complementRefusal}
 use Rattle.model.proofs.First.{below-or, left-none, then-none, then-assoc, then-under}
 use Rattle.model.proofs.Runs.{runs}
 use Rattle.model.proofs.Decisions.{Decided, by-less, by-at-most, by-equal, by-above, by-not, by-or, by-and, by-other}
@@ -168,14 +168,13 @@ past-limits places pairs arcs =
     (⊎-elim (λ p h. omega (arith, h)) (⊎-elim (λ p h. omega (arith, h)) (λ p h. omega (arith, h))))
 
 room-reads : (s : List ℕ) (room : ℕ) → Reads (roomTable s room) (roomRefusal s room)
-unfolding roomRefusal complementRefusal refusal15 refusal16 sheetLimits
+unfolding roomRefusal complementRefusal refusal15 sheetLimits
 room-reads s room =
     let net = netOf s in
-    subst (Reads _) (four _ _ _ _)
+    subst (Reads _) (sym (then-assoc _ _ _))
     (reads-then (reads-each (length (net .arcs)) (λ k l. reads-plain _ (by-and (by-finite _) (by-unbounded _))))
-    (reads-then (reads-each (length (net .arcs)) (λ k l. reads-plain _ (by-or (by-less limit _) (by-less limit _))))
     (reads-either _ (past-limits (length (complement net .colours)) (pairs (complement net)) (length (complement net .arcs)))
-    (by-less room (length (sheetOf (complement net)))))))
+    (by-less room (length (sheetOf (complement net))))))
 
 pub call-tables : CallTables
 unfolding beginRefusal testRefusal testStepRefusal certifyRefusal figureRefusal changeRefusal deadRefusal complementingRefusal

@@ -20,7 +20,7 @@ use Rattle.model.specs.Refusals.{answer, number, carried}
 use Rattle.model.specs.Runs.{Outcome, runFrom, run, elsewhere, endsAt, certificateRefusal}
 use Rattle.model.specs.Figures.{sum, figure, change}
 use Rattle.model.specs.Dead.{deadPair, isDead, firstDead}
-use Rattle.model.specs.Complement.{bounded, complementRow, newPlaces, arcsOf, complement, refusal15, refusal16, sheetLimits, complementRefusal}
+use Rattle.model.specs.Complement.{bounded, complementRow, newPlaces, arcsOf, complement, refusal15, sheetLimits, complementRefusal}
 use Rattle.model.specs.Lists.{joined, table}
 use Rattle.model.specs.Firing.{stopped, ruleRefusal, rowRefusal, modeRefusal, fired}
 use Rattle.model.specs.Steps.{together, stepRefusal, firedTogether}
@@ -213,11 +213,11 @@ unfolding firstDead deadPair first _▸_ entryAt
 none-dead = refl
 
 complement-passes : (offset : ℕ → ℕ) → complementRefusal offset example ≡ none
-unfolding complementRefusal refusal15 refusal16 sheetLimits complement arcsOf newPlaces complementRow bounded joined entryAt first _▸_
+unfolding complementRefusal refusal15 isDead deadPair sheetLimits complement arcsOf newPlaces complementRow bounded joined entryAt first _▸_
 complement-passes offset = refl
 
 complement-length : length (sheetOf (complement example)) ≡ 91
-unfolding complement arcsOf newPlaces complementRow bounded joined entryAt
+unfolding isDead deadPair first _▸_ complement arcsOf newPlaces complementRow bounded joined entryAt
 complement-length = sheet-size (complement example)
 
 complement-accepted : complementingRefusal own.net (length own.room) ≡ none

@@ -10,8 +10,9 @@ use Rattle.model.proofs.Figure64.{figure-64}
 use Rattle.model.proofs.ArcByArc.{arc-by-arc}
 use Rattle.model.proofs.WorkedExamples.{worked-examples}
 use Rattle.model.proofs.Demand3.{demand3}
+use Rattle.model.proofs.DeadComplement.{never16, dead-in-complement}
 use Rattle.model.proofs.Edges.{starred}
-use Rattle.model.proofs.Steps.{step-rule, step-after, step-of-one}
+use Rattle.model.proofs.Steps.{step-rule, step-after, step-of-one, step-members}
 use Rattle.model.proofs.CorrespondingSteps.{steps-back, steps-forth, step-examples}
 use Rattle.sheets.proofs.Accepted.{well-formed}
 use Rattle.sheets.proofs.Lists.{movements-within, weights-within}
@@ -30,6 +31,7 @@ use Rattle.statement.proofs.TextOfRun.{text-of-run}
 use Rattle.statement.proofs.Example.{printed}
 use Rattle.promises.proofs.TwoRuns.{two-runs}
 use Rattle.promises.proofs.TwoSteps.{two-steps}
+use Rattle.promises.proofs.DeadAsWritten.{dead-as-written}
 use Rattle.promises.proofs.FigureOverRun.{figure-over-run}
 use Rattle.promises.proofs.LiveModes.{live-modes}
 use Rattle.promises.proofs.CallTables.{call-tables}
@@ -59,12 +61,15 @@ promises =
       arcByArc = arc-by-arc;
       workedExamples = worked-examples;
       demand3 = demand3;
+      never16 = never16;
+      deadInComplement = dead-in-complement;
       edges = starred;
       stepRule = step-rule;
       stepAfter = step-after;
       stepOfOne = step-of-one;
       stepsBack = steps-back;
       stepsForth = steps-forth;
+      stepMembers = step-members;
       stepExamples = step-examples;
       acceptedNet = well-formed;
       acceptedMovements = movements-within;
@@ -90,6 +95,7 @@ promises =
       overBytes = over-bytes;
       twoRuns = two-runs;
       twoSteps = two-steps;
+      deadAsWritten = dead-as-written;
       decimals = decimals;
       textOfRun = text-of-run;
       printed = printed;

@@ -13,7 +13,7 @@ use Rattle.model.specs.Numbers.{ℕ∞, fin, ∞, Above, aboveBy, leastOfAll, l
 use Rattle.model.specs.Rows.{Entry}
 use Rattle.model.specs.Nets.{NetArc, PNet, total, pairs, modeNo, K, count, arcNo, row as modeRow}
 use Rattle.model.specs.Firing.{fired}
-use Rattle.model.specs.Complement.{complementEntry, complement}
+use Rattle.model.specs.Complement.{complement}
 use Rattle.heads.specs.Layout.{sheetEnd}
 use Rattle.sheets.specs.Whole.{wholeNet, wholeWeights, wholeMovements}
 use Rattle.sheets.specs.Decoded.{netOf, movementsOf}
@@ -85,7 +85,7 @@ module _ (net : PNet) (ts : List Mode) (m : List ℕ) where
       then each (pairs net) (λ p.
       row (limit < count m p - summedPre p + summedPost p) (carriesBy 14 3 p (count m p - summedPre p + summedPost p - limit)))
 
--- "Complementing: net, 15, 16, 10, each at its first arc in order."
+-- "Complementing: net, 15, 16, 10, each at its first arc in order."; 16 "no longer occurs"
 module _ (s : List ℕ) (room : ℕ) where
   abbrev net : PNet
   net = netOf s
@@ -93,17 +93,11 @@ module _ (s : List ℕ) (room : ℕ) where
   abbrev arc : ℕ → NetArc
   arc k = arcNo (net .arcs) k
 
-  -- what stands at the complement of the arc's pair, where that is bounded
-  abbrev beside : ℕ → Entry
-  beside k = complementEntry (K net (arc k .pair .0)) (arc k .entry)
-
   abbrev pub roomTable : Table
   roomTable =
       -- 15: "finite I at a pair of unbounded K"
       each (length (net .arcs)) (λ k.
       row (((i : ℕ) × (arc k .entry .inhibitor ≡ fin i)) × (K net (arc k .pair .0) ≡ ∞)) (carries 15 0 (arcOffset s k)))
-      -- 16: "a complement number above 1,000,000"
-      then each (length (net .arcs)) (λ k. row ((limit < beside k .pre) ⊎ (limit < beside k .post)) (carries 16 0 (arcOffset s k)))
       -- 10: "complement exceeds the sheet's limits, or the output slice is shorter than it"
       then row
       (((64 < length (complement net .colours)) ⊎ (256 < pairs (complement net)) ⊎ (2048 < length (complement net .arcs)))

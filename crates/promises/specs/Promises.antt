@@ -3,6 +3,7 @@ use Rattle.model.specs.Promises as model
 use Rattle.model.specs.Edges.{Edges}
 use Rattle.model.specs.WorkedExamples.{WorkedExamples}
 use Rattle.model.specs.DemandThree.{Demand3}
+use Rattle.model.specs.DeadComplement.{Never16, DeadInComplement}
 use Rattle.model.specs.Steps as step
 use Rattle.sheets.specs.Accepted.{AcceptedNet, AcceptedMovements, AcceptedWeights}
 use Rattle.lists.specs.Promises.{SignedWeights}
@@ -18,6 +19,7 @@ use Rattle.statement.specs.Promises.{TextOfRun}
 use Rattle.statement.specs.Example.{Printed}
 use Rattle.promises.specs.TwoRuns.{TwoRuns}
 use Rattle.promises.specs.TwoSteps.{TwoSteps}
+use Rattle.promises.specs.DeadAsWritten.{DeadAsWritten}
 use Rattle.promises.specs.FigureOverRun.{FigureOverRun}
 use Rattle.promises.specs.LiveModes.{LiveModes}
 use Rattle.promises.specs.CallTables.{CallTables}
@@ -46,12 +48,15 @@ pub record Promises : Type 0 where
   pub arcByArc : model.ArcByArc
   pub workedExamples : WorkedExamples
   pub demand3 : Demand3
+  pub never16 : Never16
+  pub deadInComplement : DeadInComplement
   pub edges : Edges
   pub stepRule : step.StepRule
   pub stepAfter : step.StepAfter
   pub stepOfOne : step.StepOfOne
   pub stepsBack : step.StepsBack
   pub stepsForth : step.StepsForth
+  pub stepMembers : step.StepMembers
   pub stepExamples : step.StepExamples
   -- of sheets, read and written
   pub acceptedNet : AcceptedNet
@@ -79,6 +84,7 @@ pub record Promises : Type 0 where
   pub overBytes : OverBytes
   pub twoRuns : TwoRuns
   pub twoSteps : TwoSteps
+  pub deadAsWritten : DeadAsWritten
   pub decimals : Decimals
   pub textOfRun : TextOfRun
   pub printed : Printed

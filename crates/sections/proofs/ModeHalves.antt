@@ -7,6 +7,7 @@ use native.Mathlib.Omega.{arith}
 use Rattle.model.specs.declared.Mode.{Mode}
 use Rattle.model.specs.Nets.{NetArc, PNet, pairs, modes, modeNo, K, row}
 use Rattle.model.specs.WellFormed.{WellFormed}
+use Rattle.model.specs.Dead.{isDead}
 use Rattle.model.specs.Complement.{arcsOf, complement}
 use Rattle.model.specs.Lists.{joined}
 use Rattle.model.proofs.Joined.{joined-ext}
@@ -31,7 +32,7 @@ module _ (net : PNet) where
     row-halves : rowArcs net t ≡ joined count (λ i. keptHalf Original (start + i)) ++ joined count (λ i. keptHalf Complement (start + i))
     unfolding rowArcs modeArcs
     row-halves =
-        mode-by-arcs (modeNo t) (pairs net) (K net) (row net (modeNo t)) count _ (mode-lists net wf (modeNo t) start count arcs)
+        mode-by-arcs (modeNo t) (isDead net (modeNo t)) (pairs net) (K net) (row net (modeNo t)) count _ (mode-lists net wf (modeNo t) start count arcs)
         ∙ ap₂ (λ xs ys. xs ++ ys) (joined-ext count _ _ (λ i h. rw (← arcs .own i h))) (joined-ext count _ _ (λ i h. rw (← arcs .own i h)))
 
     row-bytes : rowBytes net t ≡ joined 2 (λ h. joined count (halfBytes net (halfNo h) start))

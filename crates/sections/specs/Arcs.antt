@@ -4,7 +4,8 @@ use Prim.Native.Nat.{ℕ, zero, suc, _+_}
 use mathlib.Core.Bool.{Bool, true, not, _&&_}
 use mathlib.Core.List.{List, flatMap}
 use Rattle.model.specs.Nets.{NetArc, PNet, pairs, modeNo, K, arcNo, row}
-use Rattle.model.specs.Complement.{complementEntry, complementRow, written, allPairs, inhibitsUnbounded, tooLarge}
+use Rattle.model.specs.Dead.{isDead}
+use Rattle.model.specs.Complement.{complementRow, written, allPairs, inhibitsUnbounded}
 use Rattle.model.specs.Promises.{onOriginal, onComplement}
 use Rattle.model.specs.Lists.{joined}
 use Rattle.written.specs.Written.{arcBytes}
@@ -29,11 +30,9 @@ every zero test = true
 every (suc n) test = every n test && test n
 
 module _ (net : PNet) where
-  -- neither 15 nor 16 stops the k-th arc
+  -- 15 does not stop the k-th arc
   unfoldable pub clearAt : ℕ → Bool
-  clearAt k =
-      let a = arcNo (net .arcs) k in
-      not (inhibitsUnbounded net a) && not (tooLarge (complementEntry (K net (a .pair .0)) (a .entry)))
+  clearAt k = not (inhibitsUnbounded net (arcNo (net .arcs) k))
 
   -- a half of what an arc of the net becomes
   abbrev pub halfOf : Half → NetArc → NetArc
@@ -50,7 +49,7 @@ module _ (net : PNet) where
 
   -- the complement's arcs of one mode
   unfoldable pub rowArcs : ℕ → List NetArc
-  rowArcs t = joined (allPairs net) (λ p. written (modeNo t) p (complementRow (pairs net) (K net) (row net (modeNo t)) p))
+  rowArcs t = joined (allPairs net) (λ p. written (modeNo t) p (complementRow (isDead net (modeNo t)) (pairs net) (K net) (row net (modeNo t)) p))
 
   abbrev pub rowBytes : ℕ → List ℕ
   rowBytes t = flatMap arcBytes (rowArcs t)

@@ -15,21 +15,24 @@ use written::put_arc;
 ghost use mathlib.Core.Path.{_≡_};
 ghost use mathlib.Core.List.{flatMap};
 ghost use Prim.Native.Nat.{_+_};
+ghost use Rattle.model.specs.Dead.{isDead};
 ghost use Rattle.model.specs.Complement.{complement};
 ghost use Rattle.model.specs.Lists.{joined};
 ghost use Rattle.sheets.specs.Decoded.{netOf, netArc};
 ghost use Rattle.opened.specs.Shape.{Open};
 ghost use Rattle.opened.specs.Starts.{StartsAre, ModeArcs, OwnArc};
 ghost use Rattle.written.specs.Written.{arcBytes};
+ghost use Rattle.dead.specs.DeadModes.{DeadAre};
 ghost use Rattle.halves.specs.Bounded.{BelowAre};
 ghost use Rattle.sections.specs.Arcs.{keptBytes, halfArc, halfNo, halfBytes, rowBytes};
 ghost use Rattle.halves.specs.Puts.{Room, Puts};
 
-// A half of what the i-th arc of a mode becomes.
+// A half of what the i-th arc of a mode becomes, dead or not.
 pub(crate) fn half_arc(
     s: &[u8],
     net: NetShape,
     below: &[u16; 257],
+    dead: bool,
     half: Half,
     arcs: Segment,
     i: usize,
@@ -37,6 +40,7 @@ pub(crate) fn half_arc(
     requires { ⌜ Open (now s) net ⌝ }
     requires { ⌜ BelowAre (netOf (now s)) (now below) ⌝ }
     requires { ⌜ OwnArc (netOf (now s) .arcs) arcs i ⌝ }
+    requires { ⌜ dead ≡ isDead (netOf (now s)) (arcs .mode) ⌝ }
     ensures { λ r. ⌜ netArc r ≡ halfArc (netOf (now (s .entry))) half (arcs .start + i) ⌝ }
 {
     let a = arc(s, net, arcs, i);
@@ -45,6 +49,7 @@ pub(crate) fn half_arc(
         Half::Original => original_arc(a),
         Half::Complement => complement_arc(
             a,
+            dead,
             capacity(s, net, pair),
             complement_pair(net.pairs, below, pair),
         ),
@@ -66,6 +71,7 @@ fn put_half_arc(
     s: &[u8],
     net: NetShape,
     below: &[u16; 257],
+    dead: bool,
     half: Half,
     arcs: Segment,
     i: usize,
@@ -75,10 +81,11 @@ fn put_half_arc(
     requires { ⌜ Open (now s) net ⌝ }
     requires { ⌜ BelowAre (netOf (now s)) (now below) ⌝ }
     requires { ⌜ OwnArc (netOf (now s) .arcs) arcs i ⌝ }
+    requires { ⌜ dead ≡ isDead (netOf (now s)) (arcs .mode) ⌝ }
     requires { ⌜ Room (now out) at (keptBytes (halfArc (netOf (now s)) half (arcs .start + i))) ⌝ }
     ensures { λ r. ⌜ Puts (now (out .entry)) at (keptBytes (halfArc (netOf (now (s .entry))) half (arcs .start + i))) (now (out .exit)) r ⌝ }
 {
-    put_kept(out, at, half_arc(s, net, below, half, arcs, i))
+    put_kept(out, at, half_arc(s, net, below, dead, half, arcs, i))
 }
 
 // A half of what the arcs of a mode become.
@@ -86,6 +93,7 @@ fn put_half_arcs(
     s: &[u8],
     net: NetShape,
     below: &[u16; 257],
+    dead: bool,
     half: Half,
     arcs: Segment,
     out: &mut [u8],
@@ -94,6 +102,7 @@ fn put_half_arcs(
     requires { ⌜ Open (now s) net ⌝ }
     requires { ⌜ BelowAre (netOf (now s)) (now below) ⌝ }
     requires { ⌜ ModeArcs (netOf (now s) .arcs) (arcs .mode) (arcs .start) (arcs .count) ⌝ }
+    requires { ⌜ dead ≡ isDead (netOf (now s)) (arcs .mode) ⌝ }
     requires { ⌜ Room (now out) at (joined (arcs .count) (halfBytes (netOf (now s)) half (arcs .start))) ⌝ }
     ensures { λ r. ⌜ Puts (now (out .entry)) at (joined (arcs .count) (halfBytes (netOf (now (s .entry))) half (arcs .start))) (now (out .exit)) r ⌝ }
 {
@@ -101,7 +110,7 @@ fn put_half_arcs(
     let mut next = at;
     let mut i = 0;
     while i < count {
-        next = put_half_arc(s, net, below, half, arcs, i, out, next);
+        next = put_half_arc(s, net, below, dead, half, arcs, i, out, next);
         i += 1;
     }
     next
@@ -122,6 +131,7 @@ fn put_mode(
     s: &[u8],
     net: NetShape,
     below: &[u16; 257],
+    dead: bool,
     arcs: Segment,
     out: &mut [u8],
     at: usize,
@@ -129,13 +139,14 @@ fn put_mode(
     requires { ⌜ Open (now s) net ⌝ }
     requires { ⌜ BelowAre (netOf (now s)) (now below) ⌝ }
     requires { ⌜ ModeArcs (netOf (now s) .arcs) (arcs .mode) (arcs .start) (arcs .count) ⌝ }
+    requires { ⌜ dead ≡ isDead (netOf (now s)) (arcs .mode) ⌝ }
     requires { ⌜ Room (now out) at (rowBytes (netOf (now s)) (arcs .mode .0)) ⌝ }
     ensures { λ r. ⌜ Puts (now (out .entry)) at (rowBytes (netOf (now (s .entry))) (arcs .mode .0)) (now (out .exit)) r ⌝ }
 {
     let mut next = at;
     let mut h = 0;
     while h < 2 {
-        next = put_half_arcs(s, net, below, half_no(h), arcs, out, next);
+        next = put_half_arcs(s, net, below, dead, half_no(h), arcs, out, next);
         h += 1;
     }
     next
@@ -146,12 +157,14 @@ pub fn put_arcs(
     net: NetShape,
     starts: &[u16; 257],
     below: &[u16; 257],
+    dead: &[bool; 256],
     out: &mut [u8],
     at: usize,
 ) -> usize
     requires { ⌜ Open (now s) net ⌝ }
     requires { ⌜ StartsAre (netOf (now s) .arcs) (now starts) ⌝ }
     requires { ⌜ BelowAre (netOf (now s)) (now below) ⌝ }
+    requires { ⌜ DeadAre (netOf (now s)) (now dead) ⌝ }
     requires { ⌜ Room (now out) at (flatMap arcBytes (complement (netOf (now s)) .arcs)) ⌝ }
     ensures { λ r. ⌜ Puts (now (out .entry)) at (flatMap arcBytes (complement (netOf (now (s .entry))) .arcs)) (now (out .exit)) r ⌝ }
 {
@@ -163,6 +176,7 @@ pub fn put_arcs(
             s,
             net,
             below,
+            dead[t],
             arcs_of(s, net, starts, Mode(t as u16)),
             out,
             next,

@@ -1,8 +1,6 @@
-// One pass over the arcs before anything is written: how many the complement has, and whether 15 or 16 stops it at none.
+// One pass over the arcs before anything is written: how many the complement has, and whether 15 stops it at none.
 use crate::arcs::half_arc;
-use halves::entry::complement_arc;
 use halves::entry::is_blank;
-use halves::entry::too_large;
 use halves::half::Half;
 use model::Arc;
 use model::Mode;
@@ -17,15 +15,17 @@ ghost use mathlib.Core.Bool.{_&&_};
 ghost use mathlib.Core.List.{_++_};
 ghost use Prim.Native.Nat.{_+_, _*_, _≤_};
 ghost use lib.ListN.{length};
+ghost use Rattle.model.specs.Dead.{isDead};
 ghost use Rattle.model.specs.Complement.{complement};
 ghost use Rattle.sheets.specs.Decoded.{netOf, netArc};
 ghost use Rattle.opened.specs.Shape.{Open};
 ghost use Rattle.opened.specs.Starts.{StartsAre, ModeArcs, OwnArc};
 ghost use Rattle.halves.specs.declared.half.Half.the-variants.{Original, Complement};
+ghost use Rattle.dead.specs.DeadModes.{DeadAre};
 ghost use Rattle.halves.specs.Bounded.{BelowAre};
 ghost use Rattle.sections.specs.Arcs.{kept, halfArc, rowArcs, clearAt, every};
 
-// How many arcs there are to write, and whether neither 15 nor 16 stops an arc.
+// How many arcs there are to write, and whether 15 stops no arc.
 pub struct Surveyed {
     pub arcs: usize,
     pub clear: bool,
@@ -42,18 +42,26 @@ fn count_kept(arc: Arc) -> usize
 }
 
 // How many arcs the i-th of a mode becomes.
-fn count_halves(s: &[u8], net: NetShape, below: &[u16; 257], arcs: Segment, i: usize) -> usize
+fn count_halves(
+    s: &[u8],
+    net: NetShape,
+    below: &[u16; 257],
+    dead: bool,
+    arcs: Segment,
+    i: usize,
+) -> usize
     requires { ⌜ Open (now s) net ⌝ }
     requires { ⌜ BelowAre (netOf (now s)) (now below) ⌝ }
     requires { ⌜ OwnArc (netOf (now s) .arcs) arcs i ⌝ }
+    requires { ⌜ dead ≡ isDead (netOf (now s)) (arcs .mode) ⌝ }
     ensures { λ r. ⌜ (r ≡ length (kept (halfArc (netOf (now (s .entry))) Original (arcs .start + i)) ++ kept (halfArc (netOf (now (s .entry))) Complement (arcs .start + i)))) × (r ≤ 2) ⌝ }
 {
-    let original = half_arc(s, net, below, Half::Original, arcs, i);
-    let complement = half_arc(s, net, below, Half::Complement, arcs, i);
+    let original = half_arc(s, net, below, dead, Half::Original, arcs, i);
+    let complement = half_arc(s, net, below, dead, Half::Complement, arcs, i);
     count_kept(original) + count_kept(complement)
 }
 
-// Neither 15 nor 16 stops the i-th arc of a mode.
+// 15 does not stop the i-th arc of a mode: it has a finite K or no finite I.
 fn arc_clear(s: &[u8], net: NetShape, arcs: Segment, i: usize) -> bool
     requires { ⌜ Open (now s) net ⌝ }
     requires { ⌜ OwnArc (netOf (now s) .arcs) arcs i ⌝ }
@@ -61,9 +69,8 @@ fn arc_clear(s: &[u8], net: NetShape, arcs: Segment, i: usize) -> bool
 {
     let a = arc(s, net, arcs, i);
     let pair = a.pair;
-    let most = capacity(s, net, pair);
-    if is_finite(most) {
-        return !too_large(complement_arc(a, most, pair));
+    if is_finite(capacity(s, net, pair)) {
+        return true;
     }
     !is_finite(a.inhibitor)
 }
@@ -77,10 +84,11 @@ fn both(this: bool, that: bool) -> bool
     false
 }
 
-fn survey_mode(s: &[u8], net: NetShape, below: &[u16; 257], arcs: Segment) -> Surveyed
+fn survey_mode(s: &[u8], net: NetShape, below: &[u16; 257], dead: bool, arcs: Segment) -> Surveyed
     requires { ⌜ Open (now s) net ⌝ }
     requires { ⌜ BelowAre (netOf (now s)) (now below) ⌝ }
     requires { ⌜ ModeArcs (netOf (now s) .arcs) (arcs .mode) (arcs .start) (arcs .count) ⌝ }
+    requires { ⌜ dead ≡ isDead (netOf (now s)) (arcs .mode) ⌝ }
     ensures { λ r. ⌜ (r .arcs ≡ length (rowArcs (netOf (now (s .entry))) (arcs .mode .0))) × (r .arcs ≤ 2 * arcs .count) × (r .clear ≡ every (arcs .count) (λ i. clearAt (netOf (now (s .entry))) (arcs .start + i))) ⌝ }
 {
     let end = arcs.count;
@@ -88,17 +96,24 @@ fn survey_mode(s: &[u8], net: NetShape, below: &[u16; 257], arcs: Segment) -> Su
     let mut clear = true;
     let mut i = 0;
     while i < end {
-        count += count_halves(s, net, below, arcs, i);
+        count += count_halves(s, net, below, dead, arcs, i);
         clear = both(clear, arc_clear(s, net, arcs, i));
         i += 1;
     }
     Surveyed { arcs: count, clear }
 }
 
-pub fn survey(s: &[u8], net: NetShape, starts: &[u16; 257], below: &[u16; 257]) -> Surveyed
+pub fn survey(
+    s: &[u8],
+    net: NetShape,
+    starts: &[u16; 257],
+    below: &[u16; 257],
+    dead: &[bool; 256],
+) -> Surveyed
     requires { ⌜ Open (now s) net ⌝ }
     requires { ⌜ StartsAre (netOf (now s) .arcs) (now starts) ⌝ }
     requires { ⌜ BelowAre (netOf (now s)) (now below) ⌝ }
+    requires { ⌜ DeadAre (netOf (now s)) (now dead) ⌝ }
     ensures { λ r. ⌜ (r .arcs ≡ length (complement (netOf (now (s .entry))) .arcs)) × (r .arcs ≤ 4096) × (r .clear ≡ every (length (netOf (now (s .entry)) .arcs)) (clearAt (netOf (now (s .entry))))) ⌝ }
 {
     let modes = net.modes;
@@ -106,7 +121,13 @@ pub fn survey(s: &[u8], net: NetShape, starts: &[u16; 257], below: &[u16; 257]) 
     let mut clear = true;
     let mut t = 0;
     while t < modes {
-        let one = survey_mode(s, net, below, arcs_of(s, net, starts, Mode(t as u16)));
+        let one = survey_mode(
+            s,
+            net,
+            below,
+            dead[t],
+            arcs_of(s, net, starts, Mode(t as u16)),
+        );
         count += one.arcs;
         clear = both(clear, one.clear);
         t += 1;

@@ -66,7 +66,6 @@ pub fn line_of(fault: Fault) -> Line
         Fault::NoRoom => says(10, 0),
         Fault::Stopped(why, pair, by) => stop_line(why, pair, by),
         Fault::InhibitedUnbounded(at) => says(15, at),
-        Fault::ComplementAbove(at) => says(16, at),
         Fault::NotOneEach(at) => says(17, at),
         Fault::EndsElsewhere(pair) => says(18, pair.0 as usize),
     }

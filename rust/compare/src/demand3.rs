@@ -1,5 +1,6 @@
 //! A net and its complement: what docs/RULES.md says of the two, for any list of movements and any step.
 
+use pnet::Mode;
 use reference::build::{OPEN, PlainArc, PlainNet, movements};
 
 use crate::case::walk;
@@ -12,6 +13,7 @@ pub fn in_step(same: &mut Same, random: &mut Random, style: Style, net: &PlainNe
     let sheet = net.sheet();
     let Some(complement) = same.complement(&sheet, pnet::LARGEST_NET) else { return false };
     assert_eq!(guarded::read_net(&complement), Ok(&[][..]), "{}: the complement of {net:?}", same.part);
+    no_mode_is_dead(same, net, &sheet, &complement);
     let first: Vec<u32> = net.pairs.iter().map(|&(_, count)| count).collect();
     assert_eq!(guarded::first_marking(&complement), Ok(completed(net, &first)), "{}: {net:?}", same.part);
     let other: Vec<u32> =
@@ -47,7 +49,34 @@ fn one(
     if other.3 > answer.3 {
         same.hits.value("by more in the complement");
     }
+    if guarded::is_dead(sheet, Mode(mode)) == Ok(true) {
+        assert_eq!(other.0, 11, "{of}, which is dead");
+        same.hits.value("dead, and 11 in the complement");
+    }
     after
+}
+
+/// No mode is locally dead in a complement, and no number there is above 1,000,000, though a dead mode's would be by the rule of live ones.
+fn no_mode_is_dead(same: &mut Same, net: &PlainNet, sheet: &[u8], complement: &[u8]) {
+    let of = format!("{}: the complement of {net:?}", same.part);
+    assert_eq!(guarded::first_dead(complement), Ok(None), "{of}");
+    let arcs = guarded::size(complement).expect("it was read").arcs;
+    for arc in complement[complement.len() - 16 * arcs..].chunks(16) {
+        assert!(
+            arc[4..12].chunks(4).all(|number| number <= &1_000_000u32.to_be_bytes()[..]),
+            "{of}: {arc:?}"
+        );
+        assert_eq!(arc[12..], [255; 4], "{of}: {arc:?}");
+    }
+    let as_live = |arc: &&PlainArc| {
+        let capacity = net.pairs[usize::from(arc.pair)].0;
+        capacity != OPEN
+            && arc.post.max(capacity.saturating_sub(arc.inhibitor)) + arc.pre - arc.post > 1_000_000
+    };
+    for arc in net.arcs.iter().filter(as_live) {
+        assert_eq!(guarded::is_dead(sheet, Mode(arc.mode)), Ok(true), "{of}: {arc:?}");
+        same.hits.value("dead, and a number kept within 1,000,000");
+    }
 }
 
 /// Movement by movement, then both lists as one run.

@@ -64,7 +64,7 @@ const STOPPED: &[Told] = &[(11, 3), (12, 3), (13, 3), (14, 3)];
 const MOVEMENT: &[Told] = &[(6, 2), (11, 2), (12, 2), (13, 2), (14, 2)];
 const ELSEWHERE: &[Told] = &[(18, 3)];
 const NO_ROOM: &[Told] = &[(10, 0)];
-const COMPLEMENT: &[Told] = &[(15, 0), (16, 0), (10, 0)];
+const COMPLEMENT: &[Told] = &[(15, 0), (10, 0)];
 
 /// Every refusal that docs/RULES.md lets a call give.
 fn refusals(call: Call) -> Vec<Told> {
@@ -93,7 +93,7 @@ pub struct Hits {
     runs: usize,
     whole: usize,
     longest: usize,
-    /// Values that are no numbers: yes, no, a mode named, none named; what a search for a marking found; what a text is of; by which of a net and its complement a step is accepted; that a complement refuses by more than its net.
+    /// Values that are no numbers: yes, no, a mode named, none named; what a search for a marking found; what a text is of; by which of a net and its complement a step is accepted; that a complement refuses by more than its net; what a dead mode is there.
     values: BTreeMap<&'static str, usize>,
     /// Refusals by an amount above 1, by their number.
     by_more: BTreeMap<u64, usize>,
@@ -154,6 +154,8 @@ impl Hits {
             "step of both",
             "step without an inhibitor",
             "by more in the complement",
+            "dead, and 11 in the complement",
+            "dead, and a number kept within 1,000,000",
         ] {
             if self.values.get(value).copied().unwrap_or(0) < ENOUGH {
                 wants.push(format!("the value '{value}' came up too rarely"));

@@ -34,7 +34,7 @@ pub enum Fault {
     OverLimit,
     /// 15: a finite I stands at a pair of unbounded K.
     InhibitedUnbounded,
-    /// 16: a complement number is above 1,000,000.
+    /// 16: kept, and given by no call: a complement number is never above 1,000,000.
     ComplementAbove,
     /// 17: the marking or the weights are not one for each pair.
     NotOneEach,

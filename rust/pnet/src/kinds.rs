@@ -14,7 +14,7 @@ pub struct Mode(pub u16);
 #[derive(Clone, Copy, Debug, PartialEq, Eq, PartialOrd, Ord, Hash)]
 #[repr(u8)]
 pub enum Thing {
-    /// The net; also what a complement cannot have (10, 15, 16), and any number above 18.
+    /// The net; also what a complement cannot have (10, 15), and any number above 18.
     Net = 0,
     /// The weights.
     Weights = 1,

@@ -61,8 +61,7 @@ pub enum Refusal {
     NewCount = 14,
     /// "Finite I at a pair of unbounded K."
     UnboundedCapacity = 15,
-    /// "A complement number above 1,000,000."
-    ComplementNumber = 16,
+    // 16 is given no more: "show that 16 no longer occurs, and keep its number reserved".
     /// "Marking or weights not one for each pair."
     NotEachPair = 17,
     /// "Certificate ends at another marking."

@@ -4,32 +4,26 @@ use crate::answer::{Answer, Refusal, Thing};
 use crate::arc::{Arc, Flow};
 use crate::bound::Bound;
 use crate::build::{PlainArc, PlainNet};
+use crate::dead::is_dead_mode;
 use crate::kinds::Pair;
-use crate::limits::{ARCS, LARGEST, PLACES, TOTAL, UNBOUNDED};
+use crate::limits::{ARCS, PLACES, TOTAL, UNBOUNDED};
 use crate::net::Net;
 use crate::net_sheet::whole_net;
 
 /// Writes the complement's sheet: "the call returns the length written and touches no byte after it".
 pub fn complement(net: &[u8], output: &mut [u8]) -> Result<usize, Answer> {
     let net = whole_net(net)?;
-    // "Complementing: net, 15, 16, 10, each at its first arc in order."
-    refuse_first(&net, Refusal::UnboundedCapacity, |arc| {
+    // Complementing: net, 15 at its first arc, 10; "15 is still given, for a dead mode too".
+    let inhibits_unbounded = |arc: &&Arc| {
         net.capacity[arc.pair.index()] == Bound::Unbounded && arc.flow.inhibitor != Bound::Unbounded
-    })?;
-    refuse_first(&net, Refusal::ComplementNumber, |arc| {
-        complement_flow(&net, arc).is_some_and(|(pre, post)| pre.max(post) > LARGEST)
-    })?;
+    };
+    if let Some(arc) = net.arcs.iter().find(inhibits_unbounded) {
+        return Err(Answer::refused(Refusal::UnboundedCapacity, Thing::Net, arc.offset));
+    }
     let sheet = sheet_within_limits(&complemented(&net))?;
     let place = output.get_mut(..sheet.len()).ok_or(no_room())?;
     place.copy_from_slice(&sheet);
     Ok(sheet.len())
-}
-
-fn refuse_first(net: &Net, refusal: Refusal, fault: impl Fn(&Arc) -> bool) -> Result<(), Answer> {
-    match net.arcs.iter().find(|arc| fault(arc)) {
-        Some(arc) => Err(Answer::refused(refusal, Thing::Net, arc.offset)),
-        None => Ok(()),
-    }
 }
 
 /// "10: complement exceeds the sheet's limits, or the output slice is shorter than it."
@@ -80,11 +74,12 @@ fn new_places(net: &Net) -> Vec<u16> {
 /// Every arc of the complement that is not blank, rising by mode, then pair.
 fn complement_arcs(net: &Net) -> Vec<PlainArc> {
     let mut arcs = Vec::new();
+    let dead: Vec<bool> = net.all_modes().map(|mode| is_dead_mode(net, mode)).collect();
     for arc in &net.arcs {
         let Flow { pre, post, .. } = arc.flow;
         // "Original Pre, Post and first marking stay."
         arcs.push(PlainArc { mode: arc.mode.0, pair: arc.pair.0, pre, post, inhibitor: UNBOUNDED });
-        if let Some((pre, post)) = complement_flow(net, arc) {
+        if let Some((pre, post)) = complement_flow(net, arc, dead[arc.mode.index()]) {
             let pair = complement_pair(net, arc.pair).0;
             arcs.push(PlainArc { mode: arc.mode.0, pair, pre, post, inhibitor: UNBOUNDED });
         }
@@ -101,8 +96,8 @@ fn complement_pair(net: &Net, pair: Pair) -> Pair {
     Pair::at(net.pair_count() + before.iter().filter(|&&capacity| capacity != Bound::Unbounded).count())
 }
 
-/// Pre and Post on the complement pair, where the arc's pair has one.
-fn complement_flow(net: &Net, arc: &Arc) -> Option<(u32, u32)> {
+/// Pre and Post on the complement pair, where the arc's pair has one; whether the arc's mode is locally dead is told.
+fn complement_flow(net: &Net, arc: &Arc, dead: bool) -> Option<(u32, u32)> {
     let Bound::Finite(capacity) = net.capacity[arc.pair.index()] else { return None };
     // "K less I, or 0 where I ≥ K or unbounded."
     let reserved = match arc.flow.inhibitor {
@@ -111,5 +106,7 @@ fn complement_flow(net: &Net, arc: &Arc) -> Option<(u32, u32)> {
     };
     // "Pre: the larger of Post and that"; "Post: that number plus the original Pre less the original Post".
     let pre = arc.flow.post.max(reserved);
-    Some((pre, pre + arc.flow.pre - arc.flow.post))
+    // "For a locally dead mode write each complement Post equal to its complement Pre."
+    let post = if dead { pre } else { pre + arc.flow.pre - arc.flow.post };
+    Some((pre, post))
 }

@@ -13,14 +13,19 @@ use crate::net_sheet::whole_net;
 pub fn is_dead(net: &[u8], mode: u16) -> Result<bool, Answer> {
     let net = whole_net(net)?;
     check_mode(&net, Mode(mode), Thing::Argument)?;
-    Ok(lowest_dead_pair(&net, Mode(mode)).is_some())
+    Ok(is_dead_mode(&net, Mode(mode)))
+}
+
+/// Whether a mode of the net is locally dead.
+pub fn is_dead_mode(net: &Net, mode: Mode) -> bool {
+    lowest_dead_pair(net, mode).is_some()
 }
 
 /// "Another takes a net and gives its lowest locally dead mode with the lowest pair that makes it so,
 /// or none."
 pub fn first_dead(net: &[u8]) -> Result<Option<(Mode, Pair)>, Answer> {
     let net = whole_net(net)?;
-    for mode in (0..).map(Mode).take(net.mode_count()) {
+    for mode in net.all_modes() {
         if let Some(pair) = lowest_dead_pair(&net, mode) {
             return Ok(Some((mode, pair)));
         }

@@ -30,6 +30,11 @@ impl Net {
         self.modes.iter().map(|&modes| usize::from(modes)).sum()
     }
 
+    /// The modes in the order of their numbers.
+    pub fn all_modes(&self) -> impl Iterator<Item = Mode> {
+        (0..).map(Mode).take(self.mode_count())
+    }
+
     /// Pre, Post and I of a mode at every pair, in the order of the pairs.
     pub fn flows(&self, mode: Mode) -> Vec<Flow> {
         let mut flows = vec![BLANK; self.pair_count()];

@@ -3,7 +3,7 @@
 mod support;
 
 use reference::build::{OPEN, PlainArc, PlainNet, arc, movements};
-use reference::{Answer, certify, complement, fire, is_dead, read_net, test};
+use reference::{Answer, certify, fire, is_dead, read_net, test};
 use support::*;
 
 /// One pair of capacity K and one mode with one arc.
@@ -77,18 +77,20 @@ fn post_above_the_capacity_is_never_enabled() {
     for count in 0..=5 {
         assert_eq!(tried(&net, count), no(12, u64::from(count) + 1));
     }
-    assert_eq!(complement_arc(&net), (6, 0));
+    // The mode is dead: complement Post is complement Pre.
+    assert_eq!(complement_arc(&net), (6, 6));
     assert_eq!(is_dead(&net, 0), Ok(true));
 }
 
 #[test]
 fn complement_numbers_end_at_a_million() {
     assert_eq!(complement_arc(&one(1_000_000, 0, 0, 0)), (1_000_000, 1_000_000));
-    let net = PlainNet::plain(1, &[(1_000_000, 0)], &[arc(0, 0, 1, 0, 0)]);
-    let mut output = [170; 200];
-    let answer = complement(&net.sheet(), &mut output);
-    assert_eq!(answer, Err(refused(16, NET, net.arc_offset(0))));
-    assert_eq!(output, [170; 200]);
+    // "The starred case that gave 16 now gives complement Post 1,000,000."
+    assert_eq!(complement_arc(&one(1_000_000, 1, 0, 0)), (1_000_000, 1_000_000));
+    assert_eq!(is_dead(&one(1_000_000, 1, 0, 0), 0), Ok(true));
+    // A live mode's numbers are at most K.
+    assert_eq!(complement_arc(&one(1_000_000, 999_999, 1, OPEN)), (1, 999_999));
+    assert_eq!(complement_arc(&one(1_000_000, 1, 0, 1)), (999_999, 1_000_000));
 }
 
 #[test]

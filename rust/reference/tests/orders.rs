@@ -207,13 +207,17 @@ fn crowded(arcs: &[PlainArc]) -> PlainNet {
 }
 
 #[test]
-fn complementing_net_15_16_then_10() {
+fn complementing_net_15_then_10() {
+    // A dead mode, of which a number would pass 1,000,000 if it were written as a live one's.
     let (finite, above) = (arc(1, 0, 0, 0, 3), arc(0, 1, 1, 0, 0));
     let answer = |net: &PlainNet| complement(&net.sheet(), &mut []);
     let both = crowded(&[above, finite]);
     assert_eq!(answer(&both), Err(refused(15, NET, both.arc_offset(1))));
+    // 15 is given for a dead mode too.
+    let dead = crowded(&[arc(0, 0, 1, 0, 0), above]);
+    assert_eq!(answer(&dead), Err(refused(15, NET, dead.arc_offset(0))));
     let one = crowded(&[arc(0, 0, 1, 0, OPEN), above]);
-    assert_eq!(answer(&one), Err(refused(16, NET, one.arc_offset(1))));
+    assert_eq!(answer(&one), Err(refused(10, NET, 0)));
     assert_eq!(answer(&crowded(&[])), Err(refused(10, NET, 0)));
     let blank = crowded(&[above, arc(1, 0, 0, 0, OPEN)]);
     assert_eq!(answer(&blank), Err(refused(8, NET, blank.arc_offset(1))));

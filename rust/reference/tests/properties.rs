@@ -163,6 +163,28 @@ fn refusals_correspond_in_the_complement_and_the_capacity_sum_holds() {
 }
 
 #[test]
+fn a_dead_mode_is_refused_by_11_in_the_complement_and_nothing_is_dead_there() {
+    let (mut random, mut deaths) = (Random::new(8), 0);
+    for _ in 0..1_500 {
+        let (net, style) = small(&mut random);
+        let mut output = vec![0; 40_000];
+        let Ok(length) = complement(&net.sheet(), &mut output) else { continue };
+        let (sheet, other) = (net.sheet(), &output[..length]);
+        assert_eq!(first_dead(other), Ok(None), "{net:?}");
+        for mode in (0..total(&net.modes) as u16).filter(|&mode| is_dead(&sheet, mode) == Ok(true)) {
+            let counts: Vec<u32> = net
+                .pairs
+                .iter()
+                .map(|&(capacity, _)| generator::count(&mut random, style, capacity))
+                .collect();
+            assert_eq!(test(other, &completed(&net, &counts), mode).number, 11, "{net:?}");
+            deaths += 1;
+        }
+    }
+    assert!(deaths > 300, "{deaths}");
+}
+
+#[test]
 fn a_complement_is_its_own_complement() {
     let mut random = Random::new(7);
     for _ in 0..600 {

@@ -384,14 +384,24 @@ fn number_15_a_finite_inhibitor_at_an_unbounded_capacity() {
 }
 
 #[test]
-fn number_16_a_complement_number_above_a_million() {
+fn number_16_is_given_no_more() {
     let largest = 1_000_000;
+    // Both modes are dead: mode 0 at pair 1, mode 1 at both.
     let arcs = [arc(0, 0, 1, 1, 1), arc(0, 1, 1, 0, 0), arc(1, 0, 2, 1, 1), arc(1, 1, largest, 0, 0)];
     let net = PlainNet::plain(2, &[(largest, 0), (largest - 1, 0)], &arcs);
-    // Arc 0: Pre 999,999, Post 999,999. Arc 1: Pre 999,999, Post 1,000,000. Arc 2: Post 1,000,000.
-    let mut output = [170; 300];
-    assert_eq!(complement(&net.sheet(), &mut output), Err(refused(16, NET, net.arc_offset(3))));
-    assert_eq!(output, [170; 300]);
+    let below = largest - 1;
+    let expected = [
+        arc(0, 0, 1, 1, OPEN),
+        arc(0, 1, 1, 0, OPEN),
+        arc(0, 2, below, below, OPEN),
+        arc(0, 3, below, below, OPEN),
+        arc(1, 0, 2, 1, OPEN),
+        arc(1, 1, largest, 0, OPEN),
+        arc(1, 2, below, below, OPEN),
+        arc(1, 3, below, below, OPEN),
+    ];
+    let pairs = [(OPEN, 0), (OPEN, 0), (OPEN, largest), (OPEN, below)];
+    assert_eq!(complement_of(&net.sheet()), PlainNet::plain(2, &pairs, &expected).sheet());
 }
 
 #[test]

@@ -102,8 +102,57 @@ fn the_reserved_amount_does_not_leak_away() {
 }
 
 #[test]
+fn a_dead_mode_gives_back_what_it_takes_at_every_complement_pair() {
+    // Mode 0 is dead at pair 1 alone, and mode 1, which has the same arc at pair 0, is live.
+    let arcs = [arc(0, 0, 2, 1, 4), arc(0, 1, 0, 4, OPEN), arc(1, 0, 2, 1, 4)];
+    let net = PlainNet::plain(2, &[(5, 1), (3, 0)], &arcs);
+    let expected = [
+        arc(0, 0, 2, 1, OPEN),
+        arc(0, 1, 0, 4, OPEN),
+        arc(0, 2, 1, 1, OPEN),
+        arc(0, 3, 4, 4, OPEN),
+        arc(1, 0, 2, 1, OPEN),
+        arc(1, 2, 1, 2, OPEN),
+    ];
+    let pairs = [(OPEN, 1), (OPEN, 0), (OPEN, 4), (OPEN, 3)];
+    assert_eq!(complement_of(&net.sheet()), PlainNet::plain(2, &pairs, &expected).sheet());
+}
+
+#[test]
+fn an_arc_of_a_dead_mode_that_becomes_blank_is_left_out() {
+    // Pre 6 at K 5: complement Pre is 0, and so is complement Post. The output is 16 bytes shorter, to the byte.
+    let net = PlainNet::plain(1, &[(5, 1)], &[arc(0, 0, 6, 0, OPEN)]);
+    let expected = PlainNet::plain(1, &[(OPEN, 1), (OPEN, 4)], &[arc(0, 0, 6, 0, OPEN)]).sheet();
+    assert_eq!(complement_of(&net.sheet()), expected);
+    let mut output = vec![170; expected.len()];
+    assert_eq!(complement(&net.sheet(), &mut output), Ok(expected.len()));
+    let shorter = &mut output[..expected.len() - 1];
+    assert_eq!(complement(&net.sheet(), shorter), Err(refused(10, NET, 0)));
+    // Blank at its own pair too, where the mode is dead at another: no arc is left of it there.
+    let arcs = [arc(0, 0, 0, 0, 5), arc(0, 1, 0, 1, OPEN)];
+    let net = PlainNet::plain(1, &[(5, 0), (0, 0)], &arcs);
+    let expected = [arc(0, 1, 0, 1, OPEN), arc(0, 3, 1, 1, OPEN)];
+    let pairs = [(OPEN, 0), (OPEN, 0), (OPEN, 5), (OPEN, 0)];
+    assert_eq!(complement_of(&net.sheet()), PlainNet::plain(1, &pairs, &expected).sheet());
+}
+
+#[test]
+fn a_dead_mode_whose_blank_arcs_are_left_out_may_bring_a_complement_within_its_limits() {
+    // 1,025 arcs of Pre 1 at K 1 give 2,050; of Pre 2 the modes are dead, and the complement arcs blank.
+    let net = |pre: u32| PlainNet {
+        colours: vec![8],
+        modes: vec![64, 64, 1],
+        pairs: vec![(1, 0); 8],
+        arcs: (0..1_025).map(|n| arc(n / 8, n % 8, pre, 0, OPEN)).collect(),
+    };
+    assert_eq!(complement(&net(1).sheet(), &mut [0; 36_000]), Err(refused(10, NET, 0)));
+    let length = complement(&net(2).sheet(), &mut [0; 36_000]).unwrap();
+    assert_eq!(length, 11 + 2 * 2 + 2 * 3 + 8 * 16 + 16 * 1_025);
+}
+
+#[test]
 fn an_inhibitor_above_the_capacity_reserves_nothing() {
-    let net = PlainNet::plain(1, &[(4, 0)], &[arc(0, 0, 2, 3, 9)]);
+    let net = PlainNet::plain(1, &[(5, 0)], &[arc(0, 0, 2, 3, 9)]);
     let arcs = [arc(0, 0, 2, 3, OPEN), arc(0, 1, 3, 2, OPEN)];
-    assert_eq!(complement_of(&net.sheet()), PlainNet::plain(1, &[(OPEN, 0), (OPEN, 4)], &arcs).sheet());
+    assert_eq!(complement_of(&net.sheet()), PlainNet::plain(1, &[(OPEN, 0), (OPEN, 5)], &arcs).sheet());
 }

@@ -1,6 +1,6 @@
 //! "The complemented net."
 
-use crate::answer::{Answer, LARGEST, NET, UNBOUNDED};
+use crate::answer::{Answer, NET, UNBOUNDED};
 use crate::layout::{Arc, Layout, pair_of, whole_net};
 
 /// Writes the complement's sheet: "the call returns the length written and touches no byte after it".
@@ -48,18 +48,24 @@ impl Mates {
     }
 }
 
-/// Pre and Post on the complement pair of a finite K.
+/// Pre and Post on the complement pair of a finite K, for a live mode and for a dead one: "for a locally dead mode
+/// write each complement Post equal to its complement Pre".
 #[inline(always)]
-fn mated(arc: Arc, capacity: u32) -> (u32, u32) {
+fn mated(arc: Arc, capacity: u32, dead: bool) -> (u32, u32) {
     let pre = arc.post.max(capacity.saturating_sub(arc.inhibitor));
-    (pre, pre + arc.pre - arc.post)
+    (pre, if dead { pre } else { pre + arc.pre - arc.post })
+}
+
+/// "Pre is above the least of K less Post and I, or Post is above K."
+#[inline(always)]
+fn dead_at(arc: Arc, capacity: u32) -> bool {
+    (arc.pre + arc.post > capacity) | (arc.pre > arc.inhibitor)
 }
 
 /// The complement's arcs as its sheet has them: each mode's original arcs, then those at complement pairs.
 /// "Blank arcs are left out."
 fn arcs_of(layout: &Layout, mates: &Mates) -> Result<Vec<[u8; 16]>, Answer> {
-    let mut arcs = vec![[0; 16]; 2 * layout.arcs.len()];
-    let (mut count, mut faults) = (0, false);
+    let mut arcs = Arcs { bytes: vec![[0; 16]; 2 * layout.arcs.len()], count: 0, inhibited: false };
     let mut rest = layout.arcs;
     while let Some(first) = rest.first() {
         let mut own = 0;
@@ -67,45 +73,67 @@ fn arcs_of(layout: &Layout, mates: &Mates) -> Result<Vec<[u8; 16]>, Answer> {
             own += 1;
             // The eight bytes of Pre and Post.
             if bytes[4..12] != [0; 8] {
-                arcs[count] = with_open_inhibitor(bytes);
-                count += 1;
+                arcs.put(with_open_inhibitor(bytes));
             }
         }
-        for bytes in &rest[..own] {
-            let arc = Arc::of(bytes);
-            let (capacity, mate) = mates.of[arc.pair()];
-            if capacity == UNBOUNDED {
-                faults |= arc.inhibitor != UNBOUNDED;
-                continue;
-            }
-            let (pre, post) = mated(arc, capacity);
-            faults |= post > LARGEST;
-            if pre | post != 0 {
-                arcs[count] = open_arc(arc.key & 0xFFFF_0000 | mate, pre, post);
-                count += 1;
-            }
+        let originals = arcs.count;
+        if arcs.put_mates(&rest[..own], mates, false) {
+            // What a live mode would have is put aside: few modes are dead.
+            arcs.count = originals;
+            arcs.put_mates(&rest[..own], mates, true);
         }
         rest = &rest[own..];
     }
-    if faults {
-        return Err(fault(layout, mates));
+    if arcs.inhibited {
+        return Err(inhibited(layout, mates));
     }
-    arcs.truncate(count);
-    Ok(arcs)
+    arcs.bytes.truncate(arcs.count);
+    Ok(arcs.bytes)
 }
 
-/// 15, then 16, "each at its first arc in order".
+/// The complement's arcs so far.
+struct Arcs {
+    bytes: Vec<[u8; 16]>,
+    count: usize,
+    /// Whether an arc inhibits a pair of unbounded K.
+    inhibited: bool,
+}
+
+impl Arcs {
+    #[inline(always)]
+    fn put(&mut self, arc: [u8; 16]) {
+        self.bytes[self.count] = arc;
+        self.count += 1;
+    }
+
+    /// A mode's arcs at complement pairs, as of a live mode or of a dead one; whether a pair of finite K shows that it
+    /// is dead. (Where one of unbounded K does, its inhibitor is finite, and there is no complement.)
+    #[inline(always)]
+    fn put_mates(&mut self, own: &[[u8; 16]], mates: &Mates, dead: bool) -> bool {
+        let mut shown = false;
+        for bytes in own {
+            let arc = Arc::of(bytes);
+            let (capacity, mate) = mates.of[arc.pair()];
+            if capacity == UNBOUNDED {
+                self.inhibited |= arc.inhibitor != UNBOUNDED;
+                continue;
+            }
+            shown |= dead_at(arc, capacity);
+            let (pre, post) = mated(arc, capacity, dead);
+            if pre | post != 0 {
+                self.put(open_arc(arc.key & 0xFFFF_0000 | mate, pre, post));
+            }
+        }
+        shown
+    }
+}
+
+/// 15 at its first arc.
 #[cold]
-fn fault(layout: &Layout, mates: &Mates) -> Answer {
-    let capacity = |arc: Arc| mates.of[arc.pair()].0;
-    let unbounded = |arc: Arc| capacity(arc) == UNBOUNDED && arc.inhibitor != UNBOUNDED;
-    let above = |arc: Arc| capacity(arc) != UNBOUNDED && mated(arc, capacity(arc)).1 > LARGEST;
-    let arcs = || layout.arcs.iter().map(Arc::of);
-    let (number, at) = match arcs().position(unbounded) {
-        Some(at) => (15, at),
-        None => (16, arcs().position(above).unwrap_or(0)),
-    };
-    Answer::refused(number, NET, layout.length - 16 * (layout.arcs.len() - at))
+fn inhibited(layout: &Layout, mates: &Mates) -> Answer {
+    let unbounded = |arc: Arc| mates.of[arc.pair()].0 == UNBOUNDED && arc.inhibitor != UNBOUNDED;
+    let at = layout.arcs.iter().map(Arc::of).position(unbounded).expect("an arc was at fault");
+    Answer::refused(15, NET, layout.length - 16 * (layout.arcs.len() - at))
 }
 
 /// Writes the sheet into a slice of its length.

@@ -11,25 +11,28 @@ use Rattle.complement.proofs.complement_open.Tie as tie
 
 put-sheet-requires : tie.Need-put-sheet-requires
 put-sheet-requires c κs =
-    let answered = c .before .before .before .before .before in
+    let answered = c .before .before .before .before .before .before in
     let sized = answered .before .before in
-    let bounded = sized .before .before .before .before .before in
+    let found = sized .before .before .before .before .before .before in
+    let bounded = found .before .before in
     let start = bounded .before .before .before .before in
-    let accepted = answer-none (roomRefusal (start .args .s .now) (length (start .args .out .now))) (answered .complement-answer .ensures) (c .before .before .before .enum-told .given .1) in
-    (start .pre, (bounded .before .starts .ensures, (bounded .bounded-below .ensures, (sized .complement-sizes .ensures, record { fits = omega (arith, room-enough _ _ accepted) }))))
+    let accepted = answer-none (roomRefusal (start .args .s .now) (length (start .args .out .now))) (answered .complement-answer .ensures) (c .before .before .before .before .enum-told .given .1) in (
+      start .pre,
+      (bounded .before .starts .ensures, (bounded .bounded-below .ensures, (found .dead-modes .ensures, (sized .complement-sizes .ensures, record { fits = omega (arith, room-enough _ _ accepted) })))),
+    )
 
 returns : tie.Need-returns
 returns c =
     let answered = c .before .before .before in
-    let a = answered .before .before .before .before .before .before .before .before .before .before .before .args in
+    let a = answered .before .before .before .before .before .before .before .before .before .before .before .before .before .before .args in
     refused _ (complementSheet (a .s .now)) _
     (answer-refused (roomRefusal (a .s .now) (length (a .out .now))) (sym (answered .complement-answer .ensures) ∙ c .before .answer .given .1))
 
 returns-2 : tie.Need-returns-2
 returns-2 c =
-    let told = c .before .before .before .before .before .before in
+    let told = c .before .before .before .before .before .before .before in
     let answered = told .before .before in
-    let a = answered .before .before .before .before .before .before .before .before .before .before .before .args in
+    let a = answered .before .before .before .before .before .before .before .before .before .before .before .before .before .before .args in
     let accepted = answer-none (roomRefusal (a .s .now) (length (a .out .now))) (answered .complement-answer .ensures) (told .enum-told .given .1) in
     written _ accepted (room-enough _ _ accepted) (c .before .before .put-sheet .ensures)
 
@@ -37,6 +40,7 @@ pub complement-open-spec : {M : Type 1} → statement M
 complement-open-spec =
     tie.close
     (tie.spec
+    (λ c κs. search needs)
     (λ c κs. search needs)
     (λ c κs. search needs)
     (λ c κs. search needs)

@@ -12,16 +12,16 @@ use Rattle.sheets.specs.Decoded.{netOf}
 use Rattle.opened.specs.Starts.{FirstFrom}
 use Rattle.opened.proofs.Shapes.{sizes}
 use Rattle.opened.proofs.Segments.{first-arc, first-ends, first-same}
-use Rattle.complement.specs.ArcRefusals.{obstacleAt}
-use Rattle.complement.proofs.Answers.{each-obstacle, stops-at, goes-on}
+use Rattle.complement.specs.ArcRefusals.{inhibitedAt}
+use Rattle.complement.proofs.Answers.{each-arc, stops-at, goes-on}
 use Rattle.complement.proofs.refusals.arcs_answer.Statement.{statement}
 use Rattle.complement.proofs.refusals.arcs_answer.Tie as tie
 
 abbrev Inv-loop : tie.InvT-loop
-Inv-loop s net starts obstacle modes t₀ t = (t ≤ modes) × ((k : ℕ) → FirstFrom (netOf s .arcs) t k → first k (obstacleAt s obstacle) ≡ none)
+Inv-loop s net starts modes t₀ t = (t ≤ modes) × ((k : ℕ) → FirstFrom (netOf s .arcs) t k → first k (inhibitedAt s) ≡ none)
 
 abbrev μ-loop : tie.MeasureT-loop
-μ-loop s net starts obstacle modes t₀ t = modes - t
+μ-loop s net starts modes t₀ t = modes - t
 
 loop-holds : tie.Need-loop-holds Inv-loop μ-loop
 loop-holds c = (search needs, λ k f. rw (first-same _ 0 k 0 f (first-arc _)) (sym (first-none _)))
@@ -31,15 +31,15 @@ returns c =
     let l = c .before .before .before .before .before .loop in
     let a = c .before .before .before .before .before .before .before .args in
     let segment = c .before .before .before .arcs-of .ensures in
-    stops-at (obstacleAt (a .s .now) (a .obstacle)) _ _ (l .inv .1 _ (segment .starts)) _ (segment .ends .inside) (c .before .before .mode-answer .ensures) (c .enum-told .given .1)
-    ∙ ap answer (each-obstacle (a .s .now) (a .obstacle))
+    stops-at (inhibitedAt (a .s .now)) _ _ (l .inv .1 _ (segment .starts)) _ (segment .ends .inside) (c .before .before .mode-answer .ensures) (c .enum-told .given .1)
+    ∙ ap answer (each-arc (a .s .now))
 
 loop-again : tie.Need-loop-again Inv-loop μ-loop
 loop-again c =
     let l = c .before .before .before .before .before .loop in
     let a = c .before .before .before .before .before .before .before .args in
     let segment = c .before .before .before .arcs-of .ensures in
-    let here = goes-on (obstacleAt (a .s .now) (a .obstacle)) _ _ (l .inv .1 _ (segment .starts)) (c .before .before .mode-answer .ensures) (c .enum-told2 .given .1) in
+    let here = goes-on (inhibitedAt (a .s .now)) _ _ (l .inv .1 _ (segment .starts)) (c .before .before .mode-answer .ensures) (c .enum-told2 .given .1) in
     (search needs, λ k f. rw (first-same _ (l .t + 1) k _ f (segment .ends)) here)
 
 returns-2 : tie.Need-returns-2 Inv-loop μ-loop
@@ -49,7 +49,7 @@ returns-2 c =
     let z = sizes (start .pre .0) in
     let arcs = netOf (start .args .s .now) .arcs in
     let ends = first-ends arcs (l .t) (length arcs) refl (record { each = λ k h. omega (arith, z .modes, z .wellFormed .eachArc k h .mode) }) in
-    ap answer (sym (l .inv .1 _ ends) ∙ each-obstacle (start .args .s .now) (start .args .obstacle))
+    ap answer (sym (l .inv .1 _ ends) ∙ each-arc (start .args .s .now))
 
 pub arcs-answer-spec : {M : Type 1} → statement M
 arcs-answer-spec =

@@ -6,15 +6,15 @@ use mathlib.Core.Option.{none}
 use Rattle.model.specs.First.{first}
 use Rattle.model.proofs.First.{first-none}
 use Rattle.model.proofs.Refusals.{answer-first-at, answer-first-end, answer-first-more}
-use Rattle.complement.specs.ArcRefusals.{obstacleAt}
+use Rattle.complement.specs.ArcRefusals.{inhibitedAt}
 use Rattle.complement.proofs.refusals.mode_answer.Statement.{statement}
 use Rattle.complement.proofs.refusals.mode_answer.Tie as tie
 
 abbrev Inv-loop : tie.InvT-loop
-Inv-loop s net obstacle arcs count i₀ i = (i ≤ count) × (first i (λ i. obstacleAt s obstacle (arcs .start + i)) ≡ none)
+Inv-loop s net arcs count i₀ i = (i ≤ count) × (first i (λ i. inhibitedAt s (arcs .start + i)) ≡ none)
 
 abbrev μ-loop : tie.MeasureT-loop
-μ-loop s net obstacle arcs count i₀ i = count - i
+μ-loop s net arcs count i₀ i = count - i
 
 returns : tie.Need-returns Inv-loop μ-loop
 returns c =

@@ -1,10 +1,9 @@
--- 15, then 16, then 10; where the survey is clear, 10 alone.
+-- 15, then 10; where the survey is clear, 10 alone.
 use borrow.Author.Needs.{needs}
 use mathlib.Core.Path.{refl, sym, _∙_, ap}
 use native.Mathlib.Omega.{arith}
 use Rattle.model.specs.Refusals.{answer}
 use Rattle.opened.proofs.Shapes.{sizes}
-use Rattle.complement.specs.declared.refusals.Obstacle.the-variants.{Inhibitor, Number}
 use Rattle.complement.proofs.Answers.{clear-none, in-order}
 use Rattle.complement.proofs.room.complement_answer.Statement.{statement}
 use Rattle.complement.proofs.room.complement_answer.Tie as tie
@@ -20,16 +19,13 @@ returns c =
     let start = c .before .before .before in
     let pre = start .pre in
     let clear = sym (pre .1 .1 .0) ∙ c .if1 .taken in
-    in-order (pre .0) (pre .1 .1 .1 .0) _ (ap answer (sym (clear-none (start .args .s .now) Inhibitor clear))) (ap answer (sym (clear-none (start .args .s .now) Number clear)))
-    (c .before .room-answer .ensures) refl refl
+    in-order (pre .0) (pre .1 .1 .1 .0) _ (ap answer (sym (clear-none (start .args .s .now) clear))) (c .before .room-answer .ensures) refl
 
 returns-2 : tie.Need-returns-2
 returns-2 c =
-    let second = c .before .before in
-    let test = second .before .before in
+    let test = c .before .before in
     let pre = test .before .before .before .pre in
-    in-order (pre .0) (pre .1 .1 .1 .0) _ (second .before .arcs-answer .ensures) (second .arcs-answer2 .ensures) (test .before .room-answer .ensures) (c .before .then .ensures)
-    (c .then2 .ensures)
+    in-order (pre .0) (pre .1 .1 .1 .0) _ (c .before .arcs-answer .ensures) (test .before .room-answer .ensures) (c .then .ensures)
 
 pub complement-answer-spec : {M : Type 1} → statement M
 complement-answer-spec =
@@ -37,8 +33,6 @@ complement-answer-spec =
     (tie.spec
     room-answer-requires
     returns
-    (λ c κs. search needs)
-    (λ c κs. search needs)
     (λ c κs. search needs)
     (λ c κs. search needs)
     returns-2)

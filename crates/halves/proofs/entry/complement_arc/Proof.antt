@@ -5,10 +5,10 @@ use Prim.Native.Nat.{_≤_}
 use mathlib.Core.Path.{refl, sym, _∙_}
 use native.Mathlib.Omega.{arith}
 use Rattle.model.specs.Numbers.{limit}
+use Rattle.model.proofs.ComplementRow.{reserve-within}
 use Rattle.fields.specs.Numbers.{unbounded, bound}
 use Rattle.fields.proofs.Bounds.{bound-unbounded}
 use Rattle.fields.proofs.BoundNumbers.{finite-is, unbounded-is}
-use Rattle.halves.proofs.Entries.{reserve-within}
 use Rattle.halves.proofs.entry.complement_arc.Statement.{statement}
 use Rattle.halves.proofs.entry.complement_arc.Tie as tie
 

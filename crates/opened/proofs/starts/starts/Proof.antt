@@ -7,10 +7,11 @@ use lib.ListN.{length, getD, length-set, length-replicate, getD-replicate}
 use lib.Seq.{getD-set-other}
 use native.Mathlib.Omega.{arith}
 use Rattle.model.proofs.First.{below-or}
+use Rattle.model.proofs.Tables.{Filled, filled-more}
 use Rattle.sheets.specs.Decoded.{netOf}
-use Rattle.opened.specs.Starts.{ModesBelow}
+use Rattle.opened.specs.Starts.{ModesBelow, FirstFrom}
 use Rattle.opened.proofs.Shapes.{sizes}
-use Rattle.opened.proofs.Segments.{Filled, below-none, below-up, first-ends, filled-more}
+use Rattle.opened.proofs.Segments.{below-none, below-up, first-ends}
 use Rattle.opened.proofs.starts.starts.Statement.{statement}
 use Rattle.opened.proofs.starts.starts.Tie as tie
 
@@ -20,7 +21,7 @@ Inv-loop s net modes table₀ k₀ t₀ table k t =
     × (length table ≡ 257)
     × (k ≤ net .arcs)
     × ModesBelow (netOf s .arcs) t k
-    × Filled (netOf s .arcs) table t
+    × Filled (FirstFrom (netOf s .arcs)) 0 table t
     × ((u : ℕ) → t ≤ u → u < 257 → getD table u 0 ≡ net .arcs)
 
 abbrev μ-loop : tie.MeasureT-loop
@@ -45,7 +46,7 @@ loop-again c =
       length-set (l .table) _ _ ∙ l .inv .1,
       omega arith,
       below-up _ _ _ (f .before),
-      filled-more _ (l .table) (l .t) _ (omega arith) (l .inv .4) f,
+      filled-more (FirstFrom (netOf (c .before .before .before .before .before .args .s .now) .arcs)) 0 (l .table) (l .t) _ (omega arith) (l .inv .4) f,
       λ u b h. getD-set-other (l .table) (l .t) u _ 0 (λ e. omega arith) ∙ l .inv .5 u (omega arith) h,
     )
 

@@ -2,10 +2,11 @@
 use borrow.Author.Needs.{needs}
 use mathlib.Core.Path.{_∙_, ap}
 use native.Mathlib.Omega.{arith}
+use Rattle.sheets.specs.Decoded.{netOf}
 use Rattle.opened.proofs.Shapes.{sizes}
 use Rattle.model.specs.Promises.{onOriginal}
 use Rattle.halves.proofs.Below.{entry-few}
-use Rattle.sections.proofs.Read.{small, complement-is}
+use Rattle.sections.proofs.Read.{small, complement-is, own-dead}
 use Rattle.sections.proofs.arcs.half_arc.Statement.{statement}
 use Rattle.sections.proofs.arcs.half_arc.Tie as tie
 
@@ -26,9 +27,10 @@ returns c = rw (c .before .enum-told .given .1) (c .original-arc .ensures ∙ ap
 returns-2 : tie.Need-returns-2
 returns-2 c =
     let start = c .before .before .before .before .before .before .before .before in
+    let read = c .before .before .before .before .before .before .arc .ensures in
     rw (c .before .before .before .enum-told2 .given .1)
     (c .complement-arc .ensures
-    ∙ complement-is (c .before .before .before .before .before .before .arc .ensures) (start .pre .0) (start .pre .1 .0) _ _ (c .before .before .capacity .ensures) (c .before .complement-pair .ensures))
+    ∙ complement-is read (start .pre .0) (start .pre .1 .0) _ _ _ (own-dead (netOf (start .args .s .now)) (start .pre .1 .1 .0) _ (read .is) (start .pre .1 .1 .1)) (c .before .before .capacity .ensures) (c .before .complement-pair .ensures))
 
 pub half-arc-spec : {M : Type 1} → statement M
 half-arc-spec =

@@ -8,30 +8,31 @@ use Rattle.sheets.specs.Decoded.{netOf}
 use Rattle.opened.proofs.Shapes.{sizes}
 use Rattle.halves.specs.Puts.{Puts}
 use Rattle.sections.specs.Arcs.{rowBytes}
+use Rattle.sections.proofs.Read.{entry-dead}
 use Rattle.sections.proofs.ModeHalves.{arc-parts}
 use Rattle.halves.proofs.Puts.{room-as, puts-as, puts-none, room-more, puts-more, puts-end}
 use Rattle.sections.proofs.arcs.put_arcs.Statement.{statement}
 use Rattle.sections.proofs.arcs.put_arcs.Tie as tie
 
 abbrev Inv-loop : tie.InvT-loop
-Inv-loop s net starts below out₀ at modes next₀ t₀ out next t = (t ≤ modes) × Puts out₀ at (joined t (rowBytes (netOf s))) out next
+Inv-loop s net starts below dead out₀ at modes next₀ t₀ out next t = (t ≤ modes) × Puts out₀ at (joined t (rowBytes (netOf s))) out next
 
 abbrev μ-loop : tie.MeasureT-loop
-μ-loop s net starts below out₀ at modes next₀ t₀ out next t = modes - t
+μ-loop s net starts below dead out₀ at modes next₀ t₀ out next t = modes - t
 
 put-mode-requires : tie.Need-put-mode-requires Inv-loop μ-loop
 put-mode-requires c κs =
-    let l = c .before .before .before .loop in
-    let start = c .before .before .before .before .before .before in
+    let l = c .before .before .before .before .loop in
+    let start = c .before .before .before .before .before .before .before in
     let segment = c .before .arcs-of .ensures in
     let row = ap (λ m. rowBytes (netOf (start .args .s .now)) (m .0)) (sym (segment .mode)) in
-    let room = room-more _ (l .t) (l .inv .1) _ (room-as (arc-parts (start .pre .0)) (start .pre .1 .1 .1)) (c .before .before .loop-test .taken) in
-    (start .pre .0, (start .pre .1 .1 .0, (segment .own, room-as row room)))
+    let room = room-more _ (l .t) (l .inv .1) _ (room-as (arc-parts (start .pre .0)) (start .pre .1 .1 .1 .1)) (c .before .before .before .loop-test .taken) in
+    (start .pre .0, (start .pre .1 .1 .0, (segment .own, (entry-dead (start .pre .0) (start .pre .1 .1 .1 .0) (l .t) (c .before .before .before .loop-test .taken) segment, room-as row room))))
 
 loop-again : tie.Need-loop-again Inv-loop μ-loop
 loop-again c =
-    let l = c .before .before .before .before .before .before .loop in
-    let start = c .before .before .before .before .before .before .before .before .before in
+    let l = c .before .before .before .before .before .before .before .loop in
+    let start = c .before .before .before .before .before .before .before .before .before .before in
     let row = ap (λ m. rowBytes (netOf (start .args .s .now)) (m .0)) (c .before .before .before .before .arcs-of .ensures .mode) in
     (search needs, puts-more _ (l .t) (l .inv .1) (puts-as row (c .before .before .put-mode .ensures)))
 
@@ -48,9 +49,10 @@ put-arcs-spec =
     μ-loop
     (λ c. (search needs, puts-none _))
     (λ c. omega (arith, sizes (c .before .before .before .before .pre .0) .modesWithin))
+    (λ c. omega (arith, sizes (c .before .before .before .before .before .pre .0) .modesWithin))
     (λ c κs. search needs)
     put-mode-requires
-    (λ c. search needs)
+    (λ c. omega (arith, sizes (c .before .before .before .before .before .before .before .before .before .before .pre .0) .modesWithin))
     (λ c. search needs)
     loop-again
     (λ c. c .before .loop .inv .1 .kept)

@@ -7,7 +7,7 @@ use Rattle.sections.proofs.arcs.put_half_arc.Statement.{statement}
 use Rattle.sections.proofs.arcs.put_half_arc.Tie as tie
 
 put-kept-requires : tie.Need-put-kept-requires
-put-kept-requires c κs = room-as (ap keptBytes (sym (c .half-arc .ensures))) (c .before .before .before .before .pre .1 .1 .1)
+put-kept-requires c κs = room-as (ap keptBytes (sym (c .half-arc .ensures))) (c .before .before .before .before .pre .1 .1 .1 .1)
 
 returns : tie.Need-returns
 returns c = puts-as (ap keptBytes (c .before .before .before .half-arc .ensures)) (c .before .before .put-kept .ensures)

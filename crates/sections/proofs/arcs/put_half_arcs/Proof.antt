@@ -10,11 +10,11 @@ use Rattle.sections.proofs.arcs.put_half_arcs.Statement.{statement}
 use Rattle.sections.proofs.arcs.put_half_arcs.Tie as tie
 
 abbrev Inv-loop : tie.InvT-loop
-Inv-loop s net below half arcs out₀ at count next₀ i₀ out next i =
+Inv-loop s net below dead half arcs out₀ at count next₀ i₀ out next i =
     (i ≤ count) × Puts out₀ at (joined i (halfBytes (netOf s) half (arcs .start))) out next
 
 abbrev μ-loop : tie.MeasureT-loop
-μ-loop s net below half arcs out₀ at count next₀ i₀ out next i = count - i
+μ-loop s net below dead half arcs out₀ at count next₀ i₀ out next i = count - i
 
 loop-holds : tie.Need-loop-holds Inv-loop μ-loop
 loop-holds c = (search needs, puts-none _)
@@ -23,7 +23,7 @@ put-half-arc-requires : tie.Need-put-half-arc-requires Inv-loop μ-loop
 put-half-arc-requires c κs =
     let l = c .before .before .loop in
     let pre = c .before .before .before .before .before .pre in
-    (pre .0, (pre .1 .0, (search needs, room-more _ (l .i) (l .inv .1) _ (pre .1 .1 .1) (c .before .loop-test .taken))))
+    (pre .0, (pre .1 .0, (search needs, (search needs, room-more _ (l .i) (l .inv .1) _ (pre .1 .1 .1 .1) (c .before .loop-test .taken)))))
 
 loop-again : tie.Need-loop-again Inv-loop μ-loop
 loop-again c = let l = c .before .before .before .before .before .loop in (search needs, puts-more _ (l .i) (l .inv .1) (c .before .before .put-half-arc .ensures))

@@ -12,11 +12,11 @@ use Rattle.sections.proofs.arcs.put_mode.Statement.{statement}
 use Rattle.sections.proofs.arcs.put_mode.Tie as tie
 
 abbrev Inv-loop : tie.InvT-loop
-Inv-loop s net below arcs out₀ at next₀ h₀ out next h =
+Inv-loop s net below dead arcs out₀ at next₀ h₀ out next h =
     (h ≤ 2) × Puts out₀ at (joined h (λ h. joined (arcs .count) (halfBytes (netOf s) (halfNo h) (arcs .start)))) out next
 
 abbrev μ-loop : tie.MeasureT-loop
-μ-loop s net below arcs out₀ at next₀ h₀ out next h = 2 - h
+μ-loop s net below dead arcs out₀ at next₀ h₀ out next h = 2 - h
 
 put-half-arcs-requires : tie.Need-put-half-arcs-requires Inv-loop μ-loop
 put-half-arcs-requires c κs =
@@ -24,8 +24,8 @@ put-half-arcs-requires c κs =
     let start = c .before .before .before .before .before .before in
     let pre = start .pre in
     let half = ap (λ half. joined (start .args .arcs .count) (halfBytes (netOf (start .args .s .now)) half (start .args .arcs .start))) (sym (c .before .half-no .ensures)) in
-    let room = room-more _ (l .h) (l .inv .1) 2 (room-as (mode-part (pre .0) _ _ _ (pre .1 .1 .0)) (pre .1 .1 .1)) (c .before .before .loop-test .taken) in
-    (pre .0, (pre .1 .0, (pre .1 .1 .0, room-as half room)))
+    let room = room-more _ (l .h) (l .inv .1) 2 (room-as (mode-part (pre .0) _ _ _ (pre .1 .1 .0)) (pre .1 .1 .1 .1)) (c .before .before .loop-test .taken) in
+    (pre .0, (pre .1 .0, (pre .1 .1 .0, (pre .1 .1 .1 .0, room-as half room))))
 
 loop-again : tie.Need-loop-again Inv-loop μ-loop
 loop-again c =

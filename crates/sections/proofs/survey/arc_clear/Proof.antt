@@ -1,19 +1,14 @@
--- 16 where K is finite, else 15.
+-- A finite K, or no finite I.
 use borrow.Author.Needs.{needs}
-use Rattle.sections.proofs.Read.{small, clear-finite, clear-unbounded}
+use Rattle.sections.proofs.Read.{clear-finite, clear-unbounded}
 use Rattle.sections.proofs.survey.arc_clear.Statement.{statement}
 use Rattle.sections.proofs.survey.arc_clear.Tie as tie
 
-complement-arc-requires : tie.Need-complement-arc-requires
-complement-arc-requires c κs =
-    let read = c .before .before .before .before in
-    small (read .arc .ensures) (read .before .before .pre .0) _ (c .before .before .capacity .ensures)
-
 returns : tie.Need-returns
 returns c =
-    let test = c .before .before in
-    let read = test .before .before in
-    clear-finite (read .before .before .arc .ensures) _ _ (test .before .is-finite .ensures) (test .if1 .taken) (read .capacity .ensures) (c .before .complement-arc .ensures) (c .too-large .ensures)
+    let test = c .before in
+    let read = test .before in
+    clear-finite (read .before .before .arc .ensures) _ (test .is-finite .ensures) (c .if1 .taken) (read .capacity .ensures)
 
 returns-2 : tie.Need-returns-2
 returns-2 c =
@@ -27,8 +22,6 @@ arc-clear-spec =
     (tie.spec
     (λ c κs. search needs)
     (λ c κs. search needs)
-    (λ c κs. search needs)
-    complement-arc-requires
     (λ c κs. search needs)
     returns
     (λ c κs. search needs)

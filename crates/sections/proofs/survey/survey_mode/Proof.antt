@@ -15,19 +15,19 @@ use Rattle.sections.proofs.survey.survey_mode.Statement.{statement}
 use Rattle.sections.proofs.survey.survey_mode.Tie as tie
 
 abbrev Inv-loop : tie.InvT-loop
-Inv-loop s net below arcs end count₀ clear₀ i₀ count clear i =
+Inv-loop s net below dead arcs end count₀ clear₀ i₀ count clear i =
     (i ≤ end)
     × (count ≡ length (joined i (λ i. bothHalves (netOf s) (arcs .start + i))))
     × (count ≤ 2 * i)
     × (clear ≡ every i (λ i. clearAt (netOf s) (arcs .start + i)))
 
 abbrev μ-loop : tie.MeasureT-loop
-μ-loop s net below arcs end count₀ clear₀ i₀ count clear i = end - i
+μ-loop s net below dead arcs end count₀ clear₀ i₀ count clear i = end - i
 
 add-count : tie.Need-add-count Inv-loop μ-loop
 add-count c =
     let pre = c .before .before .before .before .pre in
-    omega (arith, sizes (pre .0), pre .1 .1 .fits)
+    omega (arith, sizes (pre .0), pre .1 .1 .0 .fits)
 
 loop-again : tie.Need-loop-again Inv-loop μ-loop
 loop-again c =
@@ -44,7 +44,7 @@ returns c =
     let l = c .before .loop in
     let start = c .before .before .before in
     let e : l .i ≡ start .args .arcs .count = omega arith in (
-      (rw e at (l .inv .1)) ∙ mode-count _ (sizes (start .pre .0) .wellFormed) (start .args .arcs .mode .0) _ _ (start .pre .1 .1),
+      (rw e at (l .inv .1)) ∙ mode-count _ (sizes (start .pre .0) .wellFormed) (start .args .arcs .mode .0) _ _ (start .pre .1 .1 .0),
       search needs,
       rw e at (l .inv .3),
     )
