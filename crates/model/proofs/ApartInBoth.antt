@@ -69,7 +69,7 @@ lowers-apart a b (l, e) (h, f) q =
     ⊎-elim (λ x. ⊎-elim (λ y. omega (arith, rw y at f)) (λ y. omega (arith, rw (x, y) at q)) (one-of h)) (λ x. omega (arith, rw x at e)) (one-of l)
 
 both-at-0 : (net : PNet) (x y : NetArc) → net .arcs ≡ x ∷ y ∷ [] → x .mode .0 ≡ 0 → y .mode .0 ≡ 1 → x .pair .0 ≡ y .pair .0 → ¬ Apart net (modeNo 0) (modeNo 1)
-both-at-0 net x y is e f q apart = apart x y (rw is (List·Memᴰ·head refl), e) (rw is (List·Memᴰ·tail (List·Memᴰ·head refl)), f) q
+both-at-0 net x y is e f q apart = apart x y (rw is (List·Memᴰ·head refl), omega arith) (rw is (List·Memᴰ·tail (List·Memᴰ·head refl)), omega arith) q
 
 idles-arcs : complement idles .arcs ≡ arc 1 0 1 0 ∞ ∷ arc 1 2 0 1 ∞ ∷ []
 unfolding complement arcsOf complementRow bounded joined entryAt

@@ -27,7 +27,7 @@ RowsApart net t u = (p : ℕ) → (row net t p ≡ noArc) ⊎ (row net u p ≡ n
 rows-apart : (net : PNet) (t u : Mode) → Apart net t u → RowsApart net t u
 rows-apart net t u apart p =
     ⊎-elim inl
-    (λ here. ⊎-elim inr (λ there. absurd (apart (arcFor t p (row net t p)) (arcFor u p (row net u p)) (here, refl) (there, refl) refl)) (entry-in (net .arcs) u p))
+    (λ here. ⊎-elim inr (λ there. absurd (apart (arcFor t p (row net t p)) (arcFor u p (row net u p)) (here, omega arith) (there, omega arith) refl)) (entry-in (net .arcs) u p))
     (entry-in (net .arcs) t p)
 
 turned : (net : PNet) (t u : Mode) → RowsApart net t u → RowsApart net u t
