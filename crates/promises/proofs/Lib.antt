@@ -2,6 +2,7 @@ pub mod DemandOne
 pub mod DemandThree
 pub mod TwoRuns
 pub mod TwoSteps
+pub mod TwoOrders
 pub mod FigureOverRun
 pub mod LiveModes
 pub mod Uniqueness

@@ -12,6 +12,8 @@ use Rattle.model.proofs.Demand3.{demand3}
 use Rattle.model.proofs.Edges.{starred}
 use Rattle.model.proofs.Steps.{step-rule, step-after, step-of-one}
 use Rattle.model.proofs.CorrespondingSteps.{steps-back, steps-forth, step-examples}
+use Rattle.model.proofs.Orders.{orders, interleavings}
+use Rattle.model.proofs.ApartInBoth.{orders-in-both, order-examples}
 use Rattle.sheets.proofs.Accepted.{well-formed}
 use Rattle.sheets.proofs.Lists.{movements-within, weights-within}
 use Rattle.lists.proofs.Signs.{signed-weights}
@@ -29,6 +31,7 @@ use Rattle.statement.proofs.TextOfRun.{text-of-run}
 use Rattle.statement.proofs.Example.{printed}
 use Rattle.promises.proofs.TwoRuns.{two-runs}
 use Rattle.promises.proofs.TwoSteps.{two-steps}
+use Rattle.promises.proofs.TwoOrders.{two-orders}
 use Rattle.promises.proofs.FigureOverRun.{figure-over-run}
 use Rattle.promises.proofs.LiveModes.{live-modes}
 use Rattle.promises.proofs.CallTables.{call-tables}
@@ -64,6 +67,10 @@ promises =
       stepsBack = steps-back;
       stepsForth = steps-forth;
       stepExamples = step-examples;
+      orders = orders;
+      ordersInBoth = orders-in-both;
+      interleavings = interleavings;
+      orderExamples = order-examples;
       acceptedNet = well-formed;
       acceptedMovements = movements-within;
       acceptedWeights = weights-within;
@@ -88,6 +95,7 @@ promises =
       overBytes = over-bytes;
       twoRuns = two-runs;
       twoSteps = two-steps;
+      twoOrders = two-orders;
       decimals = decimals;
       textOfRun = text-of-run;
       printed = printed;

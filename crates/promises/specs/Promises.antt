@@ -4,6 +4,7 @@ use Rattle.model.specs.Edges.{Edges}
 use Rattle.model.specs.WorkedExamples.{WorkedExamples}
 use Rattle.model.specs.DemandThree.{Demand3}
 use Rattle.model.specs.Steps as step
+use Rattle.model.specs.Orders.{Orders, OrdersInBoth, Interleavings, OrderExamples}
 use Rattle.sheets.specs.Accepted.{AcceptedNet, AcceptedMovements, AcceptedWeights}
 use Rattle.lists.specs.Promises.{SignedWeights}
 use Rattle.written.specs.Promises.{WrittenThenRead, ReadThenWritten, LargestSheet, ExampleLengths}
@@ -18,6 +19,7 @@ use Rattle.statement.specs.Promises.{TextOfRun}
 use Rattle.statement.specs.Example.{Printed}
 use Rattle.promises.specs.TwoRuns.{TwoRuns}
 use Rattle.promises.specs.TwoSteps.{TwoSteps}
+use Rattle.promises.specs.TwoOrders.{TwoOrders}
 use Rattle.promises.specs.FigureOverRun.{FigureOverRun}
 use Rattle.promises.specs.LiveModes.{LiveModes}
 use Rattle.promises.specs.CallTables.{CallTables}
@@ -52,6 +54,10 @@ pub record Promises : Type 0 where
   pub stepsBack : step.StepsBack
   pub stepsForth : step.StepsForth
   pub stepExamples : step.StepExamples
+  pub orders : Orders
+  pub ordersInBoth : OrdersInBoth
+  pub interleavings : Interleavings
+  pub orderExamples : OrderExamples
   -- of sheets, read and written
   pub acceptedNet : AcceptedNet
   pub acceptedMovements : AcceptedMovements
@@ -78,6 +84,7 @@ pub record Promises : Type 0 where
   pub overBytes : OverBytes
   pub twoRuns : TwoRuns
   pub twoSteps : TwoSteps
+  pub twoOrders : TwoOrders
   pub decimals : Decimals
   pub textOfRun : TextOfRun
   pub printed : Printed
