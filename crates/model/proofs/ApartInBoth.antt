@@ -15,7 +15,8 @@ use Rattle.model.specs.Firing.{ruleRefusal, rowRefusal, modeRefusal, fir
 use Rattle.model.specs.Runs.{runFrom}
 use Rattle.model.specs.Complement.{bounded, boundedBelow, complementPair, complementRow, arcsOf, complement}
 use Rattle.model.specs.Promises.{onComplement}
-use Rattle.model.specs.Orders.{ArcOfMode, Apart, OrdersInBoth, arc, lowers, watches, idles, OrderExamples}
+use Rattle.model.specs.WorkedExamples.{arc}
+use Rattle.model.specs.Orders.{ArcOfMode, Apart, OrdersInBoth, lowers, watches, idles, OrderExamples}
 use Rattle.model.proofs.Bounded.{bounded-at}
 use Rattle.model.proofs.ArcByArc.{in-at, arc-by-arc}
 use Rattle.model.proofs.Orders.{orders}

@@ -14,6 +14,7 @@ use Rattle.model.specs.WellFormed.{WellFormed}
 use Rattle.model.specs.Markings.{markingRefusal, Marking}
 use Rattle.model.specs.Runs.{run}
 use Rattle.model.specs.Complement.{complement}
+use Rattle.model.specs.WorkedExamples.{arc}
 
 -- an arc of a mode, whatever stands on it: one with an inhibitor alone counts
 abbrev pub ArcOfMode : PNet → Mode → NetArc → Type 0
@@ -57,10 +58,7 @@ abbrev pub Interleavings : Type 0
 Interleavings = (net : PNet) (ts us vs ws : List Mode) → AllApart net ts us → Interleaved ts us vs → Interleaved ts us ws
     → (m : List ℕ) → Marking net m → EndAlike net vs ws m
 
--- 4. What the theorem does not say. Nets of two modes with one arc each: mode, pair, Pre, Post, I.
-abbrev pub arc : ℕ → ℕ → ℕ → ℕ → ℕ∞ → NetArc
-arc t p pre post i = record { mode = modeNo t; pair = pairNo p; entry = record { pre = pre; post = post; inhibitor = i } }
-
+-- 4. What the theorem does not say. Nets of two modes with one arc each.
 abbrev pub twoArcs : ℕ∞ → NetArc → NetArc → PNet
 twoArcs k a b = record { colours = 2 ∷ []; modesOf = 2 ∷ []; capacity = k ∷ k ∷ []; start = 0 ∷ 0 ∷ []; arcs = a ∷ b ∷ [] }
 
