@@ -90,11 +90,11 @@ module _ {A : Type 0} where
       ⊎-elim (λ (q : i ≡ n). Memᴰ·append-right (joined n f) (rw q at m)) (λ (l : i < n). Memᴰ·append-left (f n) (joined-in n i f l m))
       (eq-or-lt-of-le (le-of-suc-le-suc h))
 
-  in-at : {a : A} (d : A) (xs : List A) → List·Memᴰ a xs → (k : ℕ) × (k < length xs) × (a ≡ getD xs k d)
+  pub in-at : {a : A} (d : A) (xs : List A) → List·Memᴰ a xs → (k : ℕ) × (k < length xs) × (a ≡ getD xs k d)
   in-at d [] m = absurd (List·Memᴰ·not-nil m)
   in-at d (x ∷ xs) m = ⊎-elim (λ e. (0, omega arith, e)) (λ l. let r = in-at d xs l in (suc (r .0), omega (arith, r .1), r .2)) (List·Memᴰ·cases-cons m)
 
-abbrev arcFor : Mode → ℕ → Entry → NetArc
+abbrev pub arcFor : Mode → ℕ → Entry → NetArc
 arcFor t p e = record { mode = t; pair = pairNo p; entry = e }
 
 in-written : {b : NetArc} (t : Mode) (p : ℕ) (e : Entry) → List·Memᴰ b (written t p e) → (b ≡ arcFor t p e) × (blank e ≡ false)
@@ -128,7 +128,7 @@ module _ (m n : ℕ) (rows : Mode → Row) where
       (rw (← r .entry, r .notBlank) (List·Memᴰ·head refl)))
 
 -- what stands at a mode and pair is no arc, or an arc of the list
-entry-in : (arcs : List NetArc) (t : Mode) (p : ℕ) → (entryAt arcs t p ≡ noArc) ⊎ List·Memᴰ (arcFor t p (entryAt arcs t p)) arcs
+pub entry-in : (arcs : List NetArc) (t : Mode) (p : ℕ) → (entryAt arcs t p ≡ noArc) ⊎ List·Memᴰ (arcFor t p (entryAt arcs t p)) arcs
 unfolding entryAt
 entry-in [] t p = inl refl
 entry-in (a ∷ arcs) t p = go (eqb (a .mode .0) (t .0)) (eqb (a .pair .0) p) refl refl (entry-in arcs t p)

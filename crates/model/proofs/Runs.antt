@@ -75,6 +75,14 @@ unfolding runFrom outcome
 leads-run (stays {m = m}) k = ap (λ k. outcome k m) (omega arith)
 leads-run (moves {ts = ts} {m′ = m′} e l) k = rw e (leads-run l (k + 1) ∙ ap (λ k. outcome k m′) (omega arith))
 
+-- a list that runs whole leads to the marking that its run leaves, and one that leads somewhere runs whole and ends there
+pub run-leads : (net : PNet) (ts : List Mode) (m : List ℕ) → run net ts m .refusal ≡ none → Leads net ts m (run net ts m .marking)
+run-leads net ts m e = let r = runs net ts m in rw (r .whole .0 e, take-length) at (r .leads)
+
+pub leads-whole : {net : PNet} {ts : List Mode} {m m′ : List ℕ} → Leads net ts m m′ → (run net ts m .refusal ≡ none) × (run net ts m .marking ≡ m′)
+unfolding outcome
+leads-whole l = (ap (λ o. o .refusal) (leads-run l 0), ap (λ o. o .marking) (leads-run l 0))
+
 module _ (net : PNet) (ts : List Mode) (claim : List ℕ) (each : length (net .start) ≡ pairs net) where
   abbrev last : List ℕ
   last = run net ts (net .start) .marking

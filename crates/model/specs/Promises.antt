@@ -1,4 +1,4 @@
--- What is promised of the model; more of it stands in DemandThree, Edges and WorkedExamples. promises/specs/Promises.antt lists all promises, those over bytes too.
+-- What is promised of the model; more of it stands in DemandThree, Edges, WorkedExamples, Steps and Orders. promises/specs/Promises.antt lists all promises, those over bytes too.
 -- Each statement is a type; docs/ARCHITECTURE.md names the one term of proofs/ that has it, and the order to read the definitions in.
 use Prim.Native.Nat.{ℕ, suc, _-_, _≤_, _<_}
 use mathlib.Core.Path.{_≡_}

@@ -14,7 +14,7 @@ pub record Worked : Type 0 where
   pub printed : PNet
 
 -- mode, pair, Pre, Post, I
-abbrev arc : ℕ → ℕ → ℕ → ℕ → ℕ∞ → NetArc
+abbrev pub arc : ℕ → ℕ → ℕ → ℕ → ℕ∞ → NetArc
 arc t p pre post i = record { mode = modeNo t; pair = pairNo p; entry = record { pre = pre; post = post; inhibitor = i } }
 
 -- Source document 000, section 6.3, figures 6.5 and 6.6: one place of capacity 5, marked with 3.

@@ -14,6 +14,8 @@ use Rattle.model.proofs.DeadComplement.{never16, dead-in-complement}
 use Rattle.model.proofs.Edges.{starred}
 use Rattle.model.proofs.Steps.{step-rule, step-after, step-of-one, step-members}
 use Rattle.model.proofs.CorrespondingSteps.{steps-back, steps-forth, step-examples}
+use Rattle.model.proofs.Orders.{orders, interleavings}
+use Rattle.model.proofs.ApartInBoth.{orders-in-both, order-examples}
 use Rattle.sheets.proofs.Accepted.{well-formed}
 use Rattle.sheets.proofs.Lists.{movements-within, weights-within}
 use Rattle.lists.proofs.Signs.{signed-weights}
@@ -32,6 +34,7 @@ use Rattle.statement.proofs.Example.{printed}
 use Rattle.promises.proofs.TwoRuns.{two-runs}
 use Rattle.promises.proofs.TwoSteps.{two-steps}
 use Rattle.promises.proofs.DeadAsWritten.{dead-as-written}
+use Rattle.promises.proofs.TwoOrders.{two-orders}
 use Rattle.promises.proofs.FigureOverRun.{figure-over-run}
 use Rattle.promises.proofs.LiveModes.{live-modes}
 use Rattle.promises.proofs.CallTables.{call-tables}
@@ -71,6 +74,10 @@ promises =
       stepsForth = steps-forth;
       stepMembers = step-members;
       stepExamples = step-examples;
+      orders = orders;
+      ordersInBoth = orders-in-both;
+      interleavings = interleavings;
+      orderExamples = order-examples;
       acceptedNet = well-formed;
       acceptedMovements = movements-within;
       acceptedWeights = weights-within;
@@ -96,6 +103,7 @@ promises =
       twoRuns = two-runs;
       twoSteps = two-steps;
       deadAsWritten = dead-as-written;
+      twoOrders = two-orders;
       decimals = decimals;
       textOfRun = text-of-run;
       printed = printed;

@@ -5,6 +5,7 @@ use Rattle.model.specs.WorkedExamples.{WorkedExamples}
 use Rattle.model.specs.DemandThree.{Demand3}
 use Rattle.model.specs.DeadComplement.{Never16, DeadInComplement}
 use Rattle.model.specs.Steps as step
+use Rattle.model.specs.Orders.{Orders, OrdersInBoth, Interleavings, OrderExamples}
 use Rattle.sheets.specs.Accepted.{AcceptedNet, AcceptedMovements, AcceptedWeights}
 use Rattle.lists.specs.Promises.{SignedWeights}
 use Rattle.written.specs.Promises.{WrittenThenRead, ReadThenWritten, LargestSheet, ExampleLengths}
@@ -20,6 +21,7 @@ use Rattle.statement.specs.Example.{Printed}
 use Rattle.promises.specs.TwoRuns.{TwoRuns}
 use Rattle.promises.specs.TwoSteps.{TwoSteps}
 use Rattle.promises.specs.DeadAsWritten.{DeadAsWritten}
+use Rattle.promises.specs.TwoOrders.{TwoOrders}
 use Rattle.promises.specs.FigureOverRun.{FigureOverRun}
 use Rattle.promises.specs.LiveModes.{LiveModes}
 use Rattle.promises.specs.CallTables.{CallTables}
@@ -58,6 +60,10 @@ pub record Promises : Type 0 where
   pub stepsForth : step.StepsForth
   pub stepMembers : step.StepMembers
   pub stepExamples : step.StepExamples
+  pub orders : Orders
+  pub ordersInBoth : OrdersInBoth
+  pub interleavings : Interleavings
+  pub orderExamples : OrderExamples
   -- of sheets, read and written
   pub acceptedNet : AcceptedNet
   pub acceptedMovements : AcceptedMovements
@@ -85,6 +91,7 @@ pub record Promises : Type 0 where
   pub twoRuns : TwoRuns
   pub twoSteps : TwoSteps
   pub deadAsWritten : DeadAsWritten
+  pub twoOrders : TwoOrders
   pub decimals : Decimals
   pub textOfRun : TextOfRun
   pub printed : Printed
