@@ -32,3 +32,5 @@ pub mod Decisions
 pub mod RefusalTables
 pub mod Steps
 pub mod CorrespondingSteps
+pub mod Audit
+pub mod AuditMoves
