@@ -2,6 +2,7 @@
 use mathlib.Core.Path.{_≡_, sym, _∙_, ap}
 use mathlib.Core.Option.{Option, none, some}
 use Rattle.model.specs.declared.Refusal.{Refusal}
+use Rattle.model.specs.Replies.{yields}
 use Rattle.model.specs.Audit.{Finding}
 use Rattle.audit.specs.declared.Found.{Found}
 use Rattle.audit.specs.declared.Found.the-variants.{Refused}
@@ -15,8 +16,8 @@ module _ {o : Option Refusal} (f : Option Finding) where
   pub finds-same : {p : Option Refusal} {x : Found} → o ≡ p → x ≡ finds p f → x ≡ finds o f
   finds-same e g = g ∙ ap (λ o. finds o f) (sym e)
 
--- an accepted call has its value
-pub value-found : {o : Option Refusal} (f : Option Finding) → o ≡ none → told (finds o f) .value ≡ some f
+-- an accepted call tells what was found
+pub told-found : {o : Option Refusal} (f : Option Finding) → o ≡ none → told (finds o f) ≡ yields f
 unfolding finds
-value-found none e = rw e
-value-found (some f) e = rw e
+told-found none e = rw e
+told-found (some f) e = rw e

@@ -9,12 +9,12 @@ use Rattle.opened.specs.Shape.{arcOffset}
 use Rattle.audit.specs.Audits.{auditingRefusal}
 use Rattle.audit.specs.Promises.{SaysAudited}
 use Rattle.audit.proofs.OneEach.{one-each}
-use Rattle.audit.proofs.Answers.{value-found}
+use Rattle.audit.proofs.Answers.{told-found}
 
 pub says-audited : SaysAudited
 unfolding auditingRefusal
 says-audited net marking beside e =
-    let is = value-found (audited (netOf net) marking beside) e in
+    let is = ap (λ r. r .value) (told-found (audited (netOf net) marking beside) e) in
     let each = one-each (netOf net) marking beside (arcOffset net) (right-none _ _ e) in
     let says = audit-finds (netOf net) marking beside in
     record {

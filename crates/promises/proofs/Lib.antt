@@ -2,6 +2,7 @@ pub mod DemandOne
 pub mod DemandThree
 pub mod TwoRuns
 pub mod TwoSteps
+pub mod Audits
 pub mod FigureOverRun
 pub mod LiveModes
 pub mod Uniqueness
@@ -13,6 +14,7 @@ pub mod WritesNothing
 pub mod CopiesNet
 pub mod RunFrauds
 pub mod StepFrauds
+pub mod AuditFrauds
 pub mod Frauds
 pub mod CallTables
 pub mod Promises

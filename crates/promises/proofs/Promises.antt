@@ -12,6 +12,8 @@ use Rattle.model.proofs.Demand3.{demand3}
 use Rattle.model.proofs.Edges.{starred}
 use Rattle.model.proofs.Steps.{step-rule, step-after, step-of-one}
 use Rattle.model.proofs.CorrespondingSteps.{steps-back, steps-forth, step-examples}
+use Rattle.model.proofs.Audit.{audit-finds, audit-examples}
+use Rattle.model.proofs.AuditMoves.{audit-along, mark-shows}
 use Rattle.sheets.proofs.Accepted.{well-formed}
 use Rattle.sheets.proofs.Lists.{movements-within, weights-within}
 use Rattle.lists.proofs.Signs.{signed-weights}
@@ -21,6 +23,7 @@ use Rattle.fire.proofs.Promises.{accepted-begin, accepted-fire, marking-stays}
 use Rattle.run.proofs.Promises.{runs-leave, runs-keep, certified}
 use Rattle.weigh.proofs.Promises.{figure-is-sum, change-is-sum, figure-fired}
 use Rattle.dead.proofs.Promises.{says-dead, names-first}
+use Rattle.audit.proofs.Promises.{says-audited}
 use Rattle.promises.specs.Promises.{Promises}
 use Rattle.promises.proofs.DemandOne.{demand-one, demand-one-for-c}
 use Rattle.promises.proofs.DemandThree.{over-bytes}
@@ -29,6 +32,7 @@ use Rattle.statement.proofs.TextOfRun.{text-of-run}
 use Rattle.statement.proofs.Example.{printed}
 use Rattle.promises.proofs.TwoRuns.{two-runs}
 use Rattle.promises.proofs.TwoSteps.{two-steps}
+use Rattle.promises.proofs.Audits.{audits}
 use Rattle.promises.proofs.FigureOverRun.{figure-over-run}
 use Rattle.promises.proofs.LiveModes.{live-modes}
 use Rattle.promises.proofs.CallTables.{call-tables}
@@ -64,6 +68,10 @@ promises =
       stepsBack = steps-back;
       stepsForth = steps-forth;
       stepExamples = step-examples;
+      auditFinds = audit-finds;
+      auditAlong = audit-along;
+      markShows = mark-shows;
+      auditExamples = audit-examples;
       acceptedNet = well-formed;
       acceptedMovements = movements-within;
       acceptedWeights = weights-within;
@@ -85,9 +93,11 @@ promises =
       saysDead = says-dead;
       namesFirst = names-first;
       liveModes = live-modes;
+      saysAudited = says-audited;
       overBytes = over-bytes;
       twoRuns = two-runs;
       twoSteps = two-steps;
+      audits = audits;
       decimals = decimals;
       textOfRun = text-of-run;
       printed = printed;

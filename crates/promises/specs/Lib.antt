@@ -3,6 +3,7 @@ pub mod DemandOne
 pub mod DemandThree
 pub mod TwoRuns
 pub mod TwoSteps
+pub mod Audits
 pub mod FigureOverRun
 pub mod LiveModes
 pub mod Uniqueness
