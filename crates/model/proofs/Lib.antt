@@ -34,3 +34,5 @@ pub mod RefusalTables
 pub mod Steps
 pub mod CorrespondingSteps
 pub mod DeadComplement
+pub mod Audit
+pub mod AuditMoves

@@ -3,6 +3,7 @@ pub mod DemandThree
 pub mod TwoRuns
 pub mod TwoSteps
 pub mod DeadAsWritten
+pub mod Audits
 pub mod FigureOverRun
 pub mod LiveModes
 pub mod Uniqueness
@@ -15,6 +16,7 @@ pub mod WritesNothing
 pub mod CopiesNet
 pub mod RunFrauds
 pub mod StepFrauds
+pub mod AuditFrauds
 pub mod Frauds
 pub mod CallTables
 pub mod Promises

@@ -14,6 +14,8 @@ use Rattle.model.proofs.DeadComplement.{never16, dead-in-complement}
 use Rattle.model.proofs.Edges.{starred}
 use Rattle.model.proofs.Steps.{step-rule, step-after, step-of-one, step-members}
 use Rattle.model.proofs.CorrespondingSteps.{steps-back, steps-forth, step-examples}
+use Rattle.model.proofs.Audit.{audit-finds, audit-examples}
+use Rattle.model.proofs.AuditMoves.{audit-along, mark-shows}
 use Rattle.sheets.proofs.Accepted.{well-formed}
 use Rattle.sheets.proofs.Lists.{movements-within, weights-within}
 use Rattle.lists.proofs.Signs.{signed-weights}
@@ -23,6 +25,7 @@ use Rattle.fire.proofs.Promises.{accepted-begin, accepted-fire, marking-stays}
 use Rattle.run.proofs.Promises.{runs-leave, runs-keep, certified}
 use Rattle.weigh.proofs.Promises.{figure-is-sum, change-is-sum, figure-fired}
 use Rattle.dead.proofs.Promises.{says-dead, names-first}
+use Rattle.audit.proofs.Promises.{says-audited}
 use Rattle.promises.specs.Promises.{Promises}
 use Rattle.promises.proofs.DemandOne.{demand-one, demand-one-for-c}
 use Rattle.promises.proofs.DemandThree.{over-bytes}
@@ -32,6 +35,7 @@ use Rattle.statement.proofs.Example.{printed}
 use Rattle.promises.proofs.TwoRuns.{two-runs}
 use Rattle.promises.proofs.TwoSteps.{two-steps}
 use Rattle.promises.proofs.DeadAsWritten.{dead-as-written}
+use Rattle.promises.proofs.Audits.{audits}
 use Rattle.promises.proofs.FigureOverRun.{figure-over-run}
 use Rattle.promises.proofs.LiveModes.{live-modes}
 use Rattle.promises.proofs.CallTables.{call-tables}
@@ -71,6 +75,10 @@ promises =
       stepsForth = steps-forth;
       stepMembers = step-members;
       stepExamples = step-examples;
+      auditFinds = audit-finds;
+      auditAlong = audit-along;
+      markShows = mark-shows;
+      auditExamples = audit-examples;
       acceptedNet = well-formed;
       acceptedMovements = movements-within;
       acceptedWeights = weights-within;
@@ -92,10 +100,12 @@ promises =
       saysDead = says-dead;
       namesFirst = names-first;
       liveModes = live-modes;
+      saysAudited = says-audited;
       overBytes = over-bytes;
       twoRuns = two-runs;
       twoSteps = two-steps;
       deadAsWritten = dead-as-written;
+      audits = audits;
       decimals = decimals;
       textOfRun = text-of-run;
       printed = printed;

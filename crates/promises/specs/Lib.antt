@@ -4,6 +4,7 @@ pub mod DemandThree
 pub mod TwoRuns
 pub mod TwoSteps
 pub mod DeadAsWritten
+pub mod Audits
 pub mod FigureOverRun
 pub mod LiveModes
 pub mod Uniqueness
