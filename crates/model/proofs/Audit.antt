@@ -14,7 +14,7 @@ use Rattle.model.specs.Numbers.{ℕ∞, fin, ∞}
 use Rattle.model.specs.Nets.{PNet, pairs, pairNo, K, count}
 use Rattle.model.specs.Complement.{bounded, complement, Corresponds}
 use Rattle.model.specs.Lists.{joined}
-use Rattle.model.specs.Audit.{addsUp, apart, excessOf, Finding, countBeside, outOfStep, excess, audited, OutOfStep, AuditFinds, AuditExamples}
+use Rattle.model.specs.Audit.{addsUp, strays, excessOf, Finding, countBeside, outOfStep, excess, audited, OutOfStep, AuditFinds, AuditExamples}
 use Rattle.model.proofs.First.{below-or, first-ext, Decides, lowest-none, lowest-some, none-lowest, some-lowest}
 use Rattle.model.proofs.Numbers.{minus-is, minus-below}
 use Rattle.model.proofs.Decisions.{Decided, by-equal, by-not, by-or, by-other}
@@ -51,31 +51,31 @@ module _ (m m′ c : ℕ) where
         complete = λ s. let f : ∞ ≡ fin (s .0) = s .1 in let y : _≡_ {A = ℕ} 0 1 = cc in absurd (omega arith);
       }
 
-  pub decided-apart : (k : ℕ∞) → Decided (apart k m m′ c) ((m ≢ m′) ⊎ ((j : ℕ) × (k ≡ fin j) × (m + c ≢ j)))
-  decided-apart k = by-or (by-not (by-equal m m′)) (decided-sum k)
+  pub decided-strays : (k : ℕ∞) → Decided (strays k m m′ c) ((m ≢ m′) ⊎ ((j : ℕ) × (k ≡ fin j) × (m + c ≢ j)))
+  decided-strays k = by-or (by-not (by-equal m m′)) (decided-sum k)
 
   -- the excess is 0 exactly where nothing is out of step
-  pub zero-excess : (k : ℕ∞) → apart k m m′ c ≡ false → excessOf k m m′ c ≡ pos 0
-  zero-excess k e = go k (equal-decided m m′ (λ no. false≢true (sym e ∙ decided-apart k .complete (inl no)))) (λ j f. equal-decided (m + c) j (λ no. false≢true (sym e ∙ decided-apart k .complete (inr (j, f, no)))))
+  pub zero-excess : (k : ℕ∞) → strays k m m′ c ≡ false → excessOf k m m′ c ≡ pos 0
+  zero-excess k e = go k (equal-decided m m′ (λ no. false≢true (sym e ∙ decided-strays k .complete (inl no)))) (λ j f. equal-decided (m + c) j (λ no. false≢true (sym e ∙ decided-strays k .complete (inr (j, f, no)))))
     where
       go : (k : ℕ∞) → m ≡ m′ → ((j : ℕ) → k ≡ fin j → m + c ≡ j) → excessOf k m m′ c ≡ pos 0
       go (fin j) q sum = rw (eq-eqb (m + c) j (sum j refl), q) (+ℤ-invr (pos m′))
       go ∞ q sum = rw q (+ℤ-invr (pos m′))
 
-  pub excess-zero : (k : ℕ∞) → excessOf k m m′ c ≡ pos 0 → apart k m m′ c ≡ false
+  pub excess-zero : (k : ℕ∞) → excessOf k m m′ c ≡ pos 0 → strays k m m′ c ≡ false
   excess-zero (fin k) e = go (eqb (m + c) k) refl
     where
-      go : (t : Bool) → eqb (m + c) k ≡ t → apart (fin k) m m′ c ≡ false
+      go : (t : Bool) → eqb (m + c) k ≡ t → strays (fin k) m m′ c ≡ false
       go true f = let q : m ≡ m′ = difference-zero m m′ (rw f at e) in rw (f, eq-eqb m m′ q)
       go false f = absurd (false≢true (sym f ∙ eq-eqb (m + c) k (difference-zero (m + c) k (rw f at e))))
   excess-zero ∞ e = let q : m ≡ m′ = difference-zero m m′ e in rw (eq-eqb m m′ q)
 
   -- so that an excess that is known says whether the pair is out of step
-  pub apart-by : (k : ℕ∞) (d : ℕ) → excessOf k m m′ c ≡ pos d → apart k m m′ c ≡ ltb 0 d
-  apart-by k zero e = excess-zero k e
-  apart-by k (suc d) e = go (apart k m m′ c) refl
+  pub strays-by : (k : ℕ∞) (d : ℕ) → excessOf k m m′ c ≡ pos d → strays k m m′ c ≡ ltb 0 d
+  strays-by k zero e = excess-zero k e
+  strays-by k (suc d) e = go (strays k m m′ c) refl
     where
-      go : (t : Bool) → apart k m m′ c ≡ t → apart k m m′ c ≡ ltb 0 (suc d)
+      go : (t : Bool) → strays k m m′ c ≡ t → strays k m m′ c ≡ ltb 0 (suc d)
       go true f = f ∙ sym (lt-ltb 0 (suc d) (omega arith))
       go false f = let z : pos 0 ≡ pos (suc d) = sym (zero-excess k f) ∙ e in let y : 0 ≡ suc d = ap natAbs z in absurd (omega arith)
 
@@ -98,7 +98,7 @@ module _ (m m′ c : ℕ) where
 
 module _ (net : PNet) (m m′ : List ℕ) where
   decided-step : (p : ℕ) → Decided (outOfStep net m m′ p) (OutOfStep net m m′ p)
-  decided-step p = decided-apart (count m p) (count m′ p) (countBeside net m m′ p) (K net p)
+  decided-step p = decided-strays (count m p) (count m′ p) (countBeside net m m′ p) (K net p)
 
   decides-step : Decides (outOfStep net m m′) (OutOfStep net m m′)
   decides-step = record { sound = λ p. decided-step p .sound; complete = λ p. decided-step p .complete }

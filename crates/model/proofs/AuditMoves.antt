@@ -15,7 +15,7 @@ use Rattle.model.specs.Nets.{PNet, pairs, K, count, row}
 use Rattle.model.specs.Firing.{modeRefusal, fired}
 use Rattle.model.specs.Complement.{finite, complementPair, allPairs, complement, refusal15, complementRefusal, Corresponds}
 use Rattle.model.specs.DemandThree.{Complementable}
-use Rattle.model.specs.Audit.{apart, excessOf, countBeside, outOfStep, excess, AuditAlong, marked, takes, takesBeside, MarkShows}
+use Rattle.model.specs.Audit.{strays, excessOf, countBeside, outOfStep, excess, AuditAlong, marked, takes, takesBeside, MarkShows}
 use Rattle.model.proofs.First.{left-none}
 use Rattle.model.proofs.Tables.{table-at}
 use Rattle.model.proofs.Firing.{accepted-there, accepted-enough}
@@ -25,7 +25,7 @@ use Rattle.model.proofs.ComplementNet.{pairs-complement}
 use Rattle.model.proofs.Figure64.{figure-64}
 use Rattle.model.proofs.CorrespondingMoves.{accepts, move-corresponds}
 use Rattle.model.proofs.Demand3.{runs-alike}
-use Rattle.model.proofs.Audit.{in-step, audited-as, apart-by, excess-zero, excess-over, excess-both, difference-more}
+use Rattle.model.proofs.Audit.{in-step, audited-as, strays-by, excess-zero, excess-over, excess-both, difference-more}
 
 -- 15 was not given
 no15 : (net : PNet) (c : Complementable net) → refusal15 (c .offset) net ≡ none
@@ -89,11 +89,11 @@ module _ (about : Thing) (net : PNet) (ok : Complementable net) (t : Mode) (m m�
       either (suc x) y = rw (lt-ltb 0 (suc x) (omega arith)) (lt-ltb 0 (suc x + y) (omega arith))
 
       go : (k : ℕ∞) → K net p ≡ k
-          → (apart k n n′ b ≡ (finite k && (ltb 0 (takes net t p) || ltb 0 (takesBeside net t p))))
+          → (strays k n n′ b ≡ (finite k && (ltb 0 (takes net t p) || ltb 0 (takesBeside net t p))))
           × ((finite k && (ltb 0 (takes net t p) || ltb 0 (takesBeside net t p))) ≡ true → excessOf k n n′ b ≡ pos (takes net t p + takesBeside net t p))
       go (fin k) f =
           let is = excess-both n n′ b k (takes net t p + takesBeside net t p) (same-marked p h) (beside-marked p k h f) in
-          (apart-by n n′ b (fin k) _ is ∙ either (takes net t p) (takesBeside net t p), λ _. is)
+          (strays-by n n′ b (fin k) _ is ∙ either (takes net t p) (takesBeside net t p), λ _. is)
       go ∞ f = (excess-zero n n′ b ∞ (difference-more n n′ 0 (omega (arith, same-marked p h))), λ z. absurd (false≢true z))
 
 pub mark-shows : MarkShows
@@ -101,7 +101,7 @@ mark-shows about net ok t m m′ c e =
     record {
       inNet =
           audited-as net (marked net t m) (fired (complement net) t m′) _ _
-          (λ p h. apart-by _ _ _ (K net p) (takes net t p) (excess-marked about net ok t m m′ c e p h))
+          (λ p h. strays-by _ _ _ (K net p) (takes net t p) (excess-marked about net ok t m m′ c e p h))
           (λ p h _. excess-marked about net ok t m m′ c e p h);
       inBoth =
           audited-as net (marked net t m) (marked (complement net) t m′) _ _

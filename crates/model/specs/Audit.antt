@@ -30,8 +30,8 @@ addsUp (fin k) m c = eqb (m + c) k
 addsUp ∞ m c = true
 
 -- out of step: "the two markings differ on it, or it is bounded and its count and its complement's do not add up to K"
-abbrev pub apart : ℕ∞ → ℕ → ℕ → ℕ → Bool
-apart k m m′ c = not (eqb m m′) || not (addsUp k m c)
+abbrev pub strays : ℕ∞ → ℕ → ℕ → ℕ → Bool
+strays k m m′ c = not (eqb m m′) || not (addsUp k m c)
 
 -- the excess, signed: "count plus complement less K where that is not 0, else the net's count less the complement marking's count of that pair"
 abbrev pub excessOf : ℕ∞ → ℕ → ℕ → ℕ → ℤ
@@ -49,7 +49,7 @@ module _ (net : PNet) (m m′ : List ℕ) where
   countBeside p = count m′ (complementPair (pairs net) (K net) p)
 
   abbrev pub outOfStep : ℕ → Bool
-  outOfStep p = apart (K net p) (count m p) (count m′ p) (countBeside p)
+  outOfStep p = strays (K net p) (count m p) (count m′ p) (countBeside p)
 
   abbrev pub excess : ℕ → ℤ
   excess p = excessOf (K net p) (count m p) (count m′ p) (countBeside p)
