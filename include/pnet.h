@@ -140,6 +140,15 @@ struct pnet_named {
     struct pnet_pair pair;
 };
 
+/* A pair of the net that is out of step and by how much, where found is true; otherwise, and where the call is refused, both are 0 and say
+ * nothing. */
+struct pnet_audited {
+    struct pnet_answer answer;
+    bool found;
+    struct pnet_pair pair;
+    int64_t excess;
+};
+
 /* How many pairs, modes and arcs a net has; each 0 where the call is refused. */
 struct pnet_sized {
     struct pnet_answer answer;
@@ -226,6 +235,17 @@ struct pnet_named pnet_first_dead(const uint8_t *net, size_t net_length);
  * Refuses: the net; 15 at its first arc, of a locally dead mode too; 10 where the complement exceeds a sheet's limits or `room`. A
  * refused call writes nothing. */
 struct pnet_counted pnet_complement(const uint8_t *net, size_t net_length, uint8_t *out, size_t room);
+
+/* Sets a marking of the net beside one of its complement (which has first the net's pairs, then one for each pair of bounded K), and names the
+ * lowest pair of the net at which the two are out of step: they differ on it, or its K is bounded and its count and its complement
+ * pair's do not add up to K. Found is false where there is none: so it is after any movements, where both begin as their nets do and every
+ * movement is fired in both. A token that was left behind is found at once.
+ * The excess is the count plus the complement pair's count less K, where K is bounded and that is not 0; otherwise the count less the count
+ * of the same pair in the complement's marking. Writes nothing. The counts are compared, and may be any.
+ * Refuses: the net; 15 at its first arc; 10 where the complement exceeds a sheet's limits; 17 for the marking, then for the complement's
+ * (PNET_ARGUMENT), where it is not one count for each pair of its net. */
+struct pnet_audited pnet_audit(const uint8_t *net, size_t net_length, const uint32_t *marking, size_t counts,
+                               const uint32_t *complement_marking, size_t complement_counts);
 
 /* Writes the text that `replay` prints for an input (a net sheet, a weight sheet, a movement sheet, then nothing) from the first byte of
  * `out` on; the value is its length. No byte after it is touched. A bad or a long input has a text too: the call

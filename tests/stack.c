@@ -65,7 +65,7 @@ static void net(struct sheet *sheet, int places, int transitions, int arcs, uint
 }
 
 static struct sheet full, half, weights, movements;
-static uint32_t marking[PNET_PAIRS];
+static uint32_t marking[PNET_PAIRS], both[PNET_PAIRS];
 static uint8_t input[65536], out[PNET_TEXT_ROOM];
 static size_t input_length;
 static struct pnet_mode last = {255};
@@ -104,6 +104,7 @@ CALL(is_dead, pnet_is_dead(NET, last).answer)
 CALL(first_dead, pnet_first_dead(NET).answer)
 CALL(size, pnet_size(NET).answer)
 CALL(complement, pnet_complement(half.bytes, half.length, out, sizeof out).answer)
+CALL(audit, pnet_audit(half.bytes, half.length, marking, 128, both, 256).answer)
 CALL(statement, pnet_statement(input, input_length, out, sizeof out).answer)
 
 static const struct {
@@ -120,7 +121,7 @@ static const struct {
     {"pnet_figure", figure, 0, 4096},           {"pnet_change", change, 0, 4096},
     {"pnet_is_dead", is_dead, 0, 4096},         {"pnet_first_dead", first_dead, 0, 4096},
     {"pnet_size", size, 0, 4096},               {"pnet_complement", complement, 0, 4096},
-    {"pnet_statement", statement, 0, 4096},
+    {"pnet_audit", audit, 0, 4096},             {"pnet_statement", statement, 0, 4096},
 };
 
 /* replay's input: the three sheets one after another. */
@@ -156,6 +157,7 @@ int main(void)
     for (int pair = 0; pair < PNET_PAIRS; pair++) {
         put(&weights, 4, 250);
         marking[pair] = 1000;
+        both[pair] = pair < 128 ? 1000 : 999000; /* the complement of half: K is 1000000 */
     }
     close(&weights);
     open(&movements);

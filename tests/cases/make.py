@@ -8,18 +8,20 @@ A list has, each with its lines below it, indented; `#` starts a comment, which 
 
     net NAME            places (colours of each), transitions (modes of each), `pair 0: K 5, first 3`, `mode 0, pair 0: Pre 1, Post 0, I 4`
     weights, movements, marking NAME: numbers
-    case NAME           `call fire, net P1, marking 3 1, mode 0`, of a step `modes 0 1` or `modes 65 times 0`; what it answers, `accepted` or
-                        `refused by 13, thing 3, at 0, amount 1` (a number that is not said is 0), with what it yields, `value 91`, `yes`, `no` or `mode 1 pair 1`;
+    case NAME           `call fire, net P1, marking 3 1, mode 0`, of a step `modes 0 1` or `modes 65 times 0`, of an audit `beside 3 1 2`, the complement's
+                        marking; what it answers, `accepted` or
+                        `refused by 13, thing 3, at 0, amount 1` (a number that is not said is 0), with what it yields, `value 91`, `yes`, `no`, `mode 1 pair 1` or
+                        `pair 6 excess -1`;
                         `leaves 2 1`, the marking after (else it is as before); `writes NAME`, the sheet in the bytes lent, of which it has `room` (else
                         nothing is written)
     both NET, COMPLEMENT   a row is a marking, `|` and the counts of its complement pairs, a mode, and `to` the marking after, or the refusals: `13 at 0 amount 1 | 11 at 2 amount 1`.
                         Each is tested and fired, in the net and in its complement: four cases.
 
-Sheets at the limits are made by limits.py, by name. A call is added in two places: a row of CALLS, and an arm with its number in crates/cases/src/calls.rt, in the
+Sheets at the limits are made by limits.py, by name; `refit` is the net of examples/refit. A call is added in two places: a row of CALLS, and an arm with its number in crates/cases/src/calls.rt, in the
 group that tells what it tells. A call that tells something new gets a group, a function in src/told.rt and a line in answer_of.
 
 A case in stdin is the length of what follows, then eight parts, a length before each: call, number and room; name; first and second run of bytes, where the modes of
-a step are counts; counts lent; what is told; counts after; bytes written. Lengths and numbers are 4 bytes, big-endian."""
+a step and a complement's marking are counts; counts lent; what is told; counts after; bytes written. Lengths and numbers are 4 bytes, big-endian."""
 import pathlib, re, struct, sys
 
 here = pathlib.Path(__file__).resolve().parent
@@ -45,12 +47,11 @@ CALLS = {
     "change": (33, "net", "weights"),
     "is_dead": (48, "net", ""),
     "first_dead": (49, "net", ""),
-    "adds_up": (50, "net", ""),
+    "audit": (50, "net", "beside"),
 }
 
-sheets = dict(limits.SHEETS)
+sheets = dict(limits.SHEETS, refit=(top / "examples/refit/net.sheet").read_bytes())
 markings = dict(limits.MARKINGS)
-capacities = {}
 cases = []
 
 
@@ -85,7 +86,6 @@ def parse_net(name, lines):
             given[word] = [int(n) for n in numbers]
     assert len(given) == 2 and sum(given["places"]) == len(pairs), lines
     sheets[name] = net(given["places"], given["transitions"], pairs, arcs)
-    capacities[name] = [pair[0] for pair in pairs]
 
 
 def pack(numbers):
@@ -99,9 +99,7 @@ def add(name, call, arguments, told, after, written):
     left = lent if after is None else after
     room = int(arguments.get("room", 0))
     assert len(left) == len(lent) and len(written) <= room and set(arguments) <= known, name
-    runs = [pack(counts(arguments[word])) if word == "modes" else bytes_of(arguments.get(word, "")) for word in (first, second)]
-    if call == "adds_up":
-        runs, lent, left = [pack(capacities[arguments["net"]]), pack(lent)], [], []
+    runs = [pack(counts(arguments[word])) if word in ("modes", "beside") else bytes_of(arguments.get(word, "")) for word in (first, second)]
     argument = int(arguments.get("mode", arguments.get("pairs", 0)))
     parts = [pack([code, argument, room]), name.encode(), *runs, pack(lent), pack([*told, len(lent), room]), pack(left), written]
     body = b"".join(pack([len(part)]) + part for part in parts)
@@ -109,22 +107,20 @@ def add(name, call, arguments, told, after, written):
 
 
 def answer_of(call, line):
-    """What is told, as src/told.rt and src/sums.rt put it."""
-    broken = re.fullmatch(r"pair (\d+) adds up to (\d+) and not (\d+)", line)
-    found = re.fullmatch(r"(?:accepted|adds up|refused by (\d+)(?:, thing (\d+))?(?:, at (\d+))?(?:, amount (\d+))?)(?:, (value -?\d+|yes|no|mode \d+ pair \d+))?", line)
-    assert broken or found, line
-    if broken:
-        pair, total, capacity = map(int, broken.groups())
-        told = [1, 0, pair, 0, 0, capacity, total]
+    """What is told, as src/told.rt puts it."""
+    found = re.fullmatch(r"(?:accepted|refused by (\d+)(?:, thing (\d+))?(?:, at (\d+))?(?:, amount (\d+))?)(?:, (value -?\d+|yes|no|mode \d+ pair \d+|pair \d+ excess -?\d+))?", line)
+    assert found, line
+    word, *rest = (found[5] or "no").split()
+    told = [int(number or 0) for number in found.groups()[:4]]
+    if word == "value":
+        told += [rest[0].startswith("-"), *divmod(abs(int(rest[0])), 2**32)]
+    elif word == "mode":
+        told += [1, int(rest[0]), int(rest[2])]
+    elif word == "pair":
+        high, low = divmod(abs(int(rest[2])), 2**32)
+        told += [1 + rest[2].startswith("-"), int(rest[0]) * 65536 + high, low]
     else:
-        word, *rest = (found[5] or "no").split()
-        told = [int(number or 0) for number in found.groups()[:4]]
-        if word == "value":
-            told += [rest[0].startswith("-"), *divmod(abs(int(rest[0])), 2**32)]
-        elif word == "mode":
-            told += [1, int(rest[0]), int(rest[2])]
-        else:
-            told += [word == "yes"]
+        told += [word == "yes"]
     return [*told, *[0] * (7 - len(told))]
 
 

@@ -15,6 +15,7 @@ use Rattle.dead.specs.IsDead as one
 use Rattle.dead.specs.FirstDead as first
 use Rattle.size.specs.Sizes as size
 use Rattle.complement.specs.Complemented as complement
+use Rattle.audit.specs.Audits as audit
 use Rattle.statement.specs.Replay.{stated, statedIn}
 use Rattle.answers.specs.declared.Answered.{Answered}
 use Rattle.answers.specs.declared.Counted.{Counted}
@@ -22,7 +23,8 @@ use Rattle.answers.specs.declared.Weighed.{Weighed}
 use Rattle.answers.specs.declared.Decided.{Decided}
 use Rattle.answers.specs.declared.Named.{Named}
 use Rattle.answers.specs.declared.Sized.{Sized}
-use Rattle.answers.specs.Told.{answered, counted, weighed, decided, named, sized, textTold}
+use Rattle.answers.specs.declared.Audited.{Audited}
+use Rattle.answers.specs.Told.{answered, counted, weighed, decided, named, sized, audited, textTold}
 use Rattle.abi.specs.Told.{ran, taken}
 
 -- the readers, on a run of bytes
@@ -75,6 +77,9 @@ module _ (net : List ℕ) where
 
   abbrev pub ComplementAllows : List ℕ → Counted × List ℕ → Type 0
   ComplementAllows out o = (o .0 ≡ counted (complement.told (complement.complementOf net out))) × (o .1 ≡ complement.outputOf net out)
+
+  abbrev pub AuditAllows : List ℕ → List ℕ → Audited → Type 0
+  AuditAllows marking beside told = told ≡ audited (audit.told (audit.auditedOf net marking beside))
 
 abbrev pub StatementAllows : List ℕ → List ℕ → Counted × List ℕ → Type 0
 StatementAllows input out o = (o .0 ≡ counted (textTold (stated input out))) × (o .1 ≡ statedIn input out)

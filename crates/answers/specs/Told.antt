@@ -11,6 +11,7 @@ use Rattle.model.specs.Refusals.{Carried, carried}
 use Rattle.model.specs.Replies.{Reply, yields, refuses}
 use Rattle.model.specs.Nets.{pairNo, modeNo}
 use Rattle.model.specs.Dead.{DeadMode}
+use Rattle.model.specs.Audit.{Finding}
 use Rattle.size.specs.declared.NetSize.{NetSize}
 use Rattle.statement.specs.declared.Stated.{Stated}
 use Rattle.statement.specs.declared.Stated.the-variants.{Written, NoRoom}
@@ -20,6 +21,7 @@ use Rattle.answers.specs.declared.Weighed.{Weighed}
 use Rattle.answers.specs.declared.Decided.{Decided}
 use Rattle.answers.specs.declared.Named.{Named}
 use Rattle.answers.specs.declared.Sized.{Sized}
+use Rattle.answers.specs.declared.Audited.{Audited}
 
 -- what an answer carries
 abbrev pub telling : Carried → Answered
@@ -55,6 +57,14 @@ sizing a size = record { answer = a; pairs = size .pairs; modes = size .modes; a
 
 abbrev pub sized : Reply NetSize → Sized
 sized r = sizing (telling (r .carried)) (valueOr (record { pairs = 0; modes = 0; arcs = 0 }) (r .value))
+
+-- a pair and its excess, where one was found
+abbrev pub finding : Answered → Option Finding → Audited
+finding a none = record { answer = a; found = false; pair = pairNo 0; excess = pos 0 }
+finding a (some f) = record { answer = a; found = true; pair = f .pair; excess = f .excess }
+
+abbrev pub audited : Reply (Option Finding) → Audited
+audited r = finding (telling (r .carried)) (valueOr none (r .value))
 
 -- the text of `replay`; 10: "or the output slice is shorter than it"
 abbrev pub textTold : Stated → Reply ℕ

@@ -1,4 +1,5 @@
 // What a call tells C, as structs by value: document 01's number, thing and position, document 02's amount, and the value, 0 where a refused call has none.
+use audit::Found;
 use complement::Complemented;
 use dead::Deadness;
 use dead::FirstDead;
@@ -18,12 +19,13 @@ ghost use mathlib.Core.Option.{none};
 ghost use Rattle.model.specs.declared.Thing.the-variants.{Net};
 ghost use Rattle.model.specs.declared.Fault.the-variants.{NoRoom};
 ghost use Rattle.model.specs.declared.Answer.the-variants.{Refused};
+ghost use Rattle.audit.specs.Audits.{told as auditTold};
 ghost use Rattle.complement.specs.Complemented.{told as complementTold};
 ghost use Rattle.dead.specs.FirstDead.{told as firstDeadTold};
 ghost use Rattle.dead.specs.IsDead.{told as deadnessTold};
 ghost use Rattle.size.specs.Sizes.{told as measuredTold};
 ghost use Rattle.weigh.specs.Calls.{told as figuredTold};
-ghost use Rattle.answers.specs.Told.{answered, counted, textTold, weighed, decided, naming, named, sized};
+ghost use Rattle.answers.specs.Told.{answered, counted, textTold, weighed, decided, naming, named, sized, finding, audited};
 
 #[repr(C)]
 pub struct Answered {
@@ -70,6 +72,15 @@ pub struct Sized {
     pub pairs: u64,
     pub modes: u64,
     pub arcs: u64,
+}
+
+// A pair and its excess, where there is one.
+#[repr(C)]
+pub struct Audited {
+    pub answer: Answered,
+    pub found: bool,
+    pub pair: Pair,
+    pub excess: i64,
 }
 
 pub fn accepted() -> Answered
@@ -222,5 +233,32 @@ pub fn tell_size(measured: Measured) -> Sized
             modes: 0,
             arcs: 0,
         },
+    }
+}
+
+// No pair and no excess: numbers 0, which say nothing.
+fn none_out(answer: Answered) -> Audited
+    ensures { λ r. ⌜ r ≡ finding answer none ⌝ }
+{
+    Audited {
+        answer,
+        found: false,
+        pair: Pair(0),
+        excess: 0,
+    }
+}
+
+pub fn tell_audit(found: Found) -> Audited
+    ensures { λ r. ⌜ r ≡ audited (auditTold found) ⌝ }
+{
+    match found {
+        Found::At(pair, excess) => Audited {
+            answer: accepted(),
+            found: true,
+            pair,
+            excess,
+        },
+        Found::Nothing => none_out(accepted()),
+        Found::Refused(refusal) => none_out(refused(refusal)),
     }
 }

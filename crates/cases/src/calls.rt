@@ -1,9 +1,9 @@
 // The calls, by the numbers that tests/cases/make.py gives them, 16 to each group that tells alike. `first` is the net or the sheet that is read, `second` the
-// weights, the movements or the modes of a step. The last arm of a group is its last call.
+// weights, the movements, the modes of a step or the complement's marking. The last arm of a group is its last call.
+use crate::audits::audit;
 use crate::parts::count_in;
 use crate::parts::part;
 use crate::steps::step;
-use crate::sums::add_up;
 use crate::told::Told;
 use crate::told::told_alone;
 use crate::told::told_count;
@@ -62,11 +62,11 @@ fn weigh(call: u32, mode: Mode, first: &[u8], second: &[u8], marking: &[u32]) ->
     }
 }
 
-fn look(call: u32, mode: Mode, first: &[u8], second: &[u8]) -> Told {
+fn look(call: u32, mode: Mode, first: &[u8], second: &[u8], marking: &[u32]) -> Told {
     match call {
         48 => told_decision(pnet_is_dead(first, mode)),
         49 => told_name(pnet_first_dead(first)),
-        _ => add_up(first, second),
+        _ => audit(first, second, marking),
     }
 }
 
@@ -83,7 +83,7 @@ fn tell(
         0 => told_alone(answer(call, mode, first, second, marking)),
         1 => told_count(count(call, number as usize, first, second, marking, out)),
         2 => told_kilograms(weigh(call, mode, first, second, marking)),
-        _ => look(call, mode, first, second),
+        _ => look(call, mode, first, second, marking),
     }
 }
 

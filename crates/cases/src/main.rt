@@ -1,10 +1,10 @@
 // Runs the cases of standard input (tests/cases/make.py writes them, and says what a case holds) and prints a line for each: its name and `ok`, or what
 // was found instead. The last line has the counts.
+mod audits;
 mod calls;
 mod compared;
 mod parts;
 mod steps;
-mod sums;
 mod told;
 
 use crate::calls::call;

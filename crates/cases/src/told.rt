@@ -1,6 +1,7 @@
 // What a call tells C, in one form: document 01's number, thing and position, document 02's amount, then what the call yields: a number as its sign (1 where it is negative), its upper and
-// its lower 32 bits; yes as 1; a mode and its pair after a 1.
+// its lower 32 bits; yes as 1; a mode and its pair after a 1; a pair and its excess after a 1, or a 2 where that is negative, the pair's number above the upper bits.
 use answers::Answered;
+use answers::Audited;
 use answers::Counted;
 use answers::Decided;
 use answers::Named;
@@ -73,6 +74,31 @@ pub(crate) fn told_name(named: Named) -> Told {
         sign: named.found as u32,
         high: mode.0 as u32,
         low: pair.0 as u32,
+    }
+}
+
+// 0 where nothing was found.
+fn found_sign(found: bool, excess: i64) -> u32 {
+    if !found {
+        return 0;
+    }
+    if excess < 0 {
+        return 2;
+    }
+    1
+}
+
+// An excess has at most 34 bits.
+pub(crate) fn told_finding(audited: Audited) -> Told {
+    let answer = audited.answer;
+    let excess = audited.excess;
+    let pair = audited.pair;
+    let size = size(excess);
+    Told {
+        answer,
+        sign: found_sign(audited.found, excess),
+        high: (pair.0 as u32) * 65536 + ((size / 4_294_967_296 % 65536) as u32),
+        low: (size % 4_294_967_296) as u32,
     }
 }
 

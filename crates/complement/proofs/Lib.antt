@@ -1,2 +1,3 @@
 pub mod SheetParts
 pub mod Answers
+pub mod WithoutOutput

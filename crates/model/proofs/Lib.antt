@@ -36,3 +36,5 @@ pub mod CorrespondingSteps
 pub mod DeadComplement
 pub mod Orders
 pub mod ApartInBoth
+pub mod OutOfStep
+pub mod OutOfStepMoves

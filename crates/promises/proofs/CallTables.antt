@@ -7,6 +7,7 @@ use mathlib.Core.Logic.{_⊎_, inl, inr, ⊎-elim}
 use mathlib.Core.Option.{Option, none, some}
 use lib.Dec.{leb}
 use lib.ListN.{length, take, getD}
+use borrow.Author.Tests.{le-ltb}
 use native.Mathlib.Omega.{arith}
 use Rattle.model.specs.declared.Mode.{Mode}
 use Rattle.model.specs.declared.Thing.{Thing}
@@ -25,6 +26,8 @@ use Rattle.model.specs.Firing.{stops, stoppedBy, stopped, lowestStop, ruleRefus
 use Rattle.model.specs.Steps.{together, stepRefusal}
 use Rattle.model.specs.Runs.{Outcome, goOn, runFrom, run, elsewhere, endsAt, certificateRefusal}
 use Rattle.model.specs.Complement.{finite, complement, refusal15, sheetLimits, complementRefusal}
+use Rattle.model.specs.Markings.{unequal}
+use Rattle.model.specs.Audit.{auditRefusal}
 use Rattle.model.proofs.First.{below-or, left-none, then-none, then-assoc, then-under}
 use Rattle.model.proofs.Runs.{runs}
 use Rattle.model.proofs.Decisions.{Decided, by-less, by-at-most, by-equal, by-above, by-not, by-or, by-and, by-other}
@@ -35,6 +38,7 @@ use Rattle.heads.specs.Layout.{sheetEnd}
 use Rattle.sheets.specs.Whole.{bytesAfter, wholeNet, wholeWeights, wholeMovements}
 use Rattle.sheets.specs.Decoded.{netOf, movementsOf}
 use Rattle.sheets.proofs.RefusalTables.{sheet-tables}
+use Rattle.opened.specs.Shape.{arcOffset}
 use Rattle.written.specs.Written.{sheetOf}
 use Rattle.fire.specs.Calls.{beginRefusal, testRefusal}
 use Rattle.run.specs.Calls.{beforeRun, runOf, certifyRefusal}
@@ -42,6 +46,7 @@ use Rattle.step.specs.Calls.{stepModes, testStepRefusal}
 use Rattle.weigh.specs.Calls.{figureRefusal, changeRefusal}
 use Rattle.dead.specs.IsDead.{deadRefusal}
 use Rattle.complement.specs.Complemented.{roomRefusal, complementingRefusal}
+use Rattle.audit.specs.Audits.{auditingRefusal}
 use Rattle.promises.specs.CallTables.{bytesLeft, wholeNetTable, wholeWeightTable, wholeMovementTable, markingAfter, movesTable, certificateTable, stepTable, roomTable, RunReads, CallTables}
 
 -- a sheet's table, then left-over bytes
@@ -176,6 +181,17 @@ room-reads s room =
     (reads-either _ (past-limits (length (complement net .colours)) (pairs (complement net)) (length (complement net .arcs)))
     (by-less room (length (sheetOf (complement net))))))
 
+-- an audit: where the room is the sheet's own length, complementing is never short of it
+room-refusal : (s : List ℕ) → roomRefusal s (length (sheetOf (complement (netOf s)))) ≡ complementRefusal (arcOffset s) (netOf s)
+unfolding roomRefusal
+room-refusal s = let n = length (sheetOf (complement (netOf s))) in rw (le-ltb n n (omega arith)) (then-none _)
+
+audit-refusal : (net marking beside : List ℕ)
+    → complementingRefusal net (length (sheetOf (complement (netOf net)))) ▸ unequal (netOf net) marking ▸ unequal (complement (netOf net)) beside
+    ≡ auditingRefusal net marking beside
+unfolding complementingRefusal auditingRefusal auditRefusal
+audit-refusal net marking beside = rw (room-refusal net) (then-assoc _ _ _)
+
 pub call-tables : CallTables
 unfolding beginRefusal testRefusal testStepRefusal certifyRefusal figureRefusal changeRefusal deadRefusal complementingRefusal
 call-tables =
@@ -199,4 +215,8 @@ call-tables =
           reads-then (net-reads net) (reads-then (weights-reads (pairs (netOf net)) weights) (missing-reads Argument (netOf net) t));
       isDead = λ net t. reads-then (net-reads net) (missing-reads Argument (netOf net) t);
       complement = λ net room. reads-then (net-reads net) (room-reads net room);
+      audit = λ net marking beside.
+          subst (Reads _) (audit-refusal net marking beside)
+          (reads-then (reads-then (net-reads net) (room-reads net (length (sheetOf (complement (netOf net))))))
+          (reads-then (one-each-reads (netOf net) marking) (one-each-reads (complement (netOf net)) beside)));
     }

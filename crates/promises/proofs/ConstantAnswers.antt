@@ -36,6 +36,8 @@ use Rattle.dead.specs.FirstDead as first
 use Rattle.complement.specs.Complemented.{complementingRefusal}
 use Rattle.size.specs.Sizes as sizing
 use Rattle.complement.specs.Complemented as complementing
+use Rattle.audit.specs.Audits.{finds, auditingRefusal}
+use Rattle.audit.specs.Audits as auditing
 use Rattle.text.specs.declared.Put.{Put}
 use Rattle.text.specs.Decimals.{digit, decimal, decimalWithin, signedDecimal}
 use Rattle.text.specs.Puts.{endWithin, putTo}
@@ -123,6 +125,10 @@ complement-cut : complementingRefusal lone 0 ≡ some (cutShort Net)
 unfolding complementingRefusal
 complement-cut = whole-cut _
 
+audit-cut : auditingRefusal lone [] [] ≡ some (cutShort Net)
+unfolding auditingRefusal
+audit-cut = whole-cut _
+
 -- the sheets of document 01's example, each a run of its own, hand back an empty part
 net-accepted : netRefusal own.net ≡ none
 unfolding wholeNet
@@ -184,7 +190,7 @@ module _ (input out : List ℕ) (o : Stated × List ℕ) (allowed : StatementAll
   text-refused h = ap (λ s. textTold s .carried .number) (allowed .0) ∙ rw (lt-ltb (length out) room h)
 
 pub constant-answers : ConstantAnswers
-unfolding wholeNet wholeWeights wholeMovements beginRefusal testRefusal runOf certifyRefusal figured decimal decimalWithin signedDecimal
+unfolding wholeNet wholeWeights wholeMovements beginRefusal testRefusal runOf certifyRefusal figured finds decimal decimalWithin signedDecimal
 constant-answers =
     record {
       readNet = varies _ _ own.net lone (says net-accepted) (says net-cut);
@@ -225,6 +231,9 @@ constant-answers =
       complement =
           varies _ _ (own.net, own.room) (lone, []) (λ o a. ap (λ r. r .carried .number) (own-example .complement o a))
           (λ o a. ap (λ o. complementing.told o .carried .number) (a .0) ∙ rw complement-cut);
+      audit =
+          varies _ _ (own.net, 3 ∷ 1 ∷ [], 2 ∷ 1 ∷ 3 ∷ []) (lone, [], []) (λ o a. ap (λ r. r .carried .number) (own-example .audit o a))
+          (λ o a. ap (λ o. auditing.told o .carried .number) a ∙ rw audit-cut);
       putBytes = varies _ _ (lone, 0, digits) ([], 0, digits) fits no-room;
       putDecimal = varies _ _ (lone, 0, 0) ([], 0, 0) fits no-room;
       putSigned = varies _ _ (lone, 0, pos 0) ([], 0, pos 0) fits no-room;

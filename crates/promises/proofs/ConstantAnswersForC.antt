@@ -4,9 +4,11 @@ use mathlib.Core.Path.{_≡_, refl, sym, _∙_, ap}
 use mathlib.Core.Option.{Option, none, some}
 use Rattle.model.specs.Replies.{Reply}
 use Rattle.model.specs.Dead.{DeadMode}
+use Rattle.model.specs.Audit.{Finding}
 use Rattle.dead.specs.FirstDead as first
+use Rattle.audit.specs.Audits as auditing
 use Rattle.answers.specs.declared.Answered.{Answered}
-use Rattle.answers.specs.Told.{telling, valueOr, naming, named}
+use Rattle.answers.specs.Told.{telling, valueOr, naming, named, finding, audited}
 use Rattle.promises.specs.ConstantAnswers.{Varies}
 use Rattle.promises.specs.ConstantAnswersForC.{ConstantAnswersForC}
 use Rattle.promises.proofs.ConstantAnswers.{accepts-and-refuses, constant-answers}
@@ -25,6 +27,13 @@ naming-number a (some d) = refl
 
 named-number : (r : Reply (Option DeadMode)) → named r .answer .number ≡ r .carried .number
 named-number r = naming-number (telling (r .carried)) (valueOr none (r .value))
+
+finding-number : (a : Answered) (found : Option Finding) → finding a found .answer .number ≡ a .number
+finding-number a none = refl
+finding-number a (some f) = refl
+
+audited-number : (r : Reply (Option Finding)) → audited r .answer .number ≡ r .carried .number
+audited-number r = finding-number (telling (r .carried)) (valueOr none (r .value))
 
 pub constant-answers-for-c : ConstantAnswersForC
 constant-answers-for-c =
@@ -47,5 +56,6 @@ constant-answers-for-c =
           tells (library .firstDead) (λ i p a. (_, refl, ap (λ r. r .answer .number) a ∙ named-number (first.told (first.firstDeadOf i))));
       size = tells (library .size) (λ i p a. (_, refl, ap (λ r. r .answer .number) a));
       complement = tells (library .complement) (λ i p a. ((_, p .1), (refl, a .1), ap (λ r. r .answer .number) (a .0)));
+      audit = tells (library .audit) (λ i p a. (_, refl, ap (λ r. r .answer .number) a ∙ audited-number (auditing.told (auditing.auditedOf (i .0) (i .1) (i .2)))));
       statement = tells (library .statement) (λ i p a. ((_, p .1), (refl, a .1), ap (λ r. r .answer .number) (a .0)));
     }

@@ -7,6 +7,7 @@ use Rattle.promises.proofs.WritesNothing.{writes-nothing}
 use Rattle.promises.proofs.CopiesNet.{copies-net}
 use Rattle.promises.proofs.RunFrauds.{run-frauds}
 use Rattle.promises.proofs.StepFrauds.{first-member-alone}
+use Rattle.promises.proofs.AuditFrauds.{always-in-step}
 
 pub frauds : Frauds
 frauds =
@@ -18,4 +19,5 @@ frauds =
       copying = copies-net;
       running = run-frauds;
       stepping = first-member-alone;
+      auditing = always-in-step;
     }

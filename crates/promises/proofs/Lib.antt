@@ -4,6 +4,7 @@ pub mod TwoRuns
 pub mod TwoSteps
 pub mod DeadAsWritten
 pub mod TwoOrders
+pub mod Audits
 pub mod FigureOverRun
 pub mod LiveModes
 pub mod Uniqueness
@@ -16,6 +17,7 @@ pub mod WritesNothing
 pub mod CopiesNet
 pub mod RunFrauds
 pub mod StepFrauds
+pub mod AuditFrauds
 pub mod Frauds
 pub mod CallTables
 pub mod Promises

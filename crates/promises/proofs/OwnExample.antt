@@ -15,17 +15,19 @@ use Rattle.model.specs.declared.Why.the-variants.{Lacking}
 use Rattle.model.specs.declared.Refusal.{Refusal}
 use Rattle.model.specs.Numbers.{∞}
 use Rattle.model.specs.First.{_▸_, first}
-use Rattle.model.specs.Nets.{modeNo, entryAt}
+use Rattle.model.specs.Nets.{modeNo, entryAt, pairNo}
 use Rattle.model.specs.Refusals.{answer, number, carried}
 use Rattle.model.specs.Runs.{Outcome, runFrom, run, elsewhere, endsAt, certificateRefusal}
 use Rattle.model.specs.Figures.{sum, figure, change}
 use Rattle.model.specs.Dead.{deadPair, isDead, firstDead}
 use Rattle.model.specs.Complement.{bounded, complementRow, newPlaces, arcsOf, complement, refusal15, sheetLimits, complementRefusal}
+use Rattle.model.specs.Replies.{yields}
+use Rattle.model.specs.Audit.{audited, auditRefusal}
 use Rattle.model.specs.Lists.{joined, table}
 use Rattle.model.specs.Firing.{stopped, ruleRefusal, rowRefusal, modeRefusal, fired}
 use Rattle.model.specs.Steps.{together, stepRefusal, firedTogether}
 use Rattle.model.specs.WellFormed.{InRange, ArcOf, WellFormed}
-use Rattle.model.specs.Markings.{markingRefusal}
+use Rattle.model.specs.Markings.{unequal, markingRefusal}
 use Rattle.model.proofs.First.{left-none, right-none, none-then}
 use Rattle.model.proofs.Markings.{marking-test}
 use Rattle.model.proofs.Each.{each-at, sorted-rising}
@@ -53,6 +55,9 @@ use Rattle.dead.specs.FirstDead as first
 use Rattle.size.specs.Sizes as sizing
 use Rattle.complement.specs.Complemented as complementing
 use Rattle.complement.specs.Complemented.{roomRefusal, complementingRefusal}
+use Rattle.audit.specs.Audits as auditing
+use Rattle.audit.specs.Audits.{auditingRefusal}
+use Rattle.audit.proofs.Answers.{told-found}
 use Rattle.promises.specs.OwnExample.{example, RunsTo, OwnExample}
 use Rattle.promises.specs.OwnExample as own
 use Rattle.statement.specs.Example as sheets
@@ -224,6 +229,20 @@ complement-accepted : complementingRefusal own.net (length own.room) ≡ none
 unfolding complementingRefusal roomRefusal
 complement-accepted = none-then (read-back .accepted) (rw (read-back .same) (none-then (complement-passes (arcOffset own.net)) (rw complement-length)))
 
+three-counts : unequal (complement example) (2 ∷ 1 ∷ 3 ∷ []) ≡ none
+unfolding complement newPlaces bounded joined
+three-counts = refl
+
+audit-accepted : auditingRefusal own.net (3 ∷ 1 ∷ []) (2 ∷ 1 ∷ 3 ∷ []) ≡ none
+unfolding auditingRefusal auditRefusal
+audit-accepted =
+    none-then (read-back .accepted)
+    (rw (read-back .same) (none-then (complement-passes (arcOffset own.net)) (none-then refl three-counts)))
+
+left-aboard : audited example (3 ∷ 1 ∷ []) (2 ∷ 1 ∷ 3 ∷ []) ≡ some (record { pair = pairNo 0; excess = pos 1 })
+unfolding audited bounded joined first _▸_
+left-aboard = refl
+
 run-allows : (o : Ran × List ℕ) → RunAllows own.net sheets.movements (3 ∷ 0 ∷ []) o → RunsTo o
 run-allows o a =
     let told : o .0 ≡ ranOf stops = a .0 ∙ ap ranOf run-is in
@@ -250,4 +269,5 @@ own-example =
       firstDead = λ o a. ap first.told a ∙ rw (read-back .accepted, read-back .same, none-dead);
       size = λ o a. ap sizing.told a ∙ rw (read-back .accepted, read-back .same);
       complement = λ o a. ap complementing.told (a .0) ∙ rw (complement-accepted, read-back .same, complement-length);
+      audit = λ o a. ap auditing.told a ∙ told-found _ audit-accepted ∙ rw (read-back .same) (ap yields left-aboard);
     }

@@ -16,6 +16,8 @@ use Rattle.model.proofs.Steps.{step-rule, step-after, step-of-one, step-members
 use Rattle.model.proofs.CorrespondingSteps.{steps-back, steps-forth, step-examples}
 use Rattle.model.proofs.Orders.{orders, interleavings}
 use Rattle.model.proofs.ApartInBoth.{orders-in-both, order-examples}
+use Rattle.model.proofs.OutOfStep.{audit-finds, audit-examples}
+use Rattle.model.proofs.OutOfStepMoves.{audit-along, mark-shows}
 use Rattle.sheets.proofs.Accepted.{well-formed}
 use Rattle.sheets.proofs.Lists.{movements-within, weights-within}
 use Rattle.lists.proofs.Signs.{signed-weights}
@@ -25,6 +27,7 @@ use Rattle.fire.proofs.Promises.{accepted-begin, accepted-fire, marking-stays}
 use Rattle.run.proofs.Promises.{runs-leave, runs-keep, certified}
 use Rattle.weigh.proofs.Promises.{figure-is-sum, change-is-sum, figure-fired}
 use Rattle.dead.proofs.Promises.{says-dead, names-first}
+use Rattle.audit.proofs.Promises.{says-audited}
 use Rattle.promises.specs.Promises.{Promises}
 use Rattle.promises.proofs.DemandOne.{demand-one, demand-one-for-c}
 use Rattle.promises.proofs.DemandThree.{over-bytes}
@@ -35,6 +38,7 @@ use Rattle.promises.proofs.TwoRuns.{two-runs}
 use Rattle.promises.proofs.TwoSteps.{two-steps}
 use Rattle.promises.proofs.DeadAsWritten.{dead-as-written}
 use Rattle.promises.proofs.TwoOrders.{two-orders}
+use Rattle.promises.proofs.Audits.{audits}
 use Rattle.promises.proofs.FigureOverRun.{figure-over-run}
 use Rattle.promises.proofs.LiveModes.{live-modes}
 use Rattle.promises.proofs.CallTables.{call-tables}
@@ -78,6 +82,10 @@ promises =
       ordersInBoth = orders-in-both;
       interleavings = interleavings;
       orderExamples = order-examples;
+      auditFinds = audit-finds;
+      auditAlong = audit-along;
+      markShows = mark-shows;
+      auditExamples = audit-examples;
       acceptedNet = well-formed;
       acceptedMovements = movements-within;
       acceptedWeights = weights-within;
@@ -99,11 +107,13 @@ promises =
       saysDead = says-dead;
       namesFirst = names-first;
       liveModes = live-modes;
+      saysAudited = says-audited;
       overBytes = over-bytes;
       twoRuns = two-runs;
       twoSteps = two-steps;
       deadAsWritten = dead-as-written;
       twoOrders = two-orders;
+      audits = audits;
       decimals = decimals;
       textOfRun = text-of-run;
       printed = printed;

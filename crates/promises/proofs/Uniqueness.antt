@@ -27,6 +27,7 @@ for-c =
       firstDead = λ net. one-answer _;
       size = λ net. one-answer _;
       complement = λ net out. answer-and-slice _ _;
+      audit = λ net marking beside. one-answer _;
       statement = λ input out. answer-and-slice _ _;
     }
 
@@ -55,6 +56,7 @@ uniqueness =
       firstDead = λ net. one-answer _;
       size = λ net. one-answer _;
       complement = λ net out. answer-and-slice _ _;
+      audit = λ net marking beside. one-answer _;
       putBytes = λ out at bytes. answer-and-slice _ _;
       putDecimal = λ out at n. answer-and-slice _ _;
       putSigned = λ out at z. answer-and-slice _ _;

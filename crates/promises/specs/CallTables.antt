@@ -26,6 +26,7 @@ use Rattle.step.specs.Calls.{stepModes, testStepRefusal}
 use Rattle.weigh.specs.Calls.{figureRefusal, changeRefusal}
 use Rattle.dead.specs.IsDead.{deadRefusal}
 use Rattle.complement.specs.Complemented.{complementingRefusal}
+use Rattle.audit.specs.Audits.{auditingRefusal}
 
 -- "A call that takes one sheet as an argument refuses left-over bytes by 3.": the sheet's own table, then the first byte after it
 abbrev pub bytesLeft : ℕ → List ℕ → Table
@@ -138,6 +139,13 @@ module _ (net : List ℕ) where
   abbrev pub complementTable : ℕ → Table
   complementTable room = wholeNetTable net then roomTable net room
 
+  -- an audit: what complementing refuses where there is room for its sheet, "then 17 for the marking and 17 for the complement's marking"
+  abbrev pub auditTable : List ℕ → List ℕ → Table
+  auditTable marking beside =
+      complementTable (length (sheetOf (complement (netOf net))))
+      then oneEachTable (netOf net) marking
+      then oneEachTable (complement (netOf net)) beside
+
 -- the movement at which a run stops is the one after those that it accepted, refused at the marking that it leaves
 module _ (net movements marking : List ℕ) where
   abbrev stop : Mode
@@ -167,3 +175,4 @@ pub record CallTables : Type 0 where
   pub change : (net weights : List ℕ) (t : Mode) → Reads (changeTable net weights t) (changeRefusal net weights t)
   pub isDead : (net : List ℕ) (t : Mode) → Reads (isDeadTable net t) (deadRefusal net t)
   pub complement : (net : List ℕ) (room : ℕ) → Reads (complementTable net room) (complementingRefusal net room)
+  pub audit : (net marking beside : List ℕ) → Reads (auditTable net marking beside) (auditingRefusal net marking beside)

@@ -22,6 +22,8 @@ use Rattle.size.specs.Sizes as sizing
 use Rattle.size.specs.Contracts.{SizeAllows}
 use Rattle.complement.specs.Complemented as complementing
 use Rattle.complement.specs.Contracts.{ComplementAllows}
+use Rattle.audit.specs.Audits as auditing
+use Rattle.audit.specs.Contracts.{AuditAllows}
 use Rattle.text.specs.declared.Put.{Put}
 use Rattle.text.specs.declared.Put.the-variants.{To, Full}
 use Rattle.text.specs.Contracts.{PutBytesAllows, PutDecimalAllows, PutSignedAllows}
@@ -79,6 +81,7 @@ pub record ConstantAnswers : Type 0 where
   pub firstDead : Varies FirstDeadAllows (λ o. first.told o .carried .number)
   pub size : Varies SizeAllows (λ o. sizing.told o .carried .number)
   pub complement : Varies (λ (i : List ℕ × List ℕ). ComplementAllows (i .0) (i .1)) (λ o. complementing.told (o .0) .carried .number)
+  pub audit : Varies (λ (i : List ℕ × List ℕ × List ℕ). AuditAllows (i .0) (i .1) (i .2)) (λ o. auditing.told o .carried .number)
   pub putBytes : Varies (λ (i : List ℕ × ℕ × List ℕ). PutBytesAllows (i .0) (i .1) (i .2)) (λ o. full (o .0))
   pub putDecimal : Varies (λ (i : List ℕ × ℕ × ℕ). PutDecimalAllows (i .0) (i .1) (i .2)) (λ o. full (o .0))
   pub putSigned : Varies (λ (i : List ℕ × ℕ × ℤ). PutSignedAllows (i .0) (i .1) (i .2)) (λ o. full (o .0))

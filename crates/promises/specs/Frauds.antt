@@ -14,6 +14,7 @@ use Rattle.model.specs.Nets.{PNet, pairs, modeNo, K, row}
 use Rattle.model.specs.Firing.{modeRefusal, fired}
 use Rattle.model.specs.Steps.{together}
 use Rattle.model.specs.Complement.{Corresponds}
+use Rattle.model.specs.Audit.{OutOfStep}
 use Rattle.model.specs.Promises.{Leads}
 use Rattle.sheets.specs.Decoded.{netOf, movementsOf}
 use Rattle.fire.specs.Contracts.{FireAllows}
@@ -25,6 +26,10 @@ use Rattle.step.specs.Contracts.{FireStepAllows}
 use Rattle.complement.specs.declared.Complemented.{Complemented}
 use Rattle.complement.specs.Complemented.{told}
 use Rattle.complement.specs.Contracts.{ComplementAllows}
+use Rattle.audit.specs.declared.Found.{Found}
+use Rattle.audit.specs.declared.Found.the-variants.{Nothing}
+use Rattle.audit.specs.Audits as audits
+use Rattle.audit.specs.Contracts.{AuditAllows}
 use Rattle.promises.specs.ConstantAnswers.{ConstantAnswers}
 use Rattle.promises.specs.ConstantAnswersForC.{ConstantAnswersForC}
 use Rattle.promises.specs.ConstantAmounts.{ConstantAmounts}
@@ -82,6 +87,11 @@ FirstMemberAlone = (net marking : List ℕ) (first : ℕ) (later : List ℕ) (p 
     → together (netOf net) (stepModes later) p .pre ≢ together (netOf net) (stepModes later) p .post
     → (o : Answer × List ℕ) → FireStepAllows net marking (first ∷ later) o → number (o .0) ≡ 0 → o .1 ≢ fired (netOf net) (modeNo first) marking
 
+-- An audit that always finds none: some pair is out of step.
+abbrev pub AlwaysInStep : Type 0
+AlwaysInStep = (net marking beside : List ℕ) (p : ℕ) → p < pairs (netOf net) → OutOfStep (netOf net) marking beside p
+    → (o : Found) → AuditAllows net marking beside o → audits.told o .carried .number ≡ 0 → o ≢ Nothing
+
 pub record Frauds : Type 0 where
   pub constant : ConstantAnswers
   pub constantForC : ConstantAnswersForC
@@ -90,3 +100,4 @@ pub record Frauds : Type 0 where
   pub copying : CopiesNet
   pub running : RunFrauds
   pub stepping : FirstMemberAlone
+  pub auditing : AlwaysInStep

@@ -5,6 +5,7 @@ pub mod TwoRuns
 pub mod TwoSteps
 pub mod DeadAsWritten
 pub mod TwoOrders
+pub mod Audits
 pub mod FigureOverRun
 pub mod LiveModes
 pub mod Uniqueness

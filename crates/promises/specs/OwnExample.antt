@@ -3,13 +3,13 @@ use Prim.Native.Nat.{ℕ}
 use mathlib.Core.Path.{_≡_}
 use mathlib.Core.Bool.{false}
 use mathlib.Core.List.{List, [], _∷_}
-use mathlib.Core.Option.{none}
+use mathlib.Core.Option.{none, some}
 use lib.IntN.{pos, negsuc}
 use lib.ListN.{replicate}
 use Rattle.model.specs.declared.Answer.{Answer}
 use Rattle.model.specs.Refusals.{number, carriesBy, carried}
 use Rattle.model.specs.Replies.{yields}
-use Rattle.model.specs.Nets.{PNet, modeNo}
+use Rattle.model.specs.Nets.{PNet, pairNo, modeNo}
 use Rattle.model.specs.WorkedExamples.{ownExample}
 use Rattle.written.specs.Written.{sheetOf}
 use Rattle.fire.specs.Contracts.{BeginAllows, TestAllows, FireAllows}
@@ -30,6 +30,9 @@ use Rattle.size.specs.Contracts.{SizeAllows}
 use Rattle.complement.specs.declared.Complemented.{Complemented}
 use Rattle.complement.specs.Complemented as complementing
 use Rattle.complement.specs.Contracts.{ComplementAllows}
+use Rattle.audit.specs.declared.Found.{Found}
+use Rattle.audit.specs.Audits as auditing
+use Rattle.audit.specs.Contracts.{AuditAllows}
 use Rattle.statement.specs.Example.{weights, movements}
 
 -- "two places, aboard (one colour, K 5, first 3) and ashore (one colour, unbounded, first 0); one transition of one mode; arcs 0,0 with Pre 1, Post 0, I 4
@@ -77,3 +80,5 @@ pub record OwnExample : Type 0 where
   -- two places of one colour, one mode, two arcs
   pub size : (o : Measured) → SizeAllows net o → sizing.told o ≡ yields (record { pairs = 2; modes = 1; arcs = 2 })
   pub complement : (o : Complemented × List ℕ) → ComplementAllows net room o → complementing.told (o .0) ≡ yields 91
+  -- one landed, and left aboard in the net's marking: pair 0, one token too many
+  pub audit : (o : Found) → AuditAllows net (3 ∷ 1 ∷ []) (2 ∷ 1 ∷ 3 ∷ []) o → auditing.told o ≡ yields (some (record { pair = pairNo 0; excess = pos 1 }))

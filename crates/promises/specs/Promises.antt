@@ -6,6 +6,7 @@ use Rattle.model.specs.DemandThree.{Demand3}
 use Rattle.model.specs.DeadComplement.{Never16, DeadInComplement}
 use Rattle.model.specs.Steps as step
 use Rattle.model.specs.Orders.{Orders, OrdersInBoth, Interleavings, OrderExamples}
+use Rattle.model.specs.Audit as audit
 use Rattle.sheets.specs.Accepted.{AcceptedNet, AcceptedMovements, AcceptedWeights}
 use Rattle.lists.specs.Promises.{SignedWeights}
 use Rattle.written.specs.Promises.{WrittenThenRead, ReadThenWritten, LargestSheet, ExampleLengths}
@@ -13,6 +14,7 @@ use Rattle.fire.specs.Promises.{AcceptedBegin, AcceptedFire, MarkingStays}
 use Rattle.run.specs.Promises.{RunsLeave, RunsKeep, Certified}
 use Rattle.weigh.specs.Promises.{FigureIsSum, ChangeIsSum, FigureFired}
 use Rattle.dead.specs.Promises.{SaysDead, NamesFirst}
+use Rattle.audit.specs.Promises.{SaysAudited}
 use Rattle.promises.specs.DemandOne.{DemandOne, DemandOneForC}
 use Rattle.promises.specs.DemandThree.{OverBytes}
 use Rattle.text.specs.Promises.{Decimals}
@@ -22,6 +24,7 @@ use Rattle.promises.specs.TwoRuns.{TwoRuns}
 use Rattle.promises.specs.TwoSteps.{TwoSteps}
 use Rattle.promises.specs.DeadAsWritten.{DeadAsWritten}
 use Rattle.promises.specs.TwoOrders.{TwoOrders}
+use Rattle.promises.specs.Audits.{Audits}
 use Rattle.promises.specs.FigureOverRun.{FigureOverRun}
 use Rattle.promises.specs.LiveModes.{LiveModes}
 use Rattle.promises.specs.CallTables.{CallTables}
@@ -64,6 +67,10 @@ pub record Promises : Type 0 where
   pub ordersInBoth : OrdersInBoth
   pub interleavings : Interleavings
   pub orderExamples : OrderExamples
+  pub auditFinds : audit.AuditFinds
+  pub auditAlong : audit.AuditAlong
+  pub markShows : audit.MarkShows
+  pub auditExamples : audit.AuditExamples
   -- of sheets, read and written
   pub acceptedNet : AcceptedNet
   pub acceptedMovements : AcceptedMovements
@@ -87,11 +94,13 @@ pub record Promises : Type 0 where
   pub saysDead : SaysDead
   pub namesFirst : NamesFirst
   pub liveModes : LiveModes
+  pub saysAudited : SaysAudited
   pub overBytes : OverBytes
   pub twoRuns : TwoRuns
   pub twoSteps : TwoSteps
   pub deadAsWritten : DeadAsWritten
   pub twoOrders : TwoOrders
+  pub audits : Audits
   pub decimals : Decimals
   pub textOfRun : TextOfRun
   pub printed : Printed

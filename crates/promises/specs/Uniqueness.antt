@@ -14,6 +14,7 @@ use Rattle.weigh.specs.Contracts.{FigureAllows, ChangeAllows}
 use Rattle.dead.specs.Contracts.{IsDeadAllows, FirstDeadAllows}
 use Rattle.size.specs.Contracts.{SizeAllows}
 use Rattle.complement.specs.Contracts.{ComplementAllows}
+use Rattle.audit.specs.Contracts.{AuditAllows}
 use Rattle.text.specs.Contracts.{PutBytesAllows, PutDecimalAllows, PutSignedAllows}
 use Rattle.statement.specs.Contracts.{StatementAllows}
 use Rattle.abi.specs.Contracts as c
@@ -40,6 +41,7 @@ pub record UniqueForC : Type 0 where
   pub firstDead : (net : List ℕ) → Unique (c.FirstDeadAllows net)
   pub size : (net : List ℕ) → Unique (c.SizeAllows net)
   pub complement : (net out : List ℕ) → Unique (c.ComplementAllows net out)
+  pub audit : (net marking beside : List ℕ) → Unique (c.AuditAllows net marking beside)
   pub statement : (input out : List ℕ) → Unique (c.StatementAllows input out)
 
 -- a field for each public call, for all that it may be given
@@ -66,6 +68,7 @@ pub record Uniqueness : Type 0 where
   pub firstDead : (net : List ℕ) → Unique (FirstDeadAllows net)
   pub size : (net : List ℕ) → Unique (SizeAllows net)
   pub complement : (net out : List ℕ) → Unique (ComplementAllows net out)
+  pub audit : (net marking beside : List ℕ) → Unique (AuditAllows net marking beside)
   pub putBytes : (out : List ℕ) (at : ℕ) (bytes : List ℕ) → Unique (PutBytesAllows out at bytes)
   pub putDecimal : (out : List ℕ) (at n : ℕ) → Unique (PutDecimalAllows out at n)
   pub putSigned : (out : List ℕ) (at : ℕ) (z : ℤ) → Unique (PutSignedAllows out at z)

@@ -55,6 +55,9 @@ pub struct Inputs {
     pub weights: Vec<u8>,
     /// A net of 128 bounded pairs and 256 modes of 4 arcs each, whose complement is a largest net.
     pub bounded: Vec<u8>,
+    /// Its first marking, and its complement's: every pair is half full.
+    pub half: Vec<u32>,
+    pub both: Vec<u32>,
     /// `replay`'s input: the net, its weights, the movements.
     pub input: Vec<u8>,
 }
@@ -81,6 +84,8 @@ impl Inputs {
             step,
             marking,
             claim,
+            half: vec![500_000; bounded.pairs.len()],
+            both: vec![500_000; 2 * bounded.pairs.len()],
             bounded: bounded.sheet(),
             input: [&sheet[..], &weights, &movements].concat(),
             net: sheet,

@@ -67,7 +67,7 @@ pub const STATEMENT: Work = beside(
 pub const SIZED: [Work; 4] = [READ, RUN, COMPLEMENT, STATEMENT];
 
 /// The other calls, at full size; a call with a mode is given the last.
-pub const OTHERS: [Work; 13] = [
+pub const OTHERS: [Work; 14] = [
     beside("size", |i, _| pnet::size(&i.net).is_ok(), |i, _| swift::size(&i.net).is_ok()),
     own("read_weights", |i, _| pnet::read_weights(&i.weights, i.pairs).is_ok()),
     own("read_movements", |i, _| pnet::read_movements(&i.movements).is_ok()),
@@ -88,6 +88,11 @@ pub const OTHERS: [Work; 13] = [
     own("change", |i, _| pnet::change(&i.net, &i.weights, Mode(i.last)).is_ok()),
     own("is_dead", |i, _| pnet::is_dead(&i.net, Mode(i.last)) == Ok(false)),
     own("first_dead", |i, _| pnet::first_dead(&i.net) == Ok(None)),
+    beside(
+        "audit",
+        |i, _| pnet::audit(&i.bounded, &i.half, &i.both) == Ok(None),
+        |i, _| swift::audit(&i.bounded, &i.half, &i.both) == Ok(None),
+    ),
 ];
 
 /// The work of this name.

@@ -1,8 +1,9 @@
-//! One input for every call: sheets, a marking, a claim, a mode, a step.
+//! One input for every call: sheets, a marking, one of the complement, a claim, a mode, a step.
 
 use pnet::Mode;
 use reference::build::{PlainNet, movements, weights};
 
+use crate::demand3::completed;
 use crate::generator::{self, Random, Style, total};
 use crate::guarded;
 use crate::same::Same;
@@ -18,6 +19,8 @@ pub struct Case {
     pub mode: u16,
     /// The modes of a step.
     pub step: Vec<u16>,
+    /// A marking of the complement.
+    pub both: Vec<u32>,
     /// What the weights' reader is given for the net's pair count.
     pub pairs: usize,
     /// The length of the complement's output slice.
@@ -42,7 +45,13 @@ impl Case {
             let pair = random.below(claim.len());
             claim[pair] = random.pick(&[0, 1, claim[pair] ^ 1, u32::MAX]);
         }
+        let mut both = completed(plain, &marking);
+        if random.once_in(2) {
+            let pair = random.below(both.len());
+            both[pair] = random.pick(&[0, 1, both[pair] ^ 1, u32::MAX]);
+        }
         Case {
+            both,
             weights: weights(&generator::weights(random, plain.pairs.len())),
             movements: sheet,
             marking,
@@ -73,6 +82,7 @@ impl Case {
         same.first_dead(&self.net);
         same.size(&self.net);
         same.complement(&self.net, self.room);
+        same.audit(&self.net, &self.marking, &self.both);
         let input = [&self.net[..], &self.weights, &self.movements].concat();
         same.statement(&input, if self.room < pnet::LARGEST_NET { self.room } else { pnet::TEXT_ROOM });
     }

@@ -7,7 +7,7 @@ use crate::generator::{Random, total};
 
 /// One fault more, in any of the things.
 pub fn damage(random: &mut Random, case: &mut Case, plain: &mut PlainNet) {
-    match random.below(17) {
+    match random.below(18) {
         0..=2 => spoil_sheet(random, &mut case.net),
         3..=7 => {
             spoil_net(random, plain);
@@ -26,6 +26,10 @@ pub fn damage(random: &mut Random, case: &mut Case, plain: &mut PlainNet) {
         15 => {
             let length = random.pick(&[0, 65, 66, 8_192]);
             case.step.resize(length, 0);
+        }
+        16 => {
+            let length = random.below(case.both.len() + 3);
+            case.both.resize(length, 1);
         }
         _ => case.room = random.below(case.net.len() + 64),
     }

@@ -53,7 +53,29 @@ fn one(
         assert_eq!(other.0, 11, "{of}, which is dead");
         same.hits.value("dead, and 11 in the complement");
     }
+    assert_eq!(same.audit(sheet, &after, &both_after), (ACCEPTED, None), "{of}");
+    if answer == ACCEPTED {
+        old_fault(same, net, sheet, counts, &both_after, mode);
+    }
     after
+}
+
+const ACCEPTED: Plain = (0, 0, 0, 0);
+
+/// The mode is entered as the old tracker did, its Post added and its Pre not taken: this shows at once, at the lowest pair that the mode
+/// takes from, by what it should have taken there.
+fn old_fault(same: &mut Same, net: &PlainNet, sheet: &[u8], counts: &[u32], both_after: &[u32], mode: u16) {
+    let own = || net.arcs.iter().filter(|arc| arc.mode == mode);
+    let Some(lowest) = own().find(|arc| arc.pre > 0) else { return };
+    let mut wrong = counts.to_vec();
+    own().for_each(|arc| wrong[usize::from(arc.pair)] += arc.post);
+    assert_eq!(
+        same.audit(sheet, &wrong, both_after),
+        (ACCEPTED, Some((lowest.pair, lowest.pre.into()))),
+        "{}: mode {mode} at {counts:?} of {net:?}",
+        same.part
+    );
+    same.hits.value("the old fault found");
 }
 
 /// No mode is locally dead in a complement, and no number there is above 1,000,000, though a dead mode's would be by the rule of live ones.
@@ -124,7 +146,7 @@ fn at_once(
 }
 
 /// The marking of the complement: on each complement pair "K less the original's".
-fn completed(net: &PlainNet, counts: &[u32]) -> Vec<u32> {
+pub fn completed(net: &PlainNet, counts: &[u32]) -> Vec<u32> {
     let bounded = net.pairs.iter().zip(counts).filter(|((capacity, _), _)| *capacity != OPEN);
     counts.iter().copied().chain(bounded.map(|((capacity, _), count)| capacity - count)).collect()
 }

@@ -9,7 +9,7 @@ use std::cell::RefCell;
 use std::ffi::{c_char, c_int, c_uint, c_void};
 use std::{ptr, slice};
 
-use pnet::{Mode, Pair, Ran, Refusal, Size};
+use pnet::{Mode, OutOfStep, Pair, Ran, Refusal, Size};
 
 /// Whole pages; the longest slice that is lent is the room for `replay`'s text.
 const ROOM: usize = 1 << 19;
@@ -235,6 +235,10 @@ pub fn first_dead(net: &[u8]) -> Result<Option<(Mode, Pair)>, Refusal> {
 
 pub fn complement(net: &[u8], out: &mut [u8]) -> Result<usize, Refusal> {
     writing(net, out, pnet::complement)
+}
+
+pub fn audit(net: &[u8], marking: &[u32], both: &[u32]) -> Result<Option<OutOfStep>, Refusal> {
+    lend(|lent| pnet::audit(lent.net.show(net), lent.counts.show(marking), lent.sheet.show(both)))
 }
 
 pub fn statement(input: &[u8], out: &mut [u8]) -> Result<usize, Refusal> {

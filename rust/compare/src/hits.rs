@@ -22,12 +22,13 @@ pub enum Call {
     FirstDead,
     Size,
     Complement,
+    Audit,
     Statement,
 }
 
 use Call::*;
 
-const CALLS: [Call; 17] = [
+const CALLS: [Call; 18] = [
     ReadNet,
     ReadWeights,
     ReadMovements,
@@ -44,6 +45,7 @@ const CALLS: [Call; 17] = [
     FirstDead,
     Size,
     Complement,
+    Audit,
     Statement,
 ];
 
@@ -81,6 +83,7 @@ fn refusals(call: Call) -> Vec<Told> {
         Change => [NET, WEIGHTS, MODE].concat(),
         IsDead => [NET, MODE].concat(),
         Complement => [NET, COMPLEMENT].concat(),
+        Audit => [NET, COMPLEMENT, ONE_EACH].concat(),
         Statement => NO_ROOM.to_vec(),
     }
 }
@@ -93,7 +96,7 @@ pub struct Hits {
     runs: usize,
     whole: usize,
     longest: usize,
-    /// Values that are no numbers: yes, no, a mode named, none named; what a search for a marking found; what a text is of; by which of a net and its complement a step is accepted; that a complement refuses by more than its net; what a dead mode is there.
+    /// Values that are no numbers: yes, no, a mode named, none named; what a search for a marking found; what a text is of; by which of a net and its complement a step is accepted; that a complement refuses by more than its net; what a dead mode is there; what an audit found, and whose 17 it was.
     values: BTreeMap<&'static str, usize>,
     /// Refusals by an amount above 1, by their number.
     by_more: BTreeMap<u64, usize>,
@@ -156,6 +159,10 @@ impl Hits {
             "by more in the complement",
             "dead, and 11 in the complement",
             "dead, and a number kept within 1,000,000",
+            "in step",
+            "out of step",
+            "17 for the complement's marking",
+            "the old fault found",
         ] {
             if self.values.get(value).copied().unwrap_or(0) < ENOUGH {
                 wants.push(format!("the value '{value}' came up too rarely"));

@@ -220,6 +220,24 @@ impl Same {
         value.map(|length| ours[..length].to_vec())
     }
 
+    /// The answer, and the pair out of step with its excess, where there is one.
+    pub fn audit(&mut self, net: &[u8], marking: &[u32], both: &[u32]) -> (Plain, Option<(u16, i64)>) {
+        let engine = guarded::audit(net, marking, both);
+        let reference = reference::audit(net, marking, both);
+        let (answer, theirs) = (told(&engine), plain_of(&reference));
+        let found = engine.ok().flatten().map(|out| (out.pair.0, out.excess));
+        let reference = reference.ok().flatten().map(|out| (out.pair.0, out.excess));
+        self.hold(Call::Audit, answer, (answer, found), (theirs, reference), &[&net, &marking, &both]);
+        match answer.0 {
+            0 => self.hits.value(if found.is_some() { "out of step" } else { "in step" }),
+            17 if reference::size(net).is_ok_and(|size| size.pairs == marking.len()) => {
+                self.hits.value("17 for the complement's marking");
+            }
+            _ => {}
+        }
+        (answer, found)
+    }
+
     /// The text of `replay`, into a slice of this length.
     pub fn statement(&mut self, input: &[u8], room: usize) {
         let mut text = vec![170; room];

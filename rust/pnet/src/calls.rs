@@ -188,6 +188,34 @@ pub fn complement(net: &[u8], out: &mut [u8]) -> Result<usize, Refusal> {
     written.result(Sheets::net(net)).map(|length| length as usize)
 }
 
+/// A pair at which a marking and one of the complement are out of step.
+#[derive(Clone, Copy, Debug, PartialEq, Eq, Hash)]
+pub struct OutOfStep {
+    /// The pair, of the net.
+    pub pair: Pair,
+    /// The count plus the complement pair's, less K, where K is finite and that is not 0; otherwise the count less the count of the same
+    /// pair in the complement's marking. It is never 0.
+    pub excess: i64,
+}
+
+/// The lowest pair at which a marking of the net and one of its complement are out of step, if there is one: the two differ on it, or its K
+/// is finite and its count and its complement pair's do not add up to it. The counts may be any.
+pub fn audit(net: &[u8], marking: &[u32], complement_marking: &[u32]) -> Result<Option<OutOfStep>, Refusal> {
+    // SAFETY: pointers and lengths are slices', which are only read.
+    let audited = unsafe {
+        pnet_audit(
+            net.as_ptr(),
+            net.len(),
+            marking.as_ptr(),
+            marking.len(),
+            complement_marking.as_ptr(),
+            complement_marking.len(),
+        )
+    }
+    .result(Sheets::net(net))?;
+    Ok(audited.found.then_some(OutOfStep { pair: audited.pair, excess: audited.excess }))
+}
+
 /// Writes the text that `replay` prints for an input, a net sheet, a weight sheet and a movement sheet, and says how long it is. No
 /// byte after it is touched. A bad or a long input has a text too: refused is only a room below [`TEXT_ROOM`](crate::TEXT_ROOM).
 pub fn statement(input: &[u8], out: &mut [u8]) -> Result<usize, Refusal> {

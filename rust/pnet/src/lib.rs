@@ -46,13 +46,15 @@
 mod calls;
 mod fault;
 mod kinds;
+mod left_behind;
 mod raw;
 mod refusal;
 
 pub use calls::{
-    Ran, Size, begin, certify, change, complement, figure, fire, fire_step, first_dead, first_marking,
-    is_dead, read_movements, read_net, read_weights, run, size, statement, test, test_step,
+    OutOfStep, Ran, Size, audit, begin, certify, change, complement, figure, fire, fire_step, first_dead,
+    first_marking, is_dead, read_movements, read_net, read_weights, run, size, statement, test, test_step,
 };
 pub use fault::{Fault, Length};
 pub use kinds::{LARGEST_NET, Mode, Pair, TEXT_ROOM, Thing};
+pub use left_behind::left_behind;
 pub use refusal::Refusal;

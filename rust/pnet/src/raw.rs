@@ -30,6 +30,14 @@ pub struct Named {
     pub pair: Pair,
 }
 
+/// A pair that is out of step and by how much, where there is one.
+#[repr(C)]
+pub struct Audited {
+    pub found: bool,
+    pub pair: Pair,
+    pub excess: i64,
+}
+
 unsafe extern "C" {
     fn pnet_abi_2() -> u64;
     pub fn pnet_size(net: *const u8, net_length: usize) -> With<Size>;
@@ -101,6 +109,14 @@ unsafe extern "C" {
     pub fn pnet_is_dead(net: *const u8, net_length: usize, mode: Mode) -> With<bool>;
     pub fn pnet_first_dead(net: *const u8, net_length: usize) -> With<Named>;
     pub fn pnet_complement(net: *const u8, net_length: usize, out: *mut u8, room: usize) -> With<u64>;
+    pub fn pnet_audit(
+        net: *const u8,
+        net_length: usize,
+        marking: *const u32,
+        counts: usize,
+        complement_marking: *const u32,
+        complement_counts: usize,
+    ) -> With<Audited>;
     pub fn pnet_statement(input: *const u8, input_length: usize, out: *mut u8, room: usize) -> With<u64>;
 }
 

@@ -13,29 +13,31 @@ use crate::net_sheet::whole_net;
 /// Writes the complement's sheet: "the call returns the length written and touches no byte after it".
 pub fn complement(net: &[u8], output: &mut [u8]) -> Result<usize, Answer> {
     let net = whole_net(net)?;
-    // Complementing: net, 15 at its first arc, 10; "15 is still given, for a dead mode too".
+    let sheet = complemented_within_limits(&net)?.sheet();
+    let place = output.get_mut(..sheet.len()).ok_or(no_room())?;
+    place.copy_from_slice(&sheet);
+    Ok(sheet.len())
+}
+
+/// The complement of a net that has one. Complementing: net, 15 at its first arc, 10; "15 is still given, for a dead
+/// mode too".
+pub fn complemented_within_limits(net: &Net) -> Result<PlainNet, Answer> {
     let inhibits_unbounded = |arc: &&Arc| {
         net.capacity[arc.pair.index()] == Bound::Unbounded && arc.flow.inhibitor != Bound::Unbounded
     };
     if let Some(arc) = net.arcs.iter().find(inhibits_unbounded) {
         return Err(Answer::refused(Refusal::UnboundedCapacity, Thing::Net, arc.offset));
     }
-    let sheet = sheet_within_limits(&complemented(&net))?;
-    let place = output.get_mut(..sheet.len()).ok_or(no_room())?;
-    place.copy_from_slice(&sheet);
-    Ok(sheet.len())
+    let plain = complemented(net);
+    let places = plain.colours.len() > usize::from(PLACES);
+    let pairs = plain.pairs.len() > usize::from(TOTAL);
+    let arcs = plain.arcs.len() > usize::from(ARCS);
+    if places || pairs || arcs { Err(no_room()) } else { Ok(plain) }
 }
 
 /// "10: complement exceeds the sheet's limits, or the output slice is shorter than it."
 fn no_room() -> Answer {
     Answer::refused(Refusal::NoRoom, Thing::Net, 0)
-}
-
-fn sheet_within_limits(plain: &PlainNet) -> Result<Vec<u8>, Answer> {
-    let places = plain.colours.len() > usize::from(PLACES);
-    let pairs = plain.pairs.len() > usize::from(TOTAL);
-    let arcs = plain.arcs.len() > usize::from(ARCS);
-    if places || pairs || arcs { Err(no_room()) } else { Ok(plain.sheet()) }
 }
 
 /// "Original pairs keep their numbers." "Modes are unchanged. All K and I become unbounded."

@@ -1,11 +1,12 @@
 //! A plain reading of docs/RULES.md: reading a finite P-net, testing and firing one mode or a step of
-//! several at once, running a list of movements, checking a certificate, complementing, the figure,
-//! locally dead modes, `replay`.
+//! several at once, running a list of movements, checking a certificate, complementing, auditing a marking
+//! by the complement's, the figure, locally dead modes, `replay`.
 //!
 //! Each call takes sheets as bytes and gives the answer, value and lent slices of docs/RULES.md exactly.
 
 mod answer;
 mod arc;
+mod audit;
 mod begin;
 mod bound;
 mod certificate;
@@ -31,6 +32,7 @@ pub mod build;
 pub mod search;
 
 pub use answer::{Answer, Refusal, Thing};
+pub use audit::{OutOfStep, audit};
 pub use begin::begin;
 pub use certificate::certify;
 pub use change::change;

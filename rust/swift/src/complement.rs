@@ -11,25 +11,32 @@ pub fn complement(net: &[u8], output: &mut [u8]) -> Result<usize, Answer> {
     let places = layout.colours.len() / 2 + mates.places.len();
     let pairs = layout.pairs + mates.count;
     let length = 11 + 2 * places + layout.mode_counts.len() + 8 * pairs + 16 * arcs.len();
-    if places > 64 || pairs > 256 || arcs.len() > 2_048 || output.len() < length {
+    if exceeds(&layout, &mates, arcs.len()) || output.len() < length {
         return Err(Answer::refused(10, NET, 0));
     }
     write(&layout, &mates, &arcs, &mut output[..length]);
     Ok(length)
 }
 
+/// "Complement exceeds the sheet's limits."
+pub fn exceeds(layout: &Layout, mates: &Mates, arcs: usize) -> bool {
+    let places = layout.colours.len() / 2 + mates.places.len();
+    places > 64 || layout.pairs + mates.count > 256 || arcs > 2_048
+}
+
 /// The complement pairs.
-struct Mates {
+pub struct Mates {
     /// The capacity of each pair, and its complement pair where that is finite.
-    of: [(u32, u32); 256],
-    count: usize,
+    pub of: [(u32, u32); 256],
+    /// How many there are.
+    pub count: usize,
     /// How many finite pairs each place has that has one.
     places: Vec<u16>,
 }
 
 impl Mates {
     /// "Each pair of finite K gets a complement pair, numbered after all originals in rising order."
-    fn of(layout: &Layout) -> Mates {
+    pub fn of(layout: &Layout) -> Mates {
         let mut of = [(UNBOUNDED, 0); 256];
         let mut places = Vec::with_capacity(64);
         let mut count = 0;
@@ -51,14 +58,14 @@ impl Mates {
 /// Pre and Post on the complement pair of a finite K, for a live mode and for a dead one: "for a locally dead mode
 /// write each complement Post equal to its complement Pre".
 #[inline(always)]
-fn mated(arc: Arc, capacity: u32, dead: bool) -> (u32, u32) {
+pub fn mated(arc: Arc, capacity: u32, dead: bool) -> (u32, u32) {
     let pre = arc.post.max(capacity.saturating_sub(arc.inhibitor));
     (pre, if dead { pre } else { pre + arc.pre - arc.post })
 }
 
 /// "Pre is above the least of K less Post and I, or Post is above K."
 #[inline(always)]
-fn dead_at(arc: Arc, capacity: u32) -> bool {
+pub fn dead_at(arc: Arc, capacity: u32) -> bool {
     (arc.pre + arc.post > capacity) | (arc.pre > arc.inhibitor)
 }
 
@@ -130,7 +137,7 @@ impl Arcs {
 
 /// 15 at its first arc.
 #[cold]
-fn inhibited(layout: &Layout, mates: &Mates) -> Answer {
+pub fn inhibited(layout: &Layout, mates: &Mates) -> Answer {
     let unbounded = |arc: Arc| mates.of[arc.pair()].0 == UNBOUNDED && arc.inhibitor != UNBOUNDED;
     let at = layout.arcs.iter().map(Arc::of).position(unbounded).expect("an arc was at fault");
     Answer::refused(15, NET, layout.length - 16 * (layout.arcs.len() - at))

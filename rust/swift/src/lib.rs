@@ -1,10 +1,11 @@
-//! The reading, running, complementing and `replay` of docs/RULES.md, written for speed: a net is decoded
+//! The reading, running, complementing, auditing and `replay` of docs/RULES.md, written for speed: a net is decoded
 //! once into flat arrays, and the loops allocate nothing.
 //!
 //! A sheet is tested as a whole for yes or no; only a refused one is read again to name its fault.
 
 mod answer;
 mod arcs;
+mod audit;
 mod complement;
 mod fault;
 mod kernel;
@@ -23,6 +24,7 @@ mod weights;
 mod generator;
 
 pub use answer::{ARGUMENT, Answer, LARGEST};
+pub use audit::audit;
 pub use complement::complement;
 pub use layout::{read_net, size};
 pub use replay::replay;

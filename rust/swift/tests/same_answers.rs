@@ -83,6 +83,18 @@ fn same_complement(net: &[u8], room: usize, seen: &mut BTreeSet<u32>) {
     seen.insert(swift.err().map_or(0, |answer| answer.0));
 }
 
+/// The same pair and excess, or the same refusal; the number of a refusal, or 0.
+fn same_audit(net: &[u8], counts: &[u32], both: &[u32]) -> (u32, Option<i64>) {
+    let swift = swift::audit(net, counts, both).map_err(of_swift);
+    let plain = reference::audit(net, counts, both).map_err(of_reference);
+    let plain = plain.map(|found| found.map(|out| (out.pair.0, out.excess)));
+    assert_eq!(swift, plain, "{net:?} {counts:?} {both:?}");
+    match swift {
+        Ok(found) => (0, found.map(|(_, excess)| excess)),
+        Err(answer) => (answer.0, None),
+    }
+}
+
 fn same_replay(input: &[u8]) -> String {
     let swift = String::from_utf8(swift::replay(input)).unwrap();
     let plain = String::from_utf8(reference::replay(input)).unwrap();
@@ -212,6 +224,44 @@ fn complementing_gives_the_same_sheet() {
     assert_eq!(seen, (0..=10).chain([15]).collect());
 }
 
+/// The counts of a net and its complement: in step, or one of them anything.
+fn both_markings(random: &mut Random, net: &PlainNet) -> (Vec<u32>, Vec<u32>) {
+    let counts: Vec<u32> = net.pairs.iter().map(|pair| pair.1).collect();
+    let bounded = net.pairs.iter().filter(|pair| pair.0 != u32::MAX);
+    let mut both: Vec<u32> = counts.iter().copied().chain(bounded.map(|pair| pair.0 - pair.1)).collect();
+    if random.once_in(2) {
+        let at = random.below(both.len());
+        both[at] = random.pick(&[0, 1, both[at] ^ 1, u32::MAX]);
+    }
+    if random.once_in(10) {
+        let length = random.below(both.len() + 2);
+        both.resize(length, 0);
+    }
+    (counts, both)
+}
+
+#[test]
+fn auditing_gives_the_same_answer() {
+    let (mut random, mut seen) = (Random::new(41), BTreeSet::new());
+    let (mut none, mut found) = (0, 0);
+    for round in 0..6_000 {
+        let net = if round % 20 == 0 { any_net(&mut random).0 } else { any_net_for_lists(&mut random).0 };
+        let (mut counts, both) = both_markings(&mut random, &net);
+        if random.once_in(4) {
+            let pair = random.below(counts.len());
+            counts[pair] = random.pick(&[0, counts[pair] ^ 1, u32::MAX]);
+        }
+        let sheet = sheet_of(&mut random, &net, 10);
+        let (number, excess) = same_audit(&sheet, &counts, &both);
+        seen.insert(number);
+        none += usize::from(number == 0 && excess.is_none());
+        found += usize::from(excess.is_some());
+        same_audit(&sheet, &counts[1..], &both);
+    }
+    assert_eq!(seen, (0..=10).chain([15, 17]).collect());
+    assert!(none > 500 && found > 500, "{none} {found}");
+}
+
 #[test]
 fn complementing_into_every_length_gives_the_same_bytes() {
     let (mut random, mut seen) = (Random::new(18), BTreeSet::new());
@@ -310,12 +360,17 @@ fn at_the_complements_limits_the_answers_are_the_same() {
         same_complement(&net.sheet(), 36_000, &mut seen);
     }
     for arcs in [1_023, 1_024, 1_025] {
-        let mut net = finite(vec![8]);
-        net.arcs = (0..arcs).map(|n| reference::build::arc(n / 8, n % 8, 1, 0, u32::MAX)).collect();
-        same_complement(&net.sheet(), 36_000, &mut seen);
-        // This one is blank at its original pair.
-        net.arcs.push(reference::build::arc(128, 7, 0, 0, 4));
-        same_complement(&net.sheet(), 36_000, &mut seen);
+        // The modes of Pre 6 are dead, and their complement arcs blank.
+        for pre in [1, 6] {
+            let mut net = finite(vec![8]);
+            net.arcs = (0..arcs).map(|n| reference::build::arc(n / 8, n % 8, pre, 0, u32::MAX)).collect();
+            same_complement(&net.sheet(), 36_000, &mut seen);
+            seen.insert(same_audit(&net.sheet(), &[2; 8], &[[2; 8], [3; 8]].concat()).0);
+            // This one is blank at its original pair.
+            net.arcs.push(reference::build::arc(128, 7, 0, 0, 4));
+            same_complement(&net.sheet(), 36_000, &mut seen);
+            seen.insert(same_audit(&net.sheet(), &[2; 8], &[[2; 8], [3; 8]].concat()).0);
+        }
     }
     assert_eq!(seen, [0, 10].into());
 }

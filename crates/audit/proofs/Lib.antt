@@ -1,0 +1,5 @@
+pub mod Excesses
+pub mod Searches
+pub mod OneEach
+pub mod Answers
+pub mod Promises

@@ -1,0 +1,4 @@
+pub mod Audits
+pub mod Parts
+pub mod Promises
+pub mod Contracts
