@@ -6,6 +6,7 @@ use Rattle.promises.proofs.WritesNothing.{writes-nothing}
 use Rattle.promises.proofs.CopiesNet.{copies-net}
 use Rattle.promises.proofs.RunFrauds.{run-frauds}
 use Rattle.promises.proofs.StepFrauds.{first-member-alone}
+use Rattle.promises.proofs.Exclusion.{exclusion-frauds}
 
 pub frauds : Frauds
 frauds =
@@ -16,4 +17,5 @@ frauds =
       copying = copies-net;
       running = run-frauds;
       stepping = first-member-alone;
+      excluding = exclusion-frauds;
     }

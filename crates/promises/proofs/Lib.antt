@@ -13,6 +13,7 @@ pub mod WritesNothing
 pub mod CopiesNet
 pub mod RunFrauds
 pub mod StepFrauds
+pub mod Exclusion
 pub mod Frauds
 pub mod CallTables
 pub mod Promises

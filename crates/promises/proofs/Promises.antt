@@ -11,6 +11,7 @@ use Rattle.model.proofs.WorkedExamples.{worked-examples}
 use Rattle.model.proofs.Demand3.{demand3}
 use Rattle.model.proofs.Edges.{starred}
 use Rattle.model.proofs.Steps.{step-rule, step-after, step-of-one}
+use Rattle.model.proofs.Exclusion.{claim-accepted, figure-constant, out-of-reach}
 use Rattle.model.proofs.CorrespondingSteps.{steps-back, steps-forth, step-examples}
 use Rattle.sheets.proofs.Accepted.{well-formed}
 use Rattle.sheets.proofs.Lists.{movements-within, weights-within}
@@ -21,6 +22,7 @@ use Rattle.fire.proofs.Promises.{accepted-begin, accepted-fire, marking-stays}
 use Rattle.run.proofs.Promises.{runs-leave, runs-keep, certified}
 use Rattle.weigh.proofs.Promises.{figure-is-sum, change-is-sum, figure-fired}
 use Rattle.dead.proofs.Promises.{says-dead, names-first}
+use Rattle.exclude.proofs.Promises.{excluded-exactly}
 use Rattle.promises.specs.Promises.{Promises}
 use Rattle.promises.proofs.DemandOne.{demand-one, demand-one-for-c}
 use Rattle.promises.proofs.DemandThree.{over-bytes}
@@ -31,6 +33,7 @@ use Rattle.promises.proofs.TwoRuns.{two-runs}
 use Rattle.promises.proofs.TwoSteps.{two-steps}
 use Rattle.promises.proofs.FigureOverRun.{figure-over-run}
 use Rattle.promises.proofs.LiveModes.{live-modes}
+use Rattle.promises.proofs.Exclusion.{no-list-leads, no-sheet-certifies, figure-call-constant}
 use Rattle.promises.proofs.CallTables.{call-tables}
 use Rattle.promises.proofs.Uniqueness.{uniqueness}
 use Rattle.promises.proofs.Frauds.{frauds}
@@ -64,6 +67,9 @@ promises =
       stepsBack = steps-back;
       stepsForth = steps-forth;
       stepExamples = step-examples;
+      claimAccepted = claim-accepted;
+      figureConstant = figure-constant;
+      outOfReach = out-of-reach;
       acceptedNet = well-formed;
       acceptedMovements = movements-within;
       acceptedWeights = weights-within;
@@ -85,6 +91,10 @@ promises =
       saysDead = says-dead;
       namesFirst = names-first;
       liveModes = live-modes;
+      excludedExactly = excluded-exactly;
+      noListLeads = no-list-leads;
+      noSheetCertifies = no-sheet-certifies;
+      figureCallConstant = figure-call-constant;
       overBytes = over-bytes;
       twoRuns = two-runs;
       twoSteps = two-steps;

@@ -19,9 +19,11 @@ use Rattle.sheets.specs.Decoded.{netOf, movementsOf}
 use Rattle.fire.specs.Contracts.{FireAllows}
 use Rattle.run.specs.declared.Ran.{Ran}
 use Rattle.run.specs.Calls.{beforeRun, runOf}
-use Rattle.run.specs.Contracts.{RunAllows}
+use Rattle.run.specs.Contracts.{RunAllows, CertifyAllows}
 use Rattle.step.specs.Calls.{stepModes}
 use Rattle.step.specs.Contracts.{FireStepAllows}
+use Rattle.exclude.specs.Promises.{Excluded}
+use Rattle.exclude.specs.Contracts.{ExcludeAllows}
 use Rattle.complement.specs.declared.Complemented.{Complemented}
 use Rattle.complement.specs.Complemented.{told}
 use Rattle.complement.specs.Contracts.{ComplementAllows}
@@ -81,6 +83,12 @@ FirstMemberAlone = (net marking : List ℕ) (first : ℕ) (later : List ℕ) (p 
     → together (netOf net) (stepModes later) p .pre ≢ together (netOf net) (stepModes later) p .post
     → (o : Answer × List ℕ) → FireStepAllows net marking (first ∷ later) o → number (o .0) ≡ 0 → o .1 ≢ fired (netOf net) (modeNo first) marking
 
+-- An exclusion that accepts every claim, or none: a claim that is certified is refused, whatever the weights; one that they exclude is accepted.
+pub record ExclusionFrauds : Type 0 where
+  pub everything : (net weights movements claim : List ℕ) (certified told : Answer) → CertifyAllows net movements claim certified → number certified ≡ 0
+      → ExcludeAllows net weights claim told → number told ≢ 0
+  pub nothing : (net weights claim : List ℕ) → Excluded net weights claim → (told : Answer) → ExcludeAllows net weights claim told → number told ≡ 0
+
 pub record Frauds : Type 0 where
   pub constant : ConstantAnswers
   pub constantForC : ConstantAnswersForC
@@ -88,3 +96,4 @@ pub record Frauds : Type 0 where
   pub copying : CopiesNet
   pub running : RunFrauds
   pub stepping : FirstMemberAlone
+  pub excluding : ExclusionFrauds

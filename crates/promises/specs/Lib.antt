@@ -5,6 +5,7 @@ pub mod TwoRuns
 pub mod TwoSteps
 pub mod FigureOverRun
 pub mod LiveModes
+pub mod Exclusion
 pub mod Uniqueness
 pub mod OwnExample
 pub mod ConstantAnswers

@@ -19,6 +19,7 @@ use Rattle.step.specs.Contracts.{FireStepAllows}
 use Rattle.weigh.specs.declared.Figured.{Figured}
 use Rattle.weigh.specs.Calls as weigh
 use Rattle.weigh.specs.Contracts.{FigureAllows, ChangeAllows}
+use Rattle.exclude.specs.Contracts.{ExcludeAllows}
 use Rattle.dead.specs.declared.Deadness.{Deadness}
 use Rattle.dead.specs.declared.FirstDead.{FirstDead}
 use Rattle.dead.specs.IsDead as one
@@ -44,6 +45,10 @@ net = sheetOf example
 abbrev pub three : List ℕ
 three = 0 ∷ 0 ∷ 0 ∷ 7 ∷ 1 ∷ replicate 6 0
 
+-- weights of 1 for each pair: how many items there are, which no movement changes
+abbrev pub even : List ℕ
+even = 0 ∷ 0 ∷ 0 ∷ 11 ∷ 1 ∷ 0 ∷ 2 ∷ 0 ∷ 0 ∷ 0 ∷ 1 ∷ 0 ∷ 0 ∷ 0 ∷ 1 ∷ []
+
 -- a slice with room for the complement, which "has L = 87"
 abbrev pub room : List ℕ
 room = replicate 91 0
@@ -65,6 +70,10 @@ pub record OwnExample : Type 0 where
   pub figure : (o : Figured) → FigureAllows net weights (3 ∷ 0 ∷ []) o → weigh.told o ≡ yields (pos 750)
   -- -250
   pub change : (o : Figured) → ChangeAllows net weights (modeNo 0) o → weigh.told o ≡ yields (negsuc 249)
+  -- there are three items and never four; that three are ashore is not excluded, nor anything by the weights of its figure, which its one mode changes
+  pub exclude : (told : Answer) → ExcludeAllows net even (3 ∷ 1 ∷ []) told → number told ≡ 0
+  pub notExcluded : (told : Answer) → ExcludeAllows net even (0 ∷ 3 ∷ []) told → carried told ≡ carries 22 0 0
+  pub notBalanced : (told : Answer) → ExcludeAllows net weights (3 ∷ 1 ∷ []) told → carried told ≡ carries 21 0 0
   pub isDead : (o : Deadness) → IsDeadAllows net (modeNo 0) o → one.told o ≡ yields false
   pub firstDead : (o : FirstDead) → FirstDeadAllows net o → first.told o ≡ yields none
   -- two places of one colour, one mode, two arcs

@@ -4,6 +4,7 @@ use Rattle.model.specs.Edges.{Edges}
 use Rattle.model.specs.WorkedExamples.{WorkedExamples}
 use Rattle.model.specs.DemandThree.{Demand3}
 use Rattle.model.specs.Steps as step
+use Rattle.model.specs.Exclusion as claim
 use Rattle.sheets.specs.Accepted.{AcceptedNet, AcceptedMovements, AcceptedWeights}
 use Rattle.lists.specs.Promises.{SignedWeights}
 use Rattle.written.specs.Promises.{WrittenThenRead, ReadThenWritten, LargestSheet, ExampleLengths}
@@ -11,6 +12,7 @@ use Rattle.fire.specs.Promises.{AcceptedBegin, AcceptedFire, MarkingStays}
 use Rattle.run.specs.Promises.{RunsLeave, RunsKeep, Certified}
 use Rattle.weigh.specs.Promises.{FigureIsSum, ChangeIsSum, FigureFired}
 use Rattle.dead.specs.Promises.{SaysDead, NamesFirst}
+use Rattle.exclude.specs.Promises.{ExcludedExactly}
 use Rattle.promises.specs.DemandOne.{DemandOne, DemandOneForC}
 use Rattle.promises.specs.DemandThree.{OverBytes}
 use Rattle.text.specs.Promises.{Decimals}
@@ -20,6 +22,7 @@ use Rattle.promises.specs.TwoRuns.{TwoRuns}
 use Rattle.promises.specs.TwoSteps.{TwoSteps}
 use Rattle.promises.specs.FigureOverRun.{FigureOverRun}
 use Rattle.promises.specs.LiveModes.{LiveModes}
+use Rattle.promises.specs.Exclusion.{NoListLeads, NoSheetCertifies, FigureCallConstant}
 use Rattle.promises.specs.CallTables.{CallTables}
 use Rattle.promises.specs.Uniqueness.{Uniqueness}
 use Rattle.promises.specs.Frauds.{Frauds}
@@ -52,6 +55,9 @@ pub record Promises : Type 0 where
   pub stepsBack : step.StepsBack
   pub stepsForth : step.StepsForth
   pub stepExamples : step.StepExamples
+  pub claimAccepted : claim.ClaimAccepted
+  pub figureConstant : claim.FigureConstant
+  pub outOfReach : claim.OutOfReach
   -- of sheets, read and written
   pub acceptedNet : AcceptedNet
   pub acceptedMovements : AcceptedMovements
@@ -75,6 +81,10 @@ pub record Promises : Type 0 where
   pub saysDead : SaysDead
   pub namesFirst : NamesFirst
   pub liveModes : LiveModes
+  pub excludedExactly : ExcludedExactly
+  pub noListLeads : NoListLeads
+  pub noSheetCertifies : NoSheetCertifies
+  pub figureCallConstant : FigureCallConstant
   pub overBytes : OverBytes
   pub twoRuns : TwoRuns
   pub twoSteps : TwoSteps
