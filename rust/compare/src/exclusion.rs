@@ -17,12 +17,13 @@ const MOST: u32 = 4;
 pub fn searched(same: &mut Same, net: &PlainNet, kilograms: &[i32]) {
     let (sheet, kilograms) = (net.sheet(), weights(kilograms));
     let first: Vec<u32> = net.pairs.iter().map(|&(_, count)| count).collect();
-    let reached = reached(&sheet, first, total(&net.modes) as u16);
+    let reached = reached(&sheet, first.clone(), total(&net.modes) as u16);
     marking_where(net, MOST, |claim| {
         let (excluded, within) = (same.exclude(&sheet, &kilograms, claim).0 == 0, reached.contains(claim));
         assert!(!excluded || !within, "{}: {claim:?} of {net:?} by {kilograms:?}", same.part);
         same.hits.value(match (excluded, within) {
             (true, _) => "excluded, and out of reach",
+            (false, true) if claim == first => "the first marking, and not excluded",
             (false, true) => "reached, and not excluded",
             (false, false) => "out of reach, and not excluded",
         });

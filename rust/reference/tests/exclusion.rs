@@ -99,12 +99,13 @@ fn reached(sheet: &[u8], first: Vec<u32>, modes: u16) -> BTreeSet<Vec<u32>> {
 #[test]
 fn no_marking_that_a_list_leads_to_is_ever_excluded() {
     let mut random = Random::new(61);
-    let (mut excluded, mut equal) = (0, 0);
+    let (mut excluded, mut equal, mut moved) = (0, 0, 0);
     for _ in 0..300 {
         let (net, kilograms) = balanced(&mut random);
         let (sheet, w) = (net.sheet(), weights(&kilograms));
         let first: Vec<u32> = net.pairs.iter().map(|pair| pair.1).collect();
         let reached = reached(&sheet, first, generator::total(&net.modes) as u16);
+        moved += reached.len() - 1;
         marking_where(&net, 4, |marking| {
             match exclude(&sheet, &w, marking) {
                 ACCEPTED => {
@@ -119,5 +120,5 @@ fn no_marking_that_a_list_leads_to_is_ever_excluded() {
             false
         });
     }
-    assert!(excluded > 1_000 && equal > 1_000, "{excluded} {equal}");
+    assert!(excluded > 1_000 && equal > 1_000 && moved > 300, "{excluded} {equal} {moved}");
 }
