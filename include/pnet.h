@@ -69,7 +69,7 @@ enum {
 };
 
 /* An answer: its number, which thing was at fault, where, and by how much. The position of a byte, a field or an arc is the offset of its
- * first byte, counted from 0 at the first byte of its sheet; that of a pair is the pair's number.
+ * first byte, counted from 0 at the first byte of its sheet; that of a pair or a mode is its number.
  *
  *   No  Given exactly when                                                        Position
  *    0  accepted                                                                  0
@@ -96,8 +96,10 @@ enum {
  *   16  reserved: no answer has it
  *   17  a marking or weights are not one for each pair                            0; in weights, 5
  *   18  a certificate ends at another marking than is claimed                     the lowest pair that differs
+ *   21  a mode's weight change is not 0, in pnet_exclude                          the lowest such mode
+ *   22  the claim has the figure of the first marking, in pnet_exclude            0
  *
- * Numbers above 18 are kept for later calls, with thing PNET_NET.
+ * 19, 20 and numbers above 22 are kept for later calls; every number above 18 has thing PNET_NET.
  *
  * The amount is a number of tokens at the pair that the position names, at least 1:
  *
@@ -219,6 +221,14 @@ struct pnet_weighed pnet_figure(const uint8_t *net, size_t net_length, const uin
  * Refuses: the net; the weights; 6 for the mode (PNET_ARGUMENT). */
 struct pnet_weighed pnet_change(const uint8_t *net, size_t net_length, const uint8_t *weights, size_t weights_length,
                                 struct pnet_mode mode);
+
+/* Whether the weights show that the claim is out of reach: every mode's weight change is 0, so that the figure stays the same over any
+ * movements, and the claim's figure is not that of the net's first marking. Where it is accepted, no movements lead from the first marking to the
+ * claim, however many; where it is refused, nothing is shown. The weights need not be kilograms. Writes nothing.
+ * Refuses: the net; the weights; the claim as a marking: 17, then pair by pair 5 and 9 (PNET_ARGUMENT); 21 at the first mode that changes the
+ * figure, locally dead or not; 22. */
+struct pnet_answer pnet_exclude(const uint8_t *net, size_t net_length, const uint8_t *weights, size_t weights_length,
+                                const uint32_t *claim, size_t counts);
 
 /* Whether the mode is locally dead: at some pair Pre is above the least of K less Post and I, or Post is above K. Exactly then no
  * marking enables it. Writes nothing.

@@ -64,7 +64,17 @@ static void net(struct sheet *sheet, int places, int transitions, int arcs, uint
     close(sheet);
 }
 
-static struct sheet full, half, weights, movements;
+/* The same weight for every pair. */
+static void weigh(struct sheet *sheet, uint32_t weight)
+{
+    open(sheet);
+    put(sheet, 2, PNET_PAIRS);
+    for (int pair = 0; pair < PNET_PAIRS; pair++)
+        put(sheet, 4, weight);
+    close(sheet);
+}
+
+static struct sheet full, half, weights, weightless, movements;
 static uint32_t marking[PNET_PAIRS], both[PNET_PAIRS];
 static uint8_t input[65536], out[PNET_TEXT_ROOM];
 static size_t input_length;
@@ -85,6 +95,7 @@ static volatile uint64_t number;
 
 #define NET full.bytes, full.length
 #define WEIGHTS weights.bytes, weights.length
+#define WEIGHTLESS weightless.bytes, weightless.length /* every mode keeps the figure 0 */
 #define MOVEMENTS movements.bytes, movements.length
 #define MARKING marking, PNET_PAIRS
 
@@ -100,6 +111,7 @@ CALL(run, pnet_run(NET, MOVEMENTS, MARKING).answer)
 CALL(certify, pnet_certify(NET, MOVEMENTS, MARKING))
 CALL(figure, pnet_figure(NET, WEIGHTS, MARKING).answer)
 CALL(change, pnet_change(NET, WEIGHTS, last).answer)
+CALL(exclude, pnet_exclude(NET, WEIGHTLESS, MARKING))
 CALL(is_dead, pnet_is_dead(NET, last).answer)
 CALL(first_dead, pnet_first_dead(NET).answer)
 CALL(size, pnet_size(NET).answer)
@@ -122,6 +134,7 @@ static const struct {
     {"pnet_is_dead", is_dead, 0, 4096},         {"pnet_first_dead", first_dead, 0, 4096},
     {"pnet_size", size, 0, 4096},               {"pnet_complement", complement, 0, 4096},
     {"pnet_audit", audit, 0, 4096},             {"pnet_statement", statement, 0, 4096},
+    {"pnet_exclude", exclude, 22, 4096},
 };
 
 /* replay's input: the three sheets one after another. */
@@ -152,14 +165,12 @@ int main(void)
     int over = 0;
     net(&full, 64, 64, 8, UNBOUNDED);
     net(&half, 32, 64, 4, 1000000);
-    open(&weights);
-    put(&weights, 2, PNET_PAIRS);
+    weigh(&weights, 250);
+    weigh(&weightless, 0);
     for (int pair = 0; pair < PNET_PAIRS; pair++) {
-        put(&weights, 4, 250);
         marking[pair] = 1000;
         both[pair] = pair < 128 ? 1000 : 999000; /* the complement of half: K is 1000000 */
     }
-    close(&weights);
     open(&movements);
     for (int movement = 0; movement < 8192; movement++)
         put(&movements, 2, movement == 8191 ? 255 : movement % 255);

@@ -38,6 +38,7 @@ CALLS = {
     "certify": (3, "net", "movements"),
     "test_step": (4, "net", "modes"),
     "fire_step": (5, "net", "modes"),
+    "exclude": (6, "net", "weights"),
     "read_net": (16, "net", ""),
     "read_weights": (17, "weights", ""),
     "read_movements": (18, "movements", ""),

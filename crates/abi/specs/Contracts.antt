@@ -11,6 +11,7 @@ use Rattle.fire.specs.Calls.{beginRefusal, begun, testRefusal, firedBy}
 use Rattle.run.specs.Calls.{ranOf, runOf, certifyRefusal}
 use Rattle.step.specs.Calls.{testStepRefusal, steppedBy}
 use Rattle.weigh.specs.Calls as weigh
+use Rattle.exclude.specs.Calls.{excludeRefusal}
 use Rattle.dead.specs.IsDead as one
 use Rattle.dead.specs.FirstDead as first
 use Rattle.size.specs.Sizes as size
@@ -65,6 +66,9 @@ module _ (net : List ℕ) where
 
   abbrev pub ChangeAllows : List ℕ → Mode → Weighed → Type 0
   ChangeAllows weights t told = told ≡ weighed (weigh.told (weigh.changeOf net weights t))
+
+  abbrev pub ExcludeAllows : List ℕ → List ℕ → Answered → Type 0
+  ExcludeAllows weights claim told = told ≡ answered (answer (excludeRefusal net weights claim))
 
   abbrev pub IsDeadAllows : Mode → Decided → Type 0
   IsDeadAllows t told = told ≡ decided (one.told (one.deadnessOf net t))

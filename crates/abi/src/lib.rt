@@ -2,6 +2,7 @@
 pub mod auditing;
 pub mod complementing;
 pub mod dying;
+pub mod excluding;
 pub mod moving;
 pub mod reading;
 pub mod sizing;

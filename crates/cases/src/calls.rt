@@ -13,6 +13,7 @@ use crate::told::told_name;
 use abi::complementing::pnet_complement;
 use abi::dying::pnet_first_dead;
 use abi::dying::pnet_is_dead;
+use abi::excluding::pnet_exclude;
 use abi::moving::pnet_begin;
 use abi::moving::pnet_certify;
 use abi::moving::pnet_fire;
@@ -34,6 +35,7 @@ fn answer(call: u32, mode: Mode, first: &[u8], second: &[u8], marking: &mut [u32
         1 => pnet_test(first, marking, mode),
         2 => pnet_fire(first, marking, mode),
         3 => pnet_certify(first, second, marking),
+        6 => pnet_exclude(first, second, marking),
         _ => step(call, first, second, marking),
     }
 }

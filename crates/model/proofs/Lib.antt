@@ -28,6 +28,7 @@ pub mod ByArcs
 pub mod ArcByArc
 pub mod Integers
 pub mod Figures
+pub mod Exclusion
 pub mod Refusals
 pub mod Decisions
 pub mod RefusalTables

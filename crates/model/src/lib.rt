@@ -54,6 +54,8 @@ pub enum Fault {
     InhibitedUnbounded(usize),
     NotOneEach(usize),
     EndsElsewhere(Pair),
+    Unbalanced(Mode),
+    EqualFigures,
 }
 
 pub struct Refusal {

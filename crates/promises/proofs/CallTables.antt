@@ -6,6 +6,7 @@ use mathlib.Core.List.{List, [], _∷_}
 use mathlib.Core.Logic.{_⊎_, inl, inr, ⊎-elim}
 use mathlib.Core.Option.{Option, none, some}
 use lib.Dec.{leb}
+use lib.IntN.{ℤ, pos}
 use lib.ListN.{length, take, getD}
 use borrow.Author.Tests.{le-ltb}
 use native.Mathlib.Omega.{arith}
@@ -21,22 +22,25 @@ use Rattle.model.specs.First.{_▸_, first}
 use Rattle.model.specs.Refusals.{carried, wrong, thingNumber}
 use Rattle.model.specs.RefusalTables.{Table, row, _then_, each, Reads}
 use Rattle.model.specs.Numbers.{ℕ∞, fin, ∞, aboveBy, limit}
-use Rattle.model.specs.Nets.{PNet, pairs, pairNo, modeNo, K, count}
+use Rattle.model.specs.Nets.{PNet, pairs, pairNo, modeNo, K, count, modes}
 use Rattle.model.specs.Firing.{stops, stoppedBy, stopped, lowestStop, ruleRefusal, rowRefusal, modeRefusal, fired}
 use Rattle.model.specs.Steps.{together, stepRefusal}
 use Rattle.model.specs.Runs.{Outcome, goOn, runFrom, run, elsewhere, endsAt, certificateRefusal}
 use Rattle.model.specs.Complement.{finite, complement, refusal15, sheetLimits, complementRefusal}
 use Rattle.model.specs.Markings.{unequal}
 use Rattle.model.specs.Audit.{auditRefusal}
+use Rattle.model.specs.Figures.{figure, change}
+use Rattle.model.specs.Exclusion.{sameFigure, claimRefusal}
 use Rattle.model.proofs.First.{below-or, left-none, then-none, then-assoc, then-under}
 use Rattle.model.proofs.Runs.{runs}
 use Rattle.model.proofs.Decisions.{Decided, by-less, by-at-most, by-equal, by-above, by-not, by-or, by-and, by-other}
 use Rattle.model.proofs.RefusalTables.{four, reads-row, reads-plain, reads-then, reads-each, reads-either}
 use Rattle.model.proofs.Firing.{one-each-reads, missing-reads, refusal-table}
 use Rattle.model.proofs.Steps.{pre-is, post-is, low-is, by-some}
+use Rattle.model.proofs.Exclusion.{by-same}
 use Rattle.heads.specs.Layout.{sheetEnd}
 use Rattle.sheets.specs.Whole.{bytesAfter, wholeNet, wholeWeights, wholeMovements}
-use Rattle.sheets.specs.Decoded.{netOf, movementsOf}
+use Rattle.sheets.specs.Decoded.{netOf, weightsOf, movementsOf}
 use Rattle.sheets.proofs.RefusalTables.{sheet-tables}
 use Rattle.opened.specs.Shape.{arcOffset}
 use Rattle.written.specs.Written.{sheetOf}
@@ -44,10 +48,11 @@ use Rattle.fire.specs.Calls.{beginRefusal, testRefusal}
 use Rattle.run.specs.Calls.{beforeRun, runOf, certifyRefusal}
 use Rattle.step.specs.Calls.{stepModes, testStepRefusal}
 use Rattle.weigh.specs.Calls.{figureRefusal, changeRefusal}
+use Rattle.exclude.specs.Calls.{excludeRefusal}
 use Rattle.dead.specs.IsDead.{deadRefusal}
 use Rattle.complement.specs.Complemented.{roomRefusal, complementingRefusal}
 use Rattle.audit.specs.Audits.{auditingRefusal}
-use Rattle.promises.specs.CallTables.{bytesLeft, wholeNetTable, wholeWeightTable, wholeMovementTable, markingAfter, movesTable, certificateTable, stepTable, roomTable, RunReads, CallTables}
+use Rattle.promises.specs.CallTables.{bytesLeft, wholeNetTable, wholeWeightTable, wholeMovementTable, markingAfter, movesTable, certificateTable, stepTable, roomTable, RunReads, CallTables, claimTable}
 
 -- a sheet's table, then left-over bytes
 whole-reads : (thing : Thing) (s : List ℕ) {table : Table} {o : Option Refusal} → Reads table o → Reads (table then bytesLeft (thingNumber thing) s) (o ▸ bytesAfter thing s)
@@ -152,6 +157,13 @@ module _ (net : PNet) (ts : List Mode) (m : List ℕ) where
       (λ p. rw (← pre-is net p ts, ← post-is net p ts) (by-less limit (count m p - together net ts p .pre + together net ts p .post)))
       (λ p. rw (← pre-is net p ts, ← post-is net p ts))))))))
 
+-- a claim: every mode's weight change, then the figures
+claim-reads : (net : PNet) (weights : List ℤ) (claim : List ℕ) → Reads (claimTable net weights claim) (claimRefusal net weights claim)
+unfolding claimRefusal sameFigure
+claim-reads net weights claim =
+    reads-then (reads-each (modes net) (λ t l. reads-plain _ (by-not (by-same (change net weights (modeNo t)) (pos 0)))))
+    (reads-plain _ (by-same (figure net weights claim) (figure net weights (net .start))))
+
 -- complementing
 by-finite : (x : ℕ∞) → Decided (finite x) ((i : ℕ) × (x ≡ fin i))
 by-finite (fin i) = record { sound = λ _. (i, refl); complete = λ _. refl }
@@ -193,7 +205,7 @@ unfolding complementingRefusal auditingRefusal auditRefusal
 audit-refusal net marking beside = rw (room-refusal net) (then-assoc _ _ _)
 
 pub call-tables : CallTables
-unfolding beginRefusal testRefusal testStepRefusal certifyRefusal figureRefusal changeRefusal deadRefusal complementingRefusal
+unfolding beginRefusal testRefusal testStepRefusal certifyRefusal figureRefusal changeRefusal excludeRefusal deadRefusal complementingRefusal
 call-tables =
     record {
       sheets = sheet-tables;
@@ -213,6 +225,10 @@ call-tables =
           reads-then (net-reads net) (reads-then (weights-reads (pairs (netOf net)) weights) (refusal-table .marking (netOf net) marking));
       change = λ net weights t.
           reads-then (net-reads net) (reads-then (weights-reads (pairs (netOf net)) weights) (missing-reads Argument (netOf net) t));
+      exclude = λ net weights claim.
+          reads-then (net-reads net)
+          (reads-then (weights-reads (pairs (netOf net)) weights)
+          (reads-then (refusal-table .marking (netOf net) claim) (claim-reads (netOf net) (weightsOf weights) claim)));
       isDead = λ net t. reads-then (net-reads net) (missing-reads Argument (netOf net) t);
       complement = λ net room. reads-then (net-reads net) (room-reads net room);
       audit = λ net marking beside.

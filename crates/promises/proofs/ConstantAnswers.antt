@@ -30,6 +30,7 @@ use Rattle.run.specs.Calls.{beforeRun, runOf, certifyRefusal}
 use Rattle.step.specs.Calls.{testStepRefusal}
 use Rattle.weigh.specs.Calls.{figured, figureRefusal, changeRefusal}
 use Rattle.weigh.specs.Calls as weigh
+use Rattle.exclude.specs.Calls.{excludeRefusal}
 use Rattle.dead.specs.IsDead.{deadRefusal}
 use Rattle.dead.specs.IsDead as one
 use Rattle.dead.specs.FirstDead as first
@@ -116,6 +117,10 @@ figure-cut = whole-cut _
 change-cut : changeRefusal lone [] (modeNo 0) ≡ some (cutShort Net)
 unfolding changeRefusal
 change-cut = whole-cut _
+
+exclude-cut : excludeRefusal lone [] [] ≡ some (cutShort Net)
+unfolding excludeRefusal
+exclude-cut = whole-cut _
 
 dead-cut : deadRefusal lone (modeNo 0) ≡ some (cutShort Net)
 unfolding deadRefusal
@@ -219,6 +224,7 @@ constant-answers =
       change =
           varies _ _ (own.net, sheets.weights, modeNo 0) (lone, [], modeNo 0) (λ o a. ap (λ r. r .carried .number) (own-example .change o a))
           (λ o a. ap (λ o. weigh.told o .carried .number) a ∙ rw change-cut);
+      exclude = varies _ _ (own.net, own.even, 3 ∷ 1 ∷ []) (lone, [], []) (own-example .exclude) (says exclude-cut);
       isDead =
           varies _ _ (own.net, modeNo 0) (lone, modeNo 0) (λ o a. ap (λ r. r .carried .number) (own-example .isDead o a))
           (λ o a. ap (λ o. one.told o .carried .number) a ∙ rw dead-cut);

@@ -8,6 +8,7 @@ use Rattle.promises.proofs.CopiesNet.{copies-net}
 use Rattle.promises.proofs.RunFrauds.{run-frauds}
 use Rattle.promises.proofs.StepFrauds.{first-member-alone}
 use Rattle.promises.proofs.AuditFrauds.{always-in-step}
+use Rattle.promises.proofs.Exclusion.{exclusion-frauds}
 
 pub frauds : Frauds
 frauds =
@@ -20,4 +21,5 @@ frauds =
       running = run-frauds;
       stepping = first-member-alone;
       auditing = always-in-step;
+      excluding = exclusion-frauds;
     }

@@ -18,6 +18,7 @@ pub mod CopiesNet
 pub mod RunFrauds
 pub mod StepFrauds
 pub mod AuditFrauds
+pub mod Exclusion
 pub mod Frauds
 pub mod CallTables
 pub mod Promises

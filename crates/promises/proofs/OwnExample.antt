@@ -10,15 +10,17 @@ use lib.ListN.{length}
 use native.Mathlib.Omega.{arith}
 use Rattle.model.specs.declared.Mode.{Mode}
 use Rattle.model.specs.declared.Thing.{Thing}
-use Rattle.model.specs.declared.Thing.the-variants.{Argument, Movements}
+use Rattle.model.specs.declared.Thing.the-variants.{Argument, Movements, Net}
+use Rattle.model.specs.declared.Fault.the-variants.{Unbalanced, EqualFigures}
 use Rattle.model.specs.declared.Why.the-variants.{Lacking}
 use Rattle.model.specs.declared.Refusal.{Refusal}
 use Rattle.model.specs.Numbers.{∞}
 use Rattle.model.specs.First.{_▸_, first}
 use Rattle.model.specs.Nets.{modeNo, entryAt, pairNo}
-use Rattle.model.specs.Refusals.{answer, number, carried}
+use Rattle.model.specs.Refusals.{answer, number, carried, wrong}
 use Rattle.model.specs.Runs.{Outcome, runFrom, run, elsewhere, endsAt, certificateRefusal}
 use Rattle.model.specs.Figures.{sum, figure, change}
+use Rattle.model.specs.Exclusion.{sameFigure, claimRefusal}
 use Rattle.model.specs.Dead.{deadPair, isDead, firstDead}
 use Rattle.model.specs.Complement.{bounded, complementRow, newPlaces, arcsOf, complement, refusal15, sheetLimits, complementRefusal}
 use Rattle.model.specs.Replies.{yields}
@@ -49,6 +51,7 @@ use Rattle.run.specs.Calls.{ranOf, beforeRun, runOf, certifyRefusal}
 use Rattle.step.specs.Calls.{stepModes, testStepRefusal}
 use Rattle.weigh.specs.Calls as weigh
 use Rattle.weigh.specs.Calls.{figured, figureRefusal, changeRefusal}
+use Rattle.exclude.specs.Calls.{excludeRefusal}
 use Rattle.dead.specs.IsDead as one
 use Rattle.dead.specs.IsDead.{deadRefusal}
 use Rattle.dead.specs.FirstDead as first
@@ -205,6 +208,35 @@ change-is : change example (weightsOf sheets.weights) (modeNo 0) ≡ negsuc 249
 unfolding change sum weightsOf table signed u16At u32At entryAt
 change-is = refl
 
+even-read : wholeWeights 2 own.even ≡ none
+unfolding wholeWeights weightsRefusal weightFields weightRefusal headRefusal bytesAfter first _▸_ signed u16At u32At
+even-read = refl
+
+excludes : (weights claim : List ℕ) → wholeWeights 2 weights ≡ none → markingRefusal example claim ≡ none
+    → excludeRefusal own.net weights claim ≡ claimRefusal example (weightsOf weights) claim
+unfolding excludeRefusal
+excludes weights claim w m = none-then (read-back .accepted) (rw (read-back .same) (none-then w (none-then m refl)))
+
+four-marks : markingRefusal example (3 ∷ 1 ∷ []) ≡ none
+unfolding markingRefusal first _▸_
+four-marks = refl
+
+landed-marks : markingRefusal example (0 ∷ 3 ∷ []) ≡ none
+unfolding markingRefusal first _▸_
+landed-marks = refl
+
+four-excluded : claimRefusal example (weightsOf own.even) (3 ∷ 1 ∷ []) ≡ none
+unfolding claimRefusal sameFigure figure change sum weightsOf table signed u16At u32At entryAt first _▸_
+four-excluded = refl
+
+landed-equal : claimRefusal example (weightsOf own.even) (0 ∷ 3 ∷ []) ≡ some (wrong Net EqualFigures)
+unfolding claimRefusal sameFigure figure change sum weightsOf table signed u16At u32At entryAt first _▸_
+landed-equal = refl
+
+mode-unbalanced : claimRefusal example (weightsOf sheets.weights) (3 ∷ 1 ∷ []) ≡ some (wrong Net (Unbalanced (modeNo 0)))
+unfolding claimRefusal sameFigure figure change sum weightsOf table signed u16At u32At entryAt first _▸_
+mode-unbalanced = refl
+
 dead-accepted : deadRefusal own.net (modeNo 0) ≡ none
 unfolding deadRefusal
 dead-accepted = none-then (read-back .accepted) (rw (read-back .same))
@@ -265,6 +297,9 @@ own-example =
       certify = λ told a. ap number a ∙ rw certifies;
       figure = λ o a. ap weigh.told a ∙ rw (figure-accepted, read-back .same, figure-is);
       change = λ o a. ap weigh.told a ∙ rw (change-accepted, read-back .same, change-is);
+      exclude = λ told a. ap number a ∙ rw (excludes own.even (3 ∷ 1 ∷ []) even-read four-marks, four-excluded);
+      notExcluded = λ told a. ap carried a ∙ rw (excludes own.even (0 ∷ 3 ∷ []) even-read landed-marks, landed-equal);
+      notBalanced = λ told a. ap carried a ∙ rw (excludes sheets.weights (3 ∷ 1 ∷ []) weights-read four-marks, mode-unbalanced);
       isDead = λ o a. ap one.told a ∙ rw (dead-accepted, read-back .same, alive);
       firstDead = λ o a. ap first.told a ∙ rw (read-back .accepted, read-back .same, none-dead);
       size = λ o a. ap sizing.told a ∙ rw (read-back .accepted, read-back .same);

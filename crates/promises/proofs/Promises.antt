@@ -13,6 +13,7 @@ use Rattle.model.proofs.Demand3.{demand3}
 use Rattle.model.proofs.DeadComplement.{never16, dead-in-complement}
 use Rattle.model.proofs.Edges.{starred}
 use Rattle.model.proofs.Steps.{step-rule, step-after, step-of-one, step-members}
+use Rattle.model.proofs.Exclusion.{claim-accepted, figure-constant, out-of-reach}
 use Rattle.model.proofs.CorrespondingSteps.{steps-back, steps-forth, step-examples}
 use Rattle.model.proofs.Orders.{orders, interleavings}
 use Rattle.model.proofs.ApartInBoth.{orders-in-both, order-examples}
@@ -28,6 +29,7 @@ use Rattle.run.proofs.Promises.{runs-leave, runs-keep, certified}
 use Rattle.weigh.proofs.Promises.{figure-is-sum, change-is-sum, figure-fired}
 use Rattle.dead.proofs.Promises.{says-dead, names-first}
 use Rattle.audit.proofs.Promises.{says-audited}
+use Rattle.exclude.proofs.Promises.{excluded-exactly}
 use Rattle.promises.specs.Promises.{Promises}
 use Rattle.promises.proofs.DemandOne.{demand-one, demand-one-for-c}
 use Rattle.promises.proofs.DemandThree.{over-bytes}
@@ -41,6 +43,7 @@ use Rattle.promises.proofs.TwoOrders.{two-orders}
 use Rattle.promises.proofs.Audits.{audits}
 use Rattle.promises.proofs.FigureOverRun.{figure-over-run}
 use Rattle.promises.proofs.LiveModes.{live-modes}
+use Rattle.promises.proofs.Exclusion.{no-list-leads, no-sheet-certifies, figure-call-constant}
 use Rattle.promises.proofs.CallTables.{call-tables}
 use Rattle.promises.proofs.Uniqueness.{uniqueness}
 use Rattle.promises.proofs.Frauds.{frauds}
@@ -86,6 +89,9 @@ promises =
       auditAlong = audit-along;
       markShows = mark-shows;
       auditExamples = audit-examples;
+      claimAccepted = claim-accepted;
+      figureConstant = figure-constant;
+      outOfReach = out-of-reach;
       acceptedNet = well-formed;
       acceptedMovements = movements-within;
       acceptedWeights = weights-within;
@@ -108,6 +114,10 @@ promises =
       namesFirst = names-first;
       liveModes = live-modes;
       saysAudited = says-audited;
+      excludedExactly = excluded-exactly;
+      noListLeads = no-list-leads;
+      noSheetCertifies = no-sheet-certifies;
+      figureCallConstant = figure-call-constant;
       overBytes = over-bytes;
       twoRuns = two-runs;
       twoSteps = two-steps;

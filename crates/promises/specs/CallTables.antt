@@ -5,18 +5,20 @@ use mathlib.Core.Path.{_≡_}
 use mathlib.Core.List.{List, [], _∷_, map}
 use mathlib.Core.Logic.{_⊎_, _≢_}
 use mathlib.Core.Option.{none}
+use lib.IntN.{ℤ, pos}
 use lib.ListN.{length, take, getD}
 use Rattle.model.specs.declared.Mode.{Mode}
 use Rattle.model.specs.Refusals.{carriesBy, carries}
 use Rattle.model.specs.RefusalTables.{Table, row, _then_, each, Reads, oneEachTable, markingTable, missingTable, modeTable}
 use Rattle.model.specs.Numbers.{ℕ∞, fin, ∞, Above, aboveBy, leastOfAll, limit}
 use Rattle.model.specs.Rows.{Entry}
-use Rattle.model.specs.Nets.{NetArc, PNet, total, pairs, modeNo, K, count, arcNo, row as modeRow}
+use Rattle.model.specs.Nets.{NetArc, PNet, total, pairs, modes, modeNo, K, count, arcNo, row as modeRow}
 use Rattle.model.specs.Firing.{fired}
 use Rattle.model.specs.Complement.{complement}
+use Rattle.model.specs.Figures.{figure, change}
 use Rattle.heads.specs.Layout.{sheetEnd}
 use Rattle.sheets.specs.Whole.{wholeNet, wholeWeights, wholeMovements}
-use Rattle.sheets.specs.Decoded.{netOf, movementsOf}
+use Rattle.sheets.specs.Decoded.{netOf, weightsOf, movementsOf}
 use Rattle.sheets.specs.RefusalTables.{netTable, weightTable, movementTable, SheetTables}
 use Rattle.opened.specs.Shape.{arcOffset}
 use Rattle.written.specs.Written.{sheetOf}
@@ -24,6 +26,7 @@ use Rattle.fire.specs.Calls.{beginRefusal, testRefusal}
 use Rattle.run.specs.Calls.{beforeRun, runOf, certifyRefusal}
 use Rattle.step.specs.Calls.{stepModes, testStepRefusal}
 use Rattle.weigh.specs.Calls.{figureRefusal, changeRefusal}
+use Rattle.exclude.specs.Calls.{excludeRefusal}
 use Rattle.dead.specs.IsDead.{deadRefusal}
 use Rattle.complement.specs.Complemented.{complementingRefusal}
 use Rattle.audit.specs.Audits.{auditingRefusal}
@@ -86,6 +89,12 @@ module _ (net : PNet) (ts : List Mode) (m : List ℕ) where
       then each (pairs net) (λ p.
       row (limit < count m p - summedPre p + summedPost p) (carriesBy 14 3 p (count m p - summedPre p + summedPost p - limit)))
 
+-- "then 21 with the first unbalanced mode, then 22 when the figures are equal"
+abbrev pub claimTable : PNet → List ℤ → List ℕ → Table
+claimTable net weights claim =
+    each (modes net) (λ t. row (change net weights (modeNo t) ≢ pos 0) (carries 21 0 t))
+    then row (figure net weights claim ≡ figure net weights (net .start)) (carries 22 0 0)
+
 -- "Complementing: net, 15, 16, 10, each at its first arc in order."; 16 "no longer occurs"
 module _ (s : List ℕ) (room : ℕ) where
   abbrev net : PNet
@@ -133,6 +142,13 @@ module _ (net : List ℕ) where
   abbrev pub changeTable : List ℕ → Mode → Table
   changeTable weights t = wholeNetTable net then wholeWeightTable (pairs (netOf net)) weights then missingTable 3 (netOf net) t
 
+  abbrev pub excludeTable : List ℕ → List ℕ → Table
+  excludeTable weights claim =
+      wholeNetTable net
+      then wholeWeightTable (pairs (netOf net)) weights
+      then markingTable (netOf net) claim
+      then claimTable (netOf net) (weightsOf weights) claim
+
   abbrev pub isDeadTable : Mode → Table
   isDeadTable t = wholeNetTable net then missingTable 3 (netOf net) t
 
@@ -173,6 +189,7 @@ pub record CallTables : Type 0 where
   pub certify : (net movements claim : List ℕ) → Reads (certifyTable net movements claim) (certifyRefusal net movements claim)
   pub figure : (net weights marking : List ℕ) → Reads (figureTable net weights marking) (figureRefusal net weights marking)
   pub change : (net weights : List ℕ) (t : Mode) → Reads (changeTable net weights t) (changeRefusal net weights t)
+  pub exclude : (net weights claim : List ℕ) → Reads (excludeTable net weights claim) (excludeRefusal net weights claim)
   pub isDead : (net : List ℕ) (t : Mode) → Reads (isDeadTable net t) (deadRefusal net t)
   pub complement : (net : List ℕ) (room : ℕ) → Reads (complementTable net room) (complementingRefusal net room)
   pub audit : (net marking beside : List ℕ) → Reads (auditTable net marking beside) (auditingRefusal net marking beside)

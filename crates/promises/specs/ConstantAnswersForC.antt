@@ -18,6 +18,7 @@ pub record ConstantAnswersForC : Type 0 where
   pub certify : Varies (λ (i : List ℕ × List ℕ × List ℕ). c.CertifyAllows (i .0) (i .1) (i .2)) (λ o. o .number)
   pub figure : Varies (λ (i : List ℕ × List ℕ × List ℕ). c.FigureAllows (i .0) (i .1) (i .2)) (λ o. o .answer .number)
   pub change : Varies (λ (i : List ℕ × List ℕ × Mode). c.ChangeAllows (i .0) (i .1) (i .2)) (λ o. o .answer .number)
+  pub exclude : Varies (λ (i : List ℕ × List ℕ × List ℕ). c.ExcludeAllows (i .0) (i .1) (i .2)) (λ o. o .number)
   pub isDead : Varies (λ (i : List ℕ × Mode). c.IsDeadAllows (i .0) (i .1)) (λ o. o .answer .number)
   pub firstDead : Varies c.FirstDeadAllows (λ o. o .answer .number)
   pub size : Varies c.SizeAllows (λ o. o .answer .number)

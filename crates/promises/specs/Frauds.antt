@@ -20,9 +20,11 @@ use Rattle.sheets.specs.Decoded.{netOf, movementsOf}
 use Rattle.fire.specs.Contracts.{FireAllows}
 use Rattle.run.specs.declared.Ran.{Ran}
 use Rattle.run.specs.Calls.{beforeRun, runOf}
-use Rattle.run.specs.Contracts.{RunAllows}
+use Rattle.run.specs.Contracts.{RunAllows, CertifyAllows}
 use Rattle.step.specs.Calls.{stepModes}
 use Rattle.step.specs.Contracts.{FireStepAllows}
+use Rattle.exclude.specs.Promises.{Excluded}
+use Rattle.exclude.specs.Contracts.{ExcludeAllows}
 use Rattle.complement.specs.declared.Complemented.{Complemented}
 use Rattle.complement.specs.Complemented.{told}
 use Rattle.complement.specs.Contracts.{ComplementAllows}
@@ -92,6 +94,12 @@ abbrev pub AlwaysInStep : Type 0
 AlwaysInStep = (net marking beside : List ℕ) (p : ℕ) → p < pairs (netOf net) → OutOfStep (netOf net) marking beside p
     → (o : Found) → AuditAllows net marking beside o → audits.told o .carried .number ≡ 0 → o ≢ Nothing
 
+-- An exclusion that accepts every claim, or none: a claim that is certified is refused, whatever the weights; one that they exclude is accepted.
+pub record ExclusionFrauds : Type 0 where
+  pub everything : (net weights movements claim : List ℕ) (certified told : Answer) → CertifyAllows net movements claim certified → number certified ≡ 0
+      → ExcludeAllows net weights claim told → number told ≢ 0
+  pub nothing : (net weights claim : List ℕ) → Excluded net weights claim → (told : Answer) → ExcludeAllows net weights claim told → number told ≡ 0
+
 pub record Frauds : Type 0 where
   pub constant : ConstantAnswers
   pub constantForC : ConstantAnswersForC
@@ -101,3 +109,4 @@ pub record Frauds : Type 0 where
   pub running : RunFrauds
   pub stepping : FirstMemberAlone
   pub auditing : AlwaysInStep
+  pub excluding : ExclusionFrauds

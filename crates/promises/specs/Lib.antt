@@ -8,6 +8,7 @@ pub mod TwoOrders
 pub mod Audits
 pub mod FigureOverRun
 pub mod LiveModes
+pub mod Exclusion
 pub mod Uniqueness
 pub mod OwnExample
 pub mod ConstantAnswers

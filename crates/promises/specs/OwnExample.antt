@@ -7,7 +7,7 @@ use mathlib.Core.Option.{none, some}
 use lib.IntN.{pos, negsuc}
 use lib.ListN.{replicate}
 use Rattle.model.specs.declared.Answer.{Answer}
-use Rattle.model.specs.Refusals.{number, carriesBy, carried}
+use Rattle.model.specs.Refusals.{number, carriesBy, carried, carries}
 use Rattle.model.specs.Replies.{yields}
 use Rattle.model.specs.Nets.{PNet, pairNo, modeNo}
 use Rattle.model.specs.WorkedExamples.{ownExample}
@@ -19,6 +19,7 @@ use Rattle.step.specs.Contracts.{TestStepAllows, FireStepAllows}
 use Rattle.weigh.specs.declared.Figured.{Figured}
 use Rattle.weigh.specs.Calls as weigh
 use Rattle.weigh.specs.Contracts.{FigureAllows, ChangeAllows}
+use Rattle.exclude.specs.Contracts.{ExcludeAllows}
 use Rattle.dead.specs.declared.Deadness.{Deadness}
 use Rattle.dead.specs.declared.FirstDead.{FirstDead}
 use Rattle.dead.specs.IsDead as one
@@ -51,6 +52,10 @@ three = 0 ∷ 0 ∷ 0 ∷ 7 ∷ 1 ∷ replicate 6 0
 abbrev pub five : List ℕ
 five = replicate 5 0
 
+-- weights of 1 for each pair: how many items there are, which no movement changes
+abbrev pub even : List ℕ
+even = 0 ∷ 0 ∷ 0 ∷ 11 ∷ 1 ∷ 0 ∷ 2 ∷ 0 ∷ 0 ∷ 0 ∷ 1 ∷ 0 ∷ 0 ∷ 0 ∷ 1 ∷ []
+
 -- a slice with room for the complement, which "has L = 87"
 abbrev pub room : List ℕ
 room = replicate 91 0
@@ -75,6 +80,10 @@ pub record OwnExample : Type 0 where
   pub figure : (o : Figured) → FigureAllows net weights (3 ∷ 0 ∷ []) o → weigh.told o ≡ yields (pos 750)
   -- -250
   pub change : (o : Figured) → ChangeAllows net weights (modeNo 0) o → weigh.told o ≡ yields (negsuc 249)
+  -- there are three items and never four; that three are ashore is not excluded, nor anything by the weights of its figure, which its one mode changes
+  pub exclude : (told : Answer) → ExcludeAllows net even (3 ∷ 1 ∷ []) told → number told ≡ 0
+  pub notExcluded : (told : Answer) → ExcludeAllows net even (0 ∷ 3 ∷ []) told → carried told ≡ carries 22 0 0
+  pub notBalanced : (told : Answer) → ExcludeAllows net weights (3 ∷ 1 ∷ []) told → carried told ≡ carries 21 0 0
   pub isDead : (o : Deadness) → IsDeadAllows net (modeNo 0) o → one.told o ≡ yields false
   pub firstDead : (o : FirstDead) → FirstDeadAllows net o → first.told o ≡ yields none
   -- two places of one colour, one mode, two arcs

@@ -7,6 +7,7 @@ use Rattle.model.specs.DeadComplement.{Never16, DeadInComplement}
 use Rattle.model.specs.Steps as step
 use Rattle.model.specs.Orders.{Orders, OrdersInBoth, Interleavings, OrderExamples}
 use Rattle.model.specs.Audit as audit
+use Rattle.model.specs.Exclusion as claim
 use Rattle.sheets.specs.Accepted.{AcceptedNet, AcceptedMovements, AcceptedWeights}
 use Rattle.lists.specs.Promises.{SignedWeights}
 use Rattle.written.specs.Promises.{WrittenThenRead, ReadThenWritten, LargestSheet, ExampleLengths}
@@ -15,6 +16,7 @@ use Rattle.run.specs.Promises.{RunsLeave, RunsKeep, Certified}
 use Rattle.weigh.specs.Promises.{FigureIsSum, ChangeIsSum, FigureFired}
 use Rattle.dead.specs.Promises.{SaysDead, NamesFirst}
 use Rattle.audit.specs.Promises.{SaysAudited}
+use Rattle.exclude.specs.Promises.{ExcludedExactly}
 use Rattle.promises.specs.DemandOne.{DemandOne, DemandOneForC}
 use Rattle.promises.specs.DemandThree.{OverBytes}
 use Rattle.text.specs.Promises.{Decimals}
@@ -27,6 +29,7 @@ use Rattle.promises.specs.TwoOrders.{TwoOrders}
 use Rattle.promises.specs.Audits.{Audits}
 use Rattle.promises.specs.FigureOverRun.{FigureOverRun}
 use Rattle.promises.specs.LiveModes.{LiveModes}
+use Rattle.promises.specs.Exclusion.{NoListLeads, NoSheetCertifies, FigureCallConstant}
 use Rattle.promises.specs.CallTables.{CallTables}
 use Rattle.promises.specs.Uniqueness.{Uniqueness}
 use Rattle.promises.specs.Frauds.{Frauds}
@@ -71,6 +74,9 @@ pub record Promises : Type 0 where
   pub auditAlong : audit.AuditAlong
   pub markShows : audit.MarkShows
   pub auditExamples : audit.AuditExamples
+  pub claimAccepted : claim.ClaimAccepted
+  pub figureConstant : claim.FigureConstant
+  pub outOfReach : claim.OutOfReach
   -- of sheets, read and written
   pub acceptedNet : AcceptedNet
   pub acceptedMovements : AcceptedMovements
@@ -95,6 +101,10 @@ pub record Promises : Type 0 where
   pub namesFirst : NamesFirst
   pub liveModes : LiveModes
   pub saysAudited : SaysAudited
+  pub excludedExactly : ExcludedExactly
+  pub noListLeads : NoListLeads
+  pub noSheetCertifies : NoSheetCertifies
+  pub figureCallConstant : FigureCallConstant
   pub overBytes : OverBytes
   pub twoRuns : TwoRuns
   pub twoSteps : TwoSteps

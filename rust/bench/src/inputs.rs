@@ -53,6 +53,8 @@ pub struct Inputs {
     /// Where they end.
     pub claim: Vec<u32>,
     pub weights: Vec<u8>,
+    /// Every pair weighs nothing, and so no mode changes the figure.
+    pub weightless: Vec<u8>,
     /// A net of 128 bounded pairs and 256 modes of 4 arcs each, whose complement is a largest net.
     pub bounded: Vec<u8>,
     /// Its first marking, and its complement's: every pair is half full.
@@ -89,6 +91,7 @@ impl Inputs {
             bounded: bounded.sheet(),
             input: [&sheet[..], &weights, &movements].concat(),
             net: sheet,
+            weightless: reference::build::weights(&vec![0; pairs]),
             weights,
             movements,
         }

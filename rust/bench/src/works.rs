@@ -67,7 +67,7 @@ pub const STATEMENT: Work = beside(
 pub const SIZED: [Work; 4] = [READ, RUN, COMPLEMENT, STATEMENT];
 
 /// The other calls, at full size; a call with a mode is given the last.
-pub const OTHERS: [Work; 14] = [
+pub const OTHERS: [Work; 15] = [
     beside("size", |i, _| pnet::size(&i.net).is_ok(), |i, _| swift::size(&i.net).is_ok()),
     own("read_weights", |i, _| pnet::read_weights(&i.weights, i.pairs).is_ok()),
     own("read_movements", |i, _| pnet::read_movements(&i.movements).is_ok()),
@@ -86,6 +86,12 @@ pub const OTHERS: [Work; 14] = [
     own("certify", |i, _| pnet::certify(&i.net, &i.movements, &i.claim).is_ok()),
     own("figure", |i, l| pnet::figure(&i.net, &i.weights, &l.marking).is_ok()),
     own("change", |i, _| pnet::change(&i.net, &i.weights, Mode(i.last)).is_ok()),
+    // Every mode is looked at, and both figures: they are equal.
+    beside(
+        "exclude",
+        |i, _| pnet::exclude(&i.net, &i.weightless, &i.claim).is_err_and(|refusal| refusal.number() == 22),
+        |i, _| swift::exclude(&i.net, &i.weightless, &i.claim).number == 22,
+    ),
     own("is_dead", |i, _| pnet::is_dead(&i.net, Mode(i.last)) == Ok(false)),
     own("first_dead", |i, _| pnet::first_dead(&i.net) == Ok(None)),
     beside(

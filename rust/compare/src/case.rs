@@ -78,6 +78,8 @@ impl Case {
         same.certify(&self.net, &self.movements, &self.claim);
         same.figure(&self.net, &self.weights, &self.marking);
         same.change(&self.net, &self.weights, self.mode);
+        same.exclude(&self.net, &self.weights, &self.claim);
+        same.exclude(&self.net, &self.weights, &self.marking);
         same.is_dead(&self.net, self.mode);
         same.first_dead(&self.net);
         same.size(&self.net);

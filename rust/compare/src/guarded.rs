@@ -221,6 +221,10 @@ pub fn figure(net: &[u8], weights: &[u8], marking: &[u32]) -> Result<i64, Refusa
     lend(|lent| pnet::figure(lent.net.show(net), lent.sheet.show(weights), lent.counts.show(marking)))
 }
 
+pub fn exclude(net: &[u8], weights: &[u8], claim: &[u32]) -> Result<(), Refusal> {
+    lend(|lent| pnet::exclude(lent.net.show(net), lent.sheet.show(weights), lent.counts.show(claim)))
+}
+
 pub fn change(net: &[u8], weights: &[u8], mode: Mode) -> Result<i64, Refusal> {
     lend(|lent| pnet::change(lent.net.show(net), lent.sheet.show(weights), mode))
 }

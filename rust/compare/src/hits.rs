@@ -18,6 +18,7 @@ pub enum Call {
     Certify,
     Figure,
     Change,
+    Exclude,
     IsDead,
     FirstDead,
     Size,
@@ -28,7 +29,7 @@ pub enum Call {
 
 use Call::*;
 
-const CALLS: [Call; 18] = [
+const CALLS: [Call; 19] = [
     ReadNet,
     ReadWeights,
     ReadMovements,
@@ -41,6 +42,7 @@ const CALLS: [Call; 18] = [
     Certify,
     Figure,
     Change,
+    Exclude,
     IsDead,
     FirstDead,
     Size,
@@ -68,6 +70,8 @@ const ELSEWHERE: &[Told] = &[(18, 3)];
 const NO_ROOM: &[Told] = &[(10, 0)];
 const COMPLEMENT: &[Told] = &[(15, 0), (10, 0)];
 
+const EXCLUSION: &[Told] = &[(21, 0), (22, 0)];
+
 /// Every refusal that docs/RULES.md lets a call give.
 fn refusals(call: Call) -> Vec<Told> {
     match call {
@@ -81,6 +85,7 @@ fn refusals(call: Call) -> Vec<Told> {
         Certify => [NET, MOVEMENTS, ONE_EACH, MOVEMENT, ELSEWHERE].concat(),
         Figure => [NET, WEIGHTS, MARKING].concat(),
         Change => [NET, WEIGHTS, MODE].concat(),
+        Exclude => [NET, WEIGHTS, MARKING, EXCLUSION].concat(),
         IsDead => [NET, MODE].concat(),
         Complement => [NET, COMPLEMENT].concat(),
         Audit => [NET, COMPLEMENT, ONE_EACH].concat(),
@@ -96,7 +101,7 @@ pub struct Hits {
     runs: usize,
     whole: usize,
     longest: usize,
-    /// Values that are no numbers: yes, no, a mode named, none named; what a search for a marking found; what a text is of; by which of a net and its complement a step is accepted; that a complement refuses by more than its net; what a dead mode is there; what an audit found, and whose 17 it was.
+    /// Values that are no numbers: yes, no, a mode named, none named; what a search for a marking found; what a text is of; by which of a net and its complement a step is accepted; that a complement refuses by more than its net; what a dead mode is there; what an audit found, and whose 17 it was; what a search for all markings in reach says of a claim.
     values: BTreeMap<&'static str, usize>,
     /// Refusals by an amount above 1, by their number.
     by_more: BTreeMap<u64, usize>,
@@ -163,6 +168,9 @@ impl Hits {
             "out of step",
             "17 for the complement's marking",
             "the old fault found",
+            "excluded, and out of reach",
+            "reached, and not excluded",
+            "out of reach, and not excluded",
         ] {
             if self.values.get(value).copied().unwrap_or(0) < ENOUGH {
                 wants.push(format!("the value '{value}' came up too rarely"));

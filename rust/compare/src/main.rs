@@ -10,6 +10,7 @@ mod case;
 mod damage;
 mod dead;
 mod demand3;
+mod exclusion;
 #[path = "../../reference/tests/support/generator.rs"]
 mod generator;
 mod guarded;
@@ -52,6 +53,10 @@ fn main() -> ExitCode {
         }
         if round % 32 == 0 {
             dead::searched(&mut same, &generator::net(&mut searches, Style::Small, 2, 2, 8));
+        }
+        if round % 64 == 0 {
+            let (net, kilograms) = generator::balanced(&mut searches);
+            exclusion::searched(&mut same, &net, &kilograms);
         }
         if round % 400 == 0 {
             at_limits(&mut same, &mut random, round as usize / 400);

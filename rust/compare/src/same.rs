@@ -168,6 +168,14 @@ impl Same {
         self.hold(Call::Figure, answer, (answer, value), reference, &[&net, &weights, &marking]);
     }
 
+    /// The answer.
+    pub fn exclude(&mut self, net: &[u8], weights: &[u8], claim: &[u32]) -> Plain {
+        let answer = told(&guarded::exclude(net, weights, claim));
+        let reference = plain(reference::exclude(net, weights, claim));
+        self.hold(Call::Exclude, answer, answer, reference, &[&net, &weights, &claim]);
+        answer
+    }
+
     pub fn change(&mut self, net: &[u8], weights: &[u8], mode: u16) {
         let engine = guarded::change(net, weights, Mode(mode));
         let reference = reference::change(net, weights, mode);

@@ -166,6 +166,16 @@ pub fn change(net: &[u8], weights: &[u8], mode: Mode) -> Result<i64, Refusal> {
     })
 }
 
+/// Whether the weights show that no list of movements leads from the net's first marking to the claim, or why not: every mode's weight
+/// change is 0, and the claim's figure is not that of the first marking. The weights need not be kilograms.
+pub fn exclude(net: &[u8], weights: &[u8], claim: &[u32]) -> Result<(), Refusal> {
+    // SAFETY: pointers and lengths are slices', which are only read.
+    unsafe {
+        pnet_exclude(net.as_ptr(), net.len(), weights.as_ptr(), weights.len(), claim.as_ptr(), claim.len())
+    }
+    .result(Sheets { net, weights, ..Sheets::default() })
+}
+
 /// Whether the mode is locally dead: at some pair Pre is above the least of K less Post and I, or Post is above K. Exactly then no marking
 /// enables it.
 pub fn is_dead(net: &[u8], mode: Mode) -> Result<bool, Refusal> {

@@ -40,6 +40,10 @@ pub enum Fault {
     NotOneEach,
     /// 18: a certificate ends at another marking.
     EndsElsewhere,
+    /// 21: a mode changes the figure, so that an exclusion's weights show nothing.
+    Unbalanced,
+    /// 22: an exclusion's claim has the figure of the first marking.
+    EqualFigures,
     /// A number that has no name here yet.
     Other(u64),
 }
@@ -78,6 +82,8 @@ impl Fault {
             16 => ComplementAbove,
             17 => NotOneEach,
             18 => EndsElsewhere,
+            21 => Unbalanced,
+            22 => EqualFigures,
             other => Other(other),
         }
     }
@@ -104,6 +110,8 @@ impl Fault {
             ComplementAbove => 16,
             NotOneEach => 17,
             EndsElsewhere => 18,
+            Unbalanced => 21,
+            EqualFigures => 22,
             Other(number) => number,
         }
     }
@@ -117,7 +125,8 @@ mod tests {
     fn every_fault_has_its_number_and_no_number_panics() {
         for number in (1..100).chain([u64::MAX]) {
             let fault = Fault::of(number, || Length::Nothing);
-            assert_eq!((fault.number(), matches!(fault, Fault::Other(_))), (number, number > 18));
+            let named = matches!(number, 1..=18 | 21 | 22);
+            assert_eq!((fault.number(), matches!(fault, Fault::Other(_))), (number, !named));
         }
     }
 }

@@ -51,8 +51,9 @@ mod raw;
 mod refusal;
 
 pub use calls::{
-    OutOfStep, Ran, Size, audit, begin, certify, change, complement, figure, fire, fire_step, first_dead,
-    first_marking, is_dead, read_movements, read_net, read_weights, run, size, statement, test, test_step,
+    OutOfStep, Ran, Size, audit, begin, certify, change, complement, exclude, figure, fire, fire_step,
+    first_dead, first_marking, is_dead, read_movements, read_net, read_weights, run, size, statement, test,
+    test_step,
 };
 pub use fault::{Fault, Length};
 pub use kinds::{LARGEST_NET, Mode, Pair, TEXT_ROOM, Thing};

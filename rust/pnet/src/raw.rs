@@ -106,6 +106,14 @@ unsafe extern "C" {
         weights_length: usize,
         mode: Mode,
     ) -> With<i64>;
+    pub fn pnet_exclude(
+        net: *const u8,
+        net_length: usize,
+        weights: *const u8,
+        weights_length: usize,
+        claim: *const u32,
+        counts: usize,
+    ) -> Answer;
     pub fn pnet_is_dead(net: *const u8, net_length: usize, mode: Mode) -> With<bool>;
     pub fn pnet_first_dead(net: *const u8, net_length: usize) -> With<Named>;
     pub fn pnet_complement(net: *const u8, net_length: usize, out: *mut u8, room: usize) -> With<u64>;

@@ -3,7 +3,7 @@
 use std::fmt;
 
 use crate::fault::{Fault, Length};
-use crate::kinds::{Pair, Thing};
+use crate::kinds::{Mode, Pair, Thing};
 
 /// Why a call was refused: what is wrong, in which thing, where and by how much. It prints in words.
 #[derive(Clone, Copy, Debug, PartialEq, Eq, Hash)]
@@ -34,7 +34,7 @@ impl Refusal {
         self.thing
     }
 
-    /// The position of the table: a pair's number, the offset of a byte in its sheet, or 0.
+    /// The position of the table: a pair's or a mode's number, the offset of a byte in its sheet, or 0.
     pub fn position(&self) -> u64 {
         self.position
     }
@@ -54,6 +54,11 @@ impl Refusal {
             _ => false,
         };
         of_pair.then_some(Pair(self.position as u16))
+    }
+
+    /// The mode at fault, where the position is one.
+    pub fn mode(&self) -> Option<Mode> {
+        (self.fault == Fault::Unbalanced).then_some(Mode(self.position as u16))
     }
 
     /// The offset in its sheet of the byte, field or arc at fault, where the position is one.
@@ -126,6 +131,8 @@ impl fmt::Display for Refusal {
             (Fault::NotOneEach, Thing::Weights) => write!(f, "the weights are not one for each pair"),
             (Fault::NotOneEach, _) => write!(f, "the counts are not one for each pair"),
             (Fault::EndsElsewhere, _) => write!(f, "pair {at} ends at another count than is claimed"),
+            (Fault::Unbalanced, _) => write!(f, "mode {at} changes the figure, which so excludes nothing"),
+            (Fault::EqualFigures, _) => write!(f, "the claim has the figure of the first marking"),
             (Fault::Other(_), thing) => write!(f, "the {thing} is refused at {at}"),
         }
     }

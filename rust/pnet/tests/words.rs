@@ -149,6 +149,18 @@ fn of_a_complement() {
 }
 
 #[test]
+fn of_an_exclusion() {
+    let plain = example();
+    assert_eq!(exclude(&plain, &weights(&[1, 1]), &[3, 1]), Ok(()));
+    says(exclude(&plain, &weights(&[1, 1]), &[2, 1]), "22: the claim has the figure of the first marking");
+    let refusal = exclude(&plain, &weights(&[250, 0]), &[2, 1]);
+    says(refusal, "21: mode 0 changes the figure, which so excludes nothing");
+    assert_eq!(refusal.unwrap_err().mode(), Some(Mode(0)));
+    says(exclude(&plain, &weights(&[1, 1]), &[6, 1]), "9: pair 0 holds more than its capacity");
+    says(exclude(&plain, &weights(&[1]), &[6, 1]), "17: the weights are not one for each pair");
+}
+
+#[test]
 fn positions_are_pairs_or_offsets_or_nothing() {
     let refusal = test(&example(), &[0, 0], Mode(0)).unwrap_err();
     assert_eq!((refusal.pair(), refusal.offset(), refusal.thing()), (Some(Pair(0)), None, Thing::Argument));

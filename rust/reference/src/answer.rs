@@ -18,7 +18,7 @@ pub struct Answer {
 /// Which thing was at fault.
 #[derive(Clone, Copy, Debug, PartialEq, Eq)]
 pub enum Thing {
-    /// "0 net, also for numbers 0, 10, 15, 16."
+    /// "0 net, also for numbers 0, 10, 15, 16 and any above 18."
     Net = 0,
     /// "1 weights."
     Weights = 1,
@@ -66,6 +66,10 @@ pub enum Refusal {
     NotEachPair = 17,
     /// "Certificate ends at another marking."
     OtherMarking = 18,
+    /// "21 with the first unbalanced mode."
+    Unbalanced = 21,
+    /// "22 when the figures are equal."
+    EqualFigures = 22,
 }
 
 impl Answer {

@@ -1,6 +1,6 @@
 //! A plain reading of docs/RULES.md: reading a finite P-net, testing and firing one mode or a step of
 //! several at once, running a list of movements, checking a certificate, complementing, auditing a marking
-//! by the complement's, the figure, locally dead modes, `replay`.
+//! by the complement's, the figure, markings out of reach, locally dead modes, `replay`.
 //!
 //! Each call takes sheets as bytes and gives the answer, value and lent slices of docs/RULES.md exactly.
 
@@ -13,6 +13,7 @@ mod certificate;
 mod change;
 mod complement;
 mod dead;
+mod exclusion;
 mod figure;
 mod firing;
 mod kinds;
@@ -38,6 +39,7 @@ pub use certificate::certify;
 pub use change::change;
 pub use complement::complement;
 pub use dead::{first_dead, is_dead};
+pub use exclusion::exclude;
 pub use figure::figure;
 pub use firing::{fire, test};
 pub use kinds::{Mode, Pair};

@@ -1,4 +1,4 @@
-//! The reading, running, complementing, auditing and `replay` of docs/RULES.md, written for speed: a net is decoded
+//! The reading, running, complementing, auditing, excluding and `replay` of docs/RULES.md, written for speed: a net is decoded
 //! once into flat arrays, and the loops allocate nothing.
 //!
 //! A sheet is tested as a whole for yes or no; only a refused one is read again to name its fault.
@@ -7,6 +7,7 @@ mod answer;
 mod arcs;
 mod audit;
 mod complement;
+mod exclude;
 mod fault;
 mod kernel;
 mod layout;
@@ -26,6 +27,7 @@ mod generator;
 pub use answer::{ARGUMENT, Answer, LARGEST};
 pub use audit::audit;
 pub use complement::complement;
+pub use exclude::exclude;
 pub use layout::{read_net, size};
 pub use replay::replay;
 pub use run::run;

@@ -95,6 +95,12 @@ fn same_audit(net: &[u8], counts: &[u32], both: &[u32]) -> (u32, Option<i64>) {
     }
 }
 
+fn same_exclusion(net: &[u8], weights: &[u8], claim: &[u32], seen: &mut BTreeSet<u32>) {
+    let swift = of_swift(swift::exclude(net, weights, claim));
+    assert_eq!(swift, of_reference(reference::exclude(net, weights, claim)), "{net:?} {weights:?} {claim:?}");
+    seen.insert(swift.0);
+}
+
 fn same_replay(input: &[u8]) -> String {
     let swift = String::from_utf8(swift::replay(input)).unwrap();
     let plain = String::from_utf8(reference::replay(input)).unwrap();
@@ -260,6 +266,22 @@ fn auditing_gives_the_same_answer() {
     }
     assert_eq!(seen, (0..=10).chain([15, 17]).collect());
     assert!(none > 500 && found > 500, "{none} {found}");
+}
+
+#[test]
+fn excluding_gives_the_same_answer() {
+    let (mut random, mut seen) = (Random::new(42), BTreeSet::new());
+    for _ in 0..8_000 {
+        let (net, style) = any_net_for_lists(&mut random);
+        let claim = marking(&mut random, style, &net);
+        let kilograms = weights(&generator::weights(&mut random, total(&net.colours)));
+        let sheet = sheet_of(&mut random, &net, 10);
+        same_exclusion(&sheet, &maybe_spoiled(&mut random, kilograms, 15), &claim, &mut seen);
+        let (net, kilograms) = generator::balanced(&mut random);
+        let claim = marking(&mut random, Style::Small, &net);
+        same_exclusion(&net.sheet(), &weights(&kilograms), &claim, &mut seen);
+    }
+    assert_eq!(seen, (0..=9).chain([17, 21, 22]).collect());
 }
 
 #[test]

@@ -163,6 +163,49 @@ pub fn weights(random: &mut Random, pairs: usize) -> Vec<i32> {
         .collect()
 }
 
+/// A small net of K up to 4, and weights by which every mode's change is 0: two kinds of item, each of its own weight, one or two of them to a
+/// token, and modes that put down as many items as they take up.
+pub fn balanced(random: &mut Random) -> (PlainNet, Vec<i32>) {
+    let pairs = 2 + random.below(3);
+    // A pair's kind, and how many items a token stands for.
+    let packs: Vec<(usize, u32)> =
+        (0..pairs).map(|pair| (random.below(1 + pair / 2), 1 + random.below(4) as u32 / 3)).collect();
+    let kilograms: Vec<i32> = (0..2).map(|_| random.pick(&[-1_000, -1, 1, 250])).collect();
+    let weights = packs.iter().map(|&(kind, items)| kilograms[kind] * items as i32).collect();
+    let numbers = |random: &mut Random| {
+        let capacity = 2 + random.below(3) as u32;
+        (capacity, random.below(capacity as usize + 1) as u32)
+    };
+    let mut net = PlainNet {
+        colours: vec![1; pairs],
+        modes: vec![1; 2 + random.below(4)],
+        pairs: (0..pairs).map(|_| numbers(random)).collect(),
+        arcs: Vec::new(),
+    };
+    for mode in 0..net.modes.len() as u16 {
+        let from = random.below(pairs);
+        let same: Vec<usize> =
+            (0..pairs).filter(|&pair| pair != from && packs[pair].0 == packs[from].0).collect();
+        // A kind that stands at one pair only stays there.
+        let to = if same.is_empty() { from } else { random.pick(&same) };
+        for pair in 0..pairs {
+            let inhibitor = if random.once_in(10) { random.pick(&[1, 2, 3]) } else { OPEN };
+            let stays = u32::from(random.once_in(12));
+            // What is taken at `from` is as many items as are given at `to`.
+            let (pre, post) = match pair {
+                _ if from == to => (stays, stays),
+                _ if pair == from => (stays + packs[to].1, stays),
+                _ if pair == to => (stays, stays + packs[from].1),
+                _ => (stays, stays),
+            };
+            if (pre, post, inhibitor) != (0, 0, OPEN) {
+                net.arcs.push(PlainArc { mode, pair: pair as u16, pre, post, inhibitor });
+            }
+        }
+    }
+    (net, weights)
+}
+
 /// One to three faults in a net before it is written: a count, a number, a missing mode or pair, the
 /// order of the arcs, a blank arc, a first marking above K.
 pub fn spoil_net(random: &mut Random, net: &mut PlainNet) {
