@@ -1,5 +1,6 @@
 pub mod Kept
 pub mod Read
+pub mod Fields
 pub mod Counts
 pub mod Every
 pub mod Surveys

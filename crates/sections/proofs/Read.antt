@@ -51,14 +51,22 @@ module _ {s : List ℕ} {net : NetShape} {k : ℕ} {a : Arc} (read : ArcIs s net
       go true = refl
       go false = refl
 
+  -- the number of its complement pair
+  pub pair-number : Open s net → {below : List ℕ} → BelowAre (netOf s) below → (q : Pair) → q .0 ≡ net .pairs + getD below (a .pair .0) 0
+      → q .0 ≡ complementPair (pairs (netOf s)) (K (netOf s)) (a .pair .0)
+  pair-number o are q f = omega (arith, sizes o .pairs, entry-is o are (a .pair .0) (omega (arith, read .pair)))
+
   -- what it becomes on the complement pair
   pub complement-is : Open s net → {below : List ℕ} → BelowAre (netOf s) below → (dead : Bool) (c : ℕ) (q : Pair) → dead ≡ isDead (netOf s) (a .mode)
       → bound c ≡ K (netOf s) (a .pair .0) → q .0 ≡ net .pairs + getD below (a .pair .0) 0
       → complementAt q dead (bound c) (netArc a) ≡ halfArc (netOf s) Complement k
   complement-is o are dead c q d e f =
-      let number : q .0 ≡ complementPair (pairs (netOf s)) (K (netOf s)) (a .pair .0) =
-      omega (arith, sizes o .pairs, entry-is o are (a .pair .0) (omega (arith, read .pair))) in
-      rw (← read .is, d) (ap₂ (λ q k. complementAt q (isDead (netOf s) (a .mode)) k (netArc a)) (ap pairNo number) e)
+      rw (← read .is, d) (ap₂ (λ q k. complementAt q (isDead (netOf s) (a .mode)) k (netArc a)) (ap pairNo (pair-number o are q f)) e)
+
+  pub complement-pair-is : Open s net → {below : List ℕ} → BelowAre (netOf s) below → (q : Pair) → q .0 ≡ net .pairs + getD below (a .pair .0) 0
+      → (new : Arc) → netArc new ≡ halfArc (netOf s) Complement k → q .0 ≡ new .pair .0
+  complement-pair-is o are q f new e =
+      pair-number o are q f ∙ ap (λ x. complementPair (pairs (netOf s)) (K (netOf s)) (x .pair .0)) (read .is) ∙ ap (λ x. x .pair .0) (sym e)
 
 -- the i-th arc of a segment is of its mode
 pub own-dead : (net : PNet) {segment : Segment} {i : ℕ} {dead : Bool} → OwnArc (net .arcs) segment i → (a : NetArc) → a ≡ arcNo (net .arcs) (segment .start + i)

@@ -11,10 +11,12 @@ use opened::shape::NetShape;
 use opened::shape::capacity;
 use opened::starts::Segment;
 use opened::starts::arcs_of;
-use written::put_arc;
+use written::put16;
+use written::put32;
 ghost use mathlib.Core.Path.{_≡_};
 ghost use mathlib.Core.List.{flatMap};
-ghost use Prim.Native.Nat.{_+_};
+ghost use Prim.Native.Nat.{_+_, _≤_};
+ghost use lib.ListN.{length};
 ghost use Rattle.model.specs.Dead.{isDead};
 ghost use Rattle.model.specs.Complement.{complement};
 ghost use Rattle.model.specs.Lists.{joined};
@@ -22,6 +24,8 @@ ghost use Rattle.sheets.specs.Decoded.{netOf, netArc};
 ghost use Rattle.opened.specs.Shape.{Open};
 ghost use Rattle.opened.specs.Starts.{StartsAre, ModeArcs, OwnArc};
 ghost use Rattle.written.specs.Written.{arcBytes};
+ghost use Rattle.written.specs.Puts.{Put};
+ghost use Rattle.halves.specs.declared.half.Half.the-variants.{Original, Complement};
 ghost use Rattle.dead.specs.DeadModes.{DeadAre};
 ghost use Rattle.halves.specs.Bounded.{BelowAre};
 ghost use Rattle.sections.specs.Arcs.{keptBytes, halfArc, halfNo, halfBytes, rowBytes};
@@ -56,17 +60,64 @@ pub(crate) fn half_arc(
     }
 }
 
-// "Blank arcs are left out."
-fn put_kept(out: &mut [u8], at: usize, arc: Arc) -> usize
-    requires { ⌜ Room (now out) at (keptBytes (netArc arc)) ⌝ }
-    ensures { λ r. ⌜ Puts (now (out .entry)) at (keptBytes (netArc arc)) (now (out .exit)) r ⌝ }
+// What an arc leaves at its own pair. Each field is read just before it is put: its bytes are then stored as one number (docs/SPEED.md).
+fn put_original(
+    s: &[u8],
+    net: NetShape,
+    arcs: Segment,
+    i: usize,
+    out: &mut [u8],
+    at: usize,
+) -> usize
+    requires { ⌜ Open (now s) net ⌝ }
+    requires { ⌜ OwnArc (netOf (now s) .arcs) arcs i ⌝ }
+    requires { ⌜ at + 16 ≤ length (now out) ⌝ }
+    ensures { λ r. ⌜ Put (now (out .entry)) at 16 (arcBytes (halfArc (netOf (now (s .entry))) Original (arcs .start + i))) (now (out .exit)) r ⌝ }
 {
-    if is_blank(arc) {
-        return at;
-    }
-    put_arc(out, at, arc)
+    let of_mode = arc(s, net, arcs, i);
+    let mode = of_mode.mode;
+    let to_pair = put16(out, at, mode.0);
+    let of_pair = arc(s, net, arcs, i);
+    let pair = of_pair.pair;
+    let to_pre = put16(out, to_pair, pair.0);
+    let of_pre = arc(s, net, arcs, i);
+    let to_post = put32(out, to_pre, of_pre.pre);
+    let of_post = arc(s, net, arcs, i);
+    let to_inhibitor = put32(out, to_post, of_post.post);
+    put32(out, to_inhibitor, 0xffff_ffff)
 }
 
+// What it puts at the complement pair, already worked out. Pre first, then the rest, with a look into the sheet before Post and one into the
+// table before the others: Pre and Post are then stored as one number each (docs/SPEED.md).
+fn put_new(
+    s: &[u8],
+    net: NetShape,
+    below: &[u16; 257],
+    arcs: Segment,
+    i: usize,
+    new: Arc,
+    out: &mut [u8],
+    at: usize,
+) -> usize
+    requires { ⌜ Open (now s) net ⌝ }
+    requires { ⌜ BelowAre (netOf (now s)) (now below) ⌝ }
+    requires { ⌜ OwnArc (netOf (now s) .arcs) arcs i ⌝ }
+    requires { ⌜ netArc new ≡ halfArc (netOf (now s)) Complement (arcs .start + i) ⌝ }
+    requires { ⌜ at + 16 ≤ length (now out) ⌝ }
+    ensures { λ r. ⌜ Put (now (out .entry)) at 16 (arcBytes (netArc new)) (now (out .exit)) r ⌝ }
+{
+    let to_post = put32(out, at + 4, new.pre);
+    let a = arc(s, net, arcs, i);
+    let to_inhibitor = put32(out, to_post, new.post);
+    let pair = complement_pair(net.pairs, below, a.pair);
+    let end = put32(out, to_inhibitor, new.inhibitor);
+    let mode = new.mode;
+    let to_pair = put16(out, at, mode.0);
+    put16(out, to_pair, pair.0);
+    end
+}
+
+// "Blank arcs are left out."
 fn put_half_arc(
     s: &[u8],
     net: NetShape,
@@ -85,7 +136,14 @@ fn put_half_arc(
     requires { ⌜ Room (now out) at (keptBytes (halfArc (netOf (now s)) half (arcs .start + i))) ⌝ }
     ensures { λ r. ⌜ Puts (now (out .entry)) at (keptBytes (halfArc (netOf (now (s .entry))) half (arcs .start + i))) (now (out .exit)) r ⌝ }
 {
-    put_kept(out, at, half_arc(s, net, below, dead, half, arcs, i))
+    let found = half_arc(s, net, below, dead, half, arcs, i);
+    if is_blank(found) {
+        return at;
+    }
+    match half {
+        Half::Original => put_original(s, net, arcs, i, out, at),
+        Half::Complement => put_new(s, net, below, arcs, i, found, out, at),
+    }
 }
 
 // A half of what the arcs of a mode become.

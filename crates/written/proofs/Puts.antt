@@ -72,6 +72,16 @@ puts {xs = xs} {ys = ys} p q =
       next = omega (arith, p .next, q .next);
     }
 
+-- one put before another that was put first
+pub puts-before : {l m n xs ys : List ℕ} {at k after a b : ℕ} → Put l k b ys m after → Put m at a xs n k → Put l at (a + b) (xs ++ ys) n after
+puts-before {xs = xs} {ys = ys} p q =
+    record {
+      written = before (p .written) (q .written) (omega (arith, q .sized, q .next));
+      sized = omega (arith, length-append xs ys, p .sized, q .sized);
+      kept = omega (arith, p .kept, q .kept);
+      next = omega (arith, p .next, q .next);
+    }
+
 -- parts 0 up to i - 1, and one more: what a loop does that writes those of its records that are kept
 pub none-put : {l : List ℕ} {at : ℕ} (f : ℕ → List ℕ) → Put l at 0 (joined 0 f) l at
 unfolding joined

@@ -1,11 +1,9 @@
 // Bytes out: the parts of a net sheet, big-endian, into a slice that the caller lends. Each put hands back the place after its bytes.
-use model::Arc;
 ghost use mathlib.Core.Path.{_≡_};
 ghost use Prim.Native.Nat.{_+_, _-_, _<_, _≤_};
 ghost use lib.ListN.{length};
 ghost use Rattle.fields.specs.Numbers.{bound};
-ghost use Rattle.written.specs.Written.{bytes16, bytes32, headBytes, pairBytes, arcBytes};
-ghost use Rattle.sheets.specs.Decoded.{netArc};
+ghost use Rattle.written.specs.Written.{bytes16, bytes32, headBytes, pairBytes};
 ghost use Rattle.written.specs.Puts.{Put, sheetSize};
 
 pub fn put16(out: &mut [u8], at: usize, x: u16) -> usize
@@ -50,19 +48,6 @@ pub fn put_pair(out: &mut [u8], at: usize, capacity: u32, start: u32) -> usize
 {
     let next = put32(out, at, capacity);
     put32(out, next, start)
-}
-
-pub fn put_arc(out: &mut [u8], at: usize, arc: Arc) -> usize
-    requires { ⌜ at + 16 ≤ length (now out) ⌝ }
-    ensures { λ r. ⌜ Put (now (out .entry)) at 16 (arcBytes (netArc arc)) (now (out .exit)) r ⌝ }
-{
-    let mode = arc.mode;
-    let pair = arc.pair;
-    let to_pair = put16(out, at, mode.0);
-    let to_pre = put16(out, to_pair, pair.0);
-    let to_post = put32(out, to_pre, arc.pre);
-    let to_inhibitor = put32(out, to_post, arc.post);
-    put32(out, to_inhibitor, arc.inhibitor)
 }
 
 // How long a net sheet with so many places, transitions, pairs and arcs is.

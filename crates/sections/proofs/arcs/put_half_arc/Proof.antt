@@ -1,22 +1,57 @@
--- The arc of that half.
+-- A blank arc is left out; another is put as its half asks.
 use borrow.Author.Needs.{needs}
-use mathlib.Core.Path.{sym, ap}
-use Rattle.sections.specs.Arcs.{keptBytes}
-use Rattle.halves.proofs.Puts.{room-as, puts-as}
+use Prim.Native.Nat.{_+_}
+use mathlib.Core.Path.{sym, _∙_, ap}
+use Rattle.sheets.specs.Decoded.{netOf}
+use Rattle.written.specs.Written.{arcBytes}
+use Rattle.written.proofs.Puts.{nothing, put-length}
+use Rattle.halves.proofs.Puts.{room-as, puts-as, arc-fits}
+use Rattle.sections.specs.Arcs.{halfArc}
+use Rattle.sections.proofs.Kept.{left-out, put-whole}
 use Rattle.sections.proofs.arcs.put_half_arc.Statement.{statement}
 use Rattle.sections.proofs.arcs.put_half_arc.Tie as tie
 
-put-kept-requires : tie.Need-put-kept-requires
-put-kept-requires c κs = room-as (ap keptBytes (sym (c .half-arc .ensures))) (c .before .before .before .before .pre .1 .1 .1 .1)
-
 returns : tie.Need-returns
-returns c = puts-as (ap keptBytes (c .before .before .before .half-arc .ensures)) (c .before .before .put-kept .ensures)
+returns c = puts-as (left-out (c .before .before .half-arc .ensures) (c .before .is-blank .ensures) (c .if1 .taken)) nothing
+
+put-original-requires : tie.Need-put-original-requires
+put-original-requires c κs =
+    let start = c .before .before .before .before .before .before .before .before in
+    let whole = put-whole (c .before .before .before .before .before .half-arc .ensures) (c .before .before .before .before .is-blank .ensures) (c .before .before .before .if1 .left) in
+    (start .pre .0, (start .pre .1 .1 .0, arc-fits _ (room-as (sym whole) (start .pre .1 .1 .1 .1))))
+
+put-new-requires : tie.Need-put-new-requires
+put-new-requires c κs =
+    let start = c .before .before .before .before .before .before .before .before in
+    let found = c .before .before .before .before .before .half-arc .ensures in
+    let whole = put-whole found (c .before .before .before .before .is-blank .ensures) (c .before .before .before .if1 .left) in
+    let new = ap (λ half. halfArc (netOf (start .args .s .now)) half (start .args .arcs .start + start .args .i)) (c .before .enum-told2 .given .1) in
+    (start .pre .0, (start .pre .1 .0, (start .pre .1 .1 .0, (found ∙ new, arc-fits _ (room-as (sym whole) (start .pre .1 .1 .1 .1))))))
+
+returns-2 : tie.Need-returns-2
+returns-2 c =
+    let start = c .before .before .before .before .before .before .before .before .before .before .before in
+    let whole = put-whole (c .before .before .before .before .before .before .before .before .half-arc .ensures) (c .before .before .before .before .before .before .before .is-blank .ensures) (c .before .before .before .before .before .before .if1 .left) in
+    let original = ap (λ half. arcBytes (halfArc (netOf (start .args .s .now)) half (start .args .arcs .start + start .args .i))) (c .before .before .before .before .enum-told .given .1) in
+    puts-as (sym original ∙ whole) (put-length (c .before .before .put-original .ensures))
+
+returns-3 : tie.Need-returns-3
+returns-3 c =
+    let found = c .before .before .before .before .before .before .before .before .half-arc .ensures in
+    puts-as (ap arcBytes found ∙ put-whole found (c .before .before .before .before .before .before .before .is-blank .ensures) (c .before .before .before .before .before .before .if1 .left)) (put-length (c .before .before .put-new .ensures))
 
 pub put-half-arc-spec : {M : Type 1} → statement M
 put-half-arc-spec =
     tie.close
     (tie.spec
     (λ c κs. search needs)
-    put-kept-requires
+    (λ c κs. search needs)
+    returns
     (λ c. search needs)
-    returns)
+    put-original-requires
+    (λ c. search needs)
+    put-new-requires
+    (λ c. search needs)
+    returns-2
+    (λ c. search needs)
+    returns-3)
