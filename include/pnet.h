@@ -27,9 +27,9 @@
 extern "C" {
 #endif
 
-/* The version of these structs and calls is a name: every object that includes this header refers to pnet_abi_1, which answers 1.
+/* The version of these structs and calls is a name: every object that includes this header refers to pnet_abi_2, which answers 2.
  * One that was compiled with another version's header does not link, and the linker names what it lacks. */
-uint64_t pnet_abi_1(void);
+uint64_t pnet_abi_2(void);
 
 #if defined(__has_attribute)
 #if __has_attribute(retain)
@@ -39,7 +39,7 @@ uint64_t pnet_abi_1(void);
 #ifndef PNET_KEPT
 #define PNET_KEPT __attribute__((used))
 #endif
-PNET_KEPT static uint64_t (*const pnet_abi)(void) = pnet_abi_1;
+PNET_KEPT static uint64_t (*const pnet_abi)(void) = pnet_abi_2;
 #undef PNET_KEPT
 
 /* Pairs and modes are both numbered from 0 across the whole net, place by place and transition by transition. The two are distinct
@@ -68,8 +68,8 @@ enum {
     PNET_TEXT_ROOM = 262144       /* bytes, for any text of replay */
 };
 
-/* An answer: its number, which thing was at fault, and where. The position of a byte, a field or an arc is the offset of its first
- * byte, counted from 0 at the first byte of its sheet; that of a pair is the pair's number.
+/* An answer: its number, which thing was at fault, where, and by how much. The position of a byte, a field or an arc is the offset of its
+ * first byte, counted from 0 at the first byte of its sheet; that of a pair is the pair's number.
  *
  *   No  Given exactly when                                                        Position
  *    0  accepted                                                                  0
@@ -97,11 +97,21 @@ enum {
  *   17  a marking or weights are not one for each pair                            0; in weights, 5
  *   18  a certificate ends at another marking than is claimed                     the lowest pair that differs
  *
- * Numbers above 18 are kept for later calls, with thing PNET_NET. */
+ * Numbers above 18 are kept for later calls, with thing PNET_NET.
+ *
+ * The amount is a number of tokens at the pair that the position names, at least 1:
+ *
+ *   11  how many are lacking: Pre less the count
+ *   12  how many are over the capacity: the count and Post together, less K
+ *   13  how many are over the inhibitor: the count less I
+ *   14  how many are over the counter's limit: the new count less 1,000,000
+ *
+ * It is 0 for every other number. Of a step, Pre, Post and I are the sums and the least. */
 struct pnet_answer {
     uint64_t number;
     uint64_t thing;
     uint64_t position;
+    uint64_t amount;
 };
 
 /* Bytes or movements. Where the call is refused the value is 0, but in pnet_run. */

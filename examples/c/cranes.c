@@ -40,7 +40,8 @@ int main(int argc, char **argv)
         if (fired.number == 0)
             printf("%s: accepted\n", steps[each].words);
         else
-            printf("%s: refused by %" PRIu64 " at pair %" PRIu64 "\n", steps[each].words, fired.number, fired.position);
+            printf("%s: refused by %" PRIu64 " at pair %" PRIu64 ", amount %" PRIu64 "\n", steps[each].words, fired.number,
+                   fired.position, fired.amount);
     }
     printf("aboard:");
     for (size_t pair = 3; pair < 9; pair++)

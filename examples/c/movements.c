@@ -79,7 +79,8 @@ int main(int argc, char **argv)
         struct pnet_mode mode = {(uint16_t)(movements.bytes[at] << 8 | movements.bytes[at + 1])};
         struct pnet_answer fired = pnet_fire(net.bytes, net.length, marking, pairs, mode);
         if (fired.number != 0) {
-            printf("mode %u: refused by %" PRIu64 " at pair %" PRIu64 "\n", mode.number, fired.number, fired.position);
+            printf("mode %u: refused by %" PRIu64 " at pair %" PRIu64 ", amount %" PRIu64 "\n", mode.number, fired.number,
+                   fired.position, fired.amount);
             break;
         }
         struct pnet_weighed change = pnet_change(net.bytes, net.length, weights.bytes, weights.length, mode);

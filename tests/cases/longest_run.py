@@ -26,38 +26,40 @@ def movement(k):
     return (37 * k + k // 256) % 256
 
 
-TESTS = (
-    (11, lambda m, k, pre, post, i: pre > m),
-    (12, lambda m, k, pre, post, i: m + post > k),
-    (13, lambda m, k, pre, post, i: m > i),
-    (14, lambda m, k, pre, post, i: m - pre + post > LIMIT),
+# By how much each number is given: where that is above 0.
+AMOUNTS = (
+    (11, lambda m, k, pre, post, i: pre - m),
+    (12, lambda m, k, pre, post, i: m + post - k),
+    (13, lambda m, k, pre, post, i: m - i),
+    (14, lambda m, k, pre, post, i: m - pre + post - LIMIT),
 )
 
 
 def refusal(marking, mode):
-    """Number and lowest pair: each number over all pairs before the next."""
-    for number, stops in TESTS:
-        pairs = [p for p, pre, post, i in arcs(mode) if stops(marking[p], capacity(p), pre, post, i)]
+    """Number, lowest pair and amount there: each number over all pairs before the next."""
+    for number, amount in AMOUNTS:
+        short = {p: amount(marking[p], capacity(p), pre, post, i) for p, pre, post, i in arcs(mode)}
+        pairs = [p for p in short if short[p] > 0]
         if pairs:
-            return number, min(pairs)
-    return 0, 0
+            return number, min(pairs), short[min(pairs)]
+    return 0, 0, 0
 
 
 def run(marking):
-    """How many movements were accepted, the answer's number and pair."""
+    """How many movements were accepted, the answer's number, pair and amount."""
     for k in range(MOVEMENTS):
         mode = movement(k)
-        number, pair = refusal(marking, mode)
+        number, pair, amount = refusal(marking, mode)
         if number:
-            return k, number, pair
+            return k, number, pair, amount
         for p, pre, post, i in arcs(mode):
             marking[p] += post - pre
-    return MOVEMENTS, 0, 0
+    return MOVEMENTS, 0, 0, 0
 
 
 def check(markings):
     """The three markings of limits.txt."""
     marking = [first(p) for p in range(PAIRS)]
     assert markings["longest_start"] == marking
-    assert run(marking) == (MOVEMENTS, 0, 0) and markings["longest_end"] == marking
-    assert run(marking) == (3, 12, 178) and markings["longest_end_again"] == marking
+    assert run(marking) == (MOVEMENTS, 0, 0, 0) and markings["longest_end"] == marking
+    assert run(marking) == (3, 12, 178, 1) and markings["longest_end_again"] == marking

@@ -9,10 +9,10 @@ A list has, each with its lines below it, indented; `#` starts a comment, which 
     net NAME            places (colours of each), transitions (modes of each), `pair 0: K 5, first 3`, `mode 0, pair 0: Pre 1, Post 0, I 4`
     weights, movements, marking NAME: numbers
     case NAME           `call fire, net P1, marking 3 1, mode 0`, of a step `modes 0 1` or `modes 65 times 0`; what it answers, `accepted` or
-                        `refused by 13, thing 3, at 0` (a number that is not said is 0), with what it yields, `value 91`, `yes`, `no` or `mode 1 pair 1`;
+                        `refused by 13, thing 3, at 0, amount 1` (a number that is not said is 0), with what it yields, `value 91`, `yes`, `no` or `mode 1 pair 1`;
                         `leaves 2 1`, the marking after (else it is as before); `writes NAME`, the sheet in the bytes lent, of which it has `room` (else
                         nothing is written)
-    both NET, COMPLEMENT   a row is a marking, `|` and the counts of its complement pairs, a mode, and `to` the marking after, or the refusals: `13 at 0 | 11 at 2`.
+    both NET, COMPLEMENT   a row is a marking, `|` and the counts of its complement pairs, a mode, and `to` the marking after, or the refusals: `13 at 0 amount 1 | 11 at 2 amount 1`.
                         Each is tested and fired, in the net and in its complement: four cases.
 
 Sheets at the limits are made by limits.py, by name. A call is added in two places: a row of CALLS, and an arm with its number in crates/cases/src/calls.rt, in the
@@ -111,21 +111,21 @@ def add(name, call, arguments, told, after, written):
 def answer_of(call, line):
     """What is told, as src/told.rt and src/sums.rt put it."""
     broken = re.fullmatch(r"pair (\d+) adds up to (\d+) and not (\d+)", line)
-    found = re.fullmatch(r"(?:accepted|adds up|refused by (\d+)(?:, thing (\d+))?(?:, at (\d+))?)(?:, (value -?\d+|yes|no|mode \d+ pair \d+))?", line)
+    found = re.fullmatch(r"(?:accepted|adds up|refused by (\d+)(?:, thing (\d+))?(?:, at (\d+))?(?:, amount (\d+))?)(?:, (value -?\d+|yes|no|mode \d+ pair \d+))?", line)
     assert broken or found, line
     if broken:
         pair, total, capacity = map(int, broken.groups())
-        told = [1, 0, pair, 0, capacity, total]
+        told = [1, 0, pair, 0, 0, capacity, total]
     else:
-        word, *rest = (found[4] or "no").split()
-        told = [int(number or 0) for number in found.groups()[:3]]
+        word, *rest = (found[5] or "no").split()
+        told = [int(number or 0) for number in found.groups()[:4]]
         if word == "value":
             told += [rest[0].startswith("-"), *divmod(abs(int(rest[0])), 2**32)]
         elif word == "mode":
             told += [1, int(rest[0]), int(rest[2])]
         else:
             told += [word == "yes"]
-    return [*told, *[0] * (6 - len(told))]
+    return [*told, *[0] * (7 - len(told))]
 
 
 def parse_case(name, lines):
@@ -152,7 +152,7 @@ def parse_both(names, lines):
             if here.startswith("to "):
                 answer, after = "accepted", counts(here[3:] + (beside if sheet == complement else ""))
             else:
-                answer, after = "refused by {}, thing 3, at {}".format(*last.strip().split(" at ")), None
+                answer, after = re.sub(r"(\d+) at (\d+) amount (\d+)", r"refused by \1, thing 3, at \2, amount \3", last.strip()), None
             for call in ("test", "fire"):
                 name = f"{title} at {lent.replace(' ', ',')}, mode {mode}, {call}"
                 add(name, call, {"net": sheet, "marking": lent, "mode": mode}, answer_of(call, answer), after if call == "fire" else None, b"")

@@ -18,19 +18,31 @@ def one_pair(capacity, first, arc, list_of_modes, weight=10):
     return net([1], [1], [(capacity, first)], [(0, 0, *arc)]) + weights([weight]) + movements(list_of_modes)
 
 
+def two_pairs(before, pair, arc):
+    """A net of two pairs (K, first) and one mode, which takes 1 from the first and has this arc at the second; each weighs 10; the mode once."""
+    return net([1, 1], [1], [before, pair], [(0, 0, 1, 0, UNBOUNDED), (0, 1, *arc)]) + weights([10, 10]) + movements([0])
+
+
 LANDING = net([1, 1], [1], [(5, 3), AWAY], [(0, 0, 1, 0, 4), (0, 1, 0, 1, UNBOUNDED)])
 WEIGHTS = weights([250, 0])
 FOUR = movements([0, 0, 0, 0])
 # the small net of docs/RULES.md
-case("document", LANDING + WEIGHTS + FOUR, "start 750\n1 0 0 500\n2 0 0 250\n3 0 0 0\nrefused 4 0 11 0\nend 3 0\n")
+case("document", LANDING + WEIGHTS + FOUR, "start 750\n1 0 0 500\n2 0 0 250\n3 0 0 0\nrefused 4 0 11 0 1\nend 3 0\n")
 
 # a refusal by each of 6 and 11 to 14
-case("mode_not_there", LANDING + WEIGHTS + movements([0, 7, 0]), "start 750\n1 0 0 500\nrefused 2 7 6 0\nend 1 500\n")
-case("lacking", one_pair(5, 1, (2, 0, 0), [0]), "start 10\nrefused 1 0 11 0\nend 0 10\n")
-case("over_capacity", one_pair(5, 4, (0, 1, UNBOUNDED), [0, 0]), "start 40\n1 0 0 50\nrefused 2 0 12 0\nend 1 50\n")
-case("full_swap", one_pair(5, 5, (1, 1, UNBOUNDED), [0]), "start 50\nrefused 1 0 12 0\nend 0 50\n")
-case("inhibited", one_pair(6, 4, (0, 1, 4), [0, 0]), "start 40\n1 0 0 50\nrefused 2 0 13 0\nend 1 50\n")
-case("over_limit", one_pair(UNBOUNDED, 999999, (0, 1, UNBOUNDED), [0, 0]), "start 9999990\n1 0 0 10000000\nrefused 2 0 14 0\nend 1 10000000\n")
+case("mode_not_there", LANDING + WEIGHTS + movements([0, 7, 0]), "start 750\n1 0 0 500\nrefused 2 7 6 0 0\nend 1 500\n")
+case("lacking", one_pair(5, 1, (2, 0, 0), [0]), "start 10\nrefused 1 0 11 0 1\nend 0 10\n")
+case("over_capacity", one_pair(5, 4, (0, 1, UNBOUNDED), [0, 0]), "start 40\n1 0 0 50\nrefused 2 0 12 0 1\nend 1 50\n")
+case("full_swap", one_pair(5, 5, (1, 1, UNBOUNDED), [0]), "start 50\nrefused 1 0 12 0 1\nend 0 50\n")
+case("inhibited", one_pair(6, 4, (0, 1, 4), [0, 0]), "start 40\n1 0 0 50\nrefused 2 0 13 0 1\nend 1 50\n")
+case("over_limit", one_pair(UNBOUNDED, 999999, (0, 1, UNBOUNDED), [0, 0]), "start 9999990\n1 0 0 10000000\nrefused 2 0 14 0 1\nend 1 10000000\n")
+
+# amounts above 1: 9 are due and 2 are there; 3 and 9 are above 10 by 2; 7 are above 4 by 3; 999,999 and 5 are above the limit by 4. The pair before is in order.
+ROOMY = (10, 5)
+case("lacking_seven", two_pairs(ROOMY, (9, 2), (9, 0, UNBOUNDED)), "start 70\nrefused 1 0 11 1 7\nend 0 70\n")
+case("over_capacity_by_two", two_pairs(ROOMY, (10, 3), (3, 9, 3)), "start 80\nrefused 1 0 12 1 2\nend 0 80\n")
+case("inhibited_by_three", two_pairs(ROOMY, (9, 7), (1, 2, 4)), "start 120\nrefused 1 0 13 1 3\nend 0 120\n")
+case("over_limit_by_four", two_pairs(ROOMY, (UNBOUNDED, 999999), (1, 6, UNBOUNDED)), "start 10000040\nrefused 1 0 14 1 4\nend 0 10000040\n")
 
 # a bad sheet of each thing; bytes after the third sheet; nothing
 case("bad_net", LANDING[:4] + b"\x02" + LANDING[5:] + WEIGHTS + FOUR, "bad 0 2 4\n")

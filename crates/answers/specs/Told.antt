@@ -1,4 +1,4 @@
--- What a call tells C: document 01's number, thing and position of its answer, and the value, 0 where a refused call has none.
+-- What a call tells C: document 01's number, thing and position of its answer, document 02's amount, and the value, 0 where a refused call has none.
 use Prim.Native.Nat.{ℕ}
 use mathlib.Core.Bool.{Bool, true, false}
 use mathlib.Core.Option.{Option, none, some}
@@ -23,7 +23,7 @@ use Rattle.answers.specs.declared.Sized.{Sized}
 
 -- what an answer carries
 abbrev pub telling : Carried → Answered
-telling c = record { number = c .number; thing = c .thing; position = c .position }
+telling c = record { number = c .number; thing = c .thing; position = c .position; amount = c .amount }
 
 abbrev pub answered : Answer → Answered
 answered a = telling (carried a)

@@ -1,4 +1,4 @@
-// What a call tells C, as structs by value: document 01's number, thing and position, and the value, 0 where a refused call has none.
+// What a call tells C, as structs by value: document 01's number, thing and position, document 02's amount, and the value, 0 where a refused call has none.
 use complement::Complemented;
 use dead::Deadness;
 use dead::FirstDead;
@@ -30,6 +30,7 @@ pub struct Answered {
     pub number: u64,
     pub thing: u64,
     pub position: u64,
+    pub amount: u64,
 }
 
 // How many bytes or movements.
@@ -78,6 +79,7 @@ pub fn accepted() -> Answered
         number: 0,
         thing: 0,
         position: 0,
+        amount: 0,
     }
 }
 
@@ -90,6 +92,7 @@ pub fn refused(refusal: Refusal) -> Answered
         number: line.number,
         thing: thing_of(refusal),
         position: line.position,
+        amount: line.amount,
     }
 }
 

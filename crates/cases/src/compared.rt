@@ -65,9 +65,9 @@ pub(crate) fn other_byte(out: &[u8], s: &[u8]) -> usize {
 }
 
 // The numbers told are those to expect: nothing differs.
-pub(crate) fn report(body: &[u8], told: &[u32; 8]) -> usize {
+pub(crate) fn report(body: &[u8], told: &[u32; 9]) -> usize {
     say(part(body, 1));
-    if other_count(told, part(body, 5)) == 8 {
+    if other_count(told, part(body, 5)) == 9 {
         say(b": ok\n");
         return SAME;
     }

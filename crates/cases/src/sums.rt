@@ -33,6 +33,7 @@ pub(crate) fn add_up(capacities: &[u8], marking: &[u8]) -> Told {
                 number: 1,
                 thing: 0,
                 position: p as u64,
+                amount: 0,
             };
             return Told {
                 answer,

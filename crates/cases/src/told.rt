@@ -1,4 +1,4 @@
-// What a call tells C, in one form: document 01's number, thing and position, then what the call yields: a number as its sign (1 where it is negative), its upper and
+// What a call tells C, in one form: document 01's number, thing and position, document 02's amount, then what the call yields: a number as its sign (1 where it is negative), its upper and
 // its lower 32 bits; yes as 1; a mode and its pair after a 1.
 use answers::Answered;
 use answers::Counted;
@@ -77,12 +77,13 @@ pub(crate) fn told_name(named: Named) -> Told {
 }
 
 // With the lowest pair whose count is another than expected, and the first such byte: how many there are, where none is.
-pub(crate) fn numbers(told: Told, pair: usize, byte: usize) -> [u32; 8] {
+pub(crate) fn numbers(told: Told, pair: usize, byte: usize) -> [u32; 9] {
     let answer = told.answer;
     [
         (answer.number % 4_294_967_296) as u32,
         (answer.thing % 4_294_967_296) as u32,
         (answer.position % 4_294_967_296) as u32,
+        (answer.amount % 4_294_967_296) as u32,
         told.sign,
         told.high,
         told.low,

@@ -16,7 +16,7 @@ use Rattle.rule.proofs.FourTests.{clash}
 
 module _ {new found : List ℕ} where
   pub leaves-refused : {a : Answer} {r : Refusal} (o : Option Refusal) → a ≡ answer o → a ≡ Refused r → Leaves o new found a found
-  leaves-refused o e h = record { answers = e; leaves = sym (ap (λ o. written o new found) (answer-refused o (sym e ∙ h))) }
+  leaves-refused {a} {r} o e h = record { answers = e; leaves = sym (ap (λ o. written o new found) (answer-refused o (sym e ∙ h))) }
 
   pub leaves-written : {a : Answer} {left : List ℕ} (o : Option Refusal) → a ≡ answer o → a ≡ Accepted → left ≡ new → Leaves o new found a left
   leaves-written o e h q = record { answers = e; leaves = q ∙ sym (ap (λ o. written o new found) (answer-none o e h)) }

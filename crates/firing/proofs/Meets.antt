@@ -15,7 +15,7 @@ use Rattle.model.specs.Numbers.{ℕ∞}
 use Rattle.model.specs.Rows.{Entry}
 use Rattle.model.specs.Refusals.{answer, wrong}
 use Rattle.model.specs.Nets.{NetArc, PNet, count, arcNo}
-use Rattle.model.specs.Firing.{after, stops, roomAt}
+use Rattle.model.specs.Firing.{after, stops, stoppedBy, roomAt}
 use Rattle.fields.specs.Numbers.{bound}
 use Rattle.sheets.specs.Decoded.{netArc}
 use Rattle.rule.specs.declared.AtPair.{AtPair}
@@ -39,9 +39,12 @@ module _ {net : PNet} {m : List ℕ} {k : ℕ} {at : AtPair} (h : Meets net m k 
     tests : test ≡ stops why (a .entry) (roomAt net a) (count m (a .pair .0))
     tests = meets-as (λ e k m. test ≡ stops why e k m) tested
 
-    pub stop-found : {x : Answer} → test ≡ true → x ≡ Refused (wrong thing (Stopped why (at .arc .pair))) → x ≡ answer (stopAt thing why net m k)
+    pub stop-found : {x : Answer} {n : ℕ} → test ≡ true → n ≡ stoppedBy why (netArc (at .arc) .entry) (bound (at .capacity)) (at .count)
+        → x ≡ Refused (wrong thing (Stopped why (at .arc .pair) n)) → x ≡ answer (stopAt thing why net m k)
     unfolding stopAt
-    stop-found e q = rw (sym tests ∙ e) (q ∙ ap (λ (x : NetArc). Refused (wrong thing (Stopped why (x .pair)))) (h .arc))
+    stop-found {n = n} e f q =
+        rw (sym tests ∙ e, ← meets-as (λ e k m. n ≡ stoppedBy why e k m) f)
+        (q ∙ ap (λ (x : NetArc). Refused (wrong thing (Stopped why (x .pair) n))) (h .arc))
 
     pub stop-passed : test ≡ false → Accepted ≡ answer (stopAt thing why net m k)
     unfolding stopAt

@@ -15,7 +15,7 @@ use Rattle.model.specs.First.{onlyIf}
 use Rattle.model.specs.Numbers.{limit}
 use Rattle.model.specs.Nets.{PNet, pairs, count, arcNo, row}
 use Rattle.model.specs.Markings.{Marking}
-use Rattle.model.specs.Firing.{after, stops, stopped, lowestStop, rowRefusal, rooms, roomAt, fired}
+use Rattle.model.specs.Firing.{after, stops, stoppedBy, stopped, lowestStop, rowRefusal, rooms, roomAt, fired}
 use Rattle.opened.specs.declared.shape.NetShape.{NetShape}
 use Rattle.opened.specs.declared.starts.Segment.{Segment}
 use Rattle.fields.specs.Numbers.{bound}
@@ -62,7 +62,8 @@ OfMode s arcs P = (t : Mode) → ModeArcs (netOf s .arcs) t (arcs .start) (arcs 
 unfoldable pub stopAt : Thing → Why → PNet → List ℕ → ℕ → Option Refusal
 stopAt thing why net m k =
     let a = arcNo (net .arcs) k in
-    onlyIf (stops why (a .entry) (roomAt net a) (count m (a .pair .0))) (stopped thing why (a .pair .0))
+    let m′ = count m (a .pair .0) in
+    onlyIf (stops why (a .entry) (roomAt net a) m′) (stopped thing why (a .pair .0) (stoppedBy why (a .entry) (roomAt net a) m′))
 
 -- what is found of a mode at a marking, over all pairs
 unfoldable pub stopOf : Thing → Why → PNet → List ℕ → Mode → Option Refusal

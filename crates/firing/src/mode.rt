@@ -11,6 +11,7 @@ use opened::starts::Segment;
 use rule::is_free;
 use rule::is_stopped;
 use rule::moved;
+use rule::stopped_by;
 ghost use mathlib.Core.Path.{_≡_};
 ghost use mathlib.Core.Bool.{true};
 ghost use mathlib.Core.Logic.{_↔_};
@@ -41,7 +42,8 @@ fn arc_stop(
     let at = meet(s, net, arcs, i, marking);
     if is_stopped(why, at) {
         let pair = at.arc.pair;
-        return refused(thing, Fault::Stopped(why, pair));
+        let by = stopped_by(why, at);
+        return refused(thing, Fault::Stopped(why, pair, by));
     }
     Answer::Accepted
 }

@@ -5,7 +5,7 @@ use lib.IntN.{ℤ}
 use Rattle.model.specs.declared.Mode.{Mode}
 use Rattle.model.specs.declared.Refusal.{Refusal}
 use Rattle.model.specs.declared.Answer.the-variants.{Accepted, Refused}
-use Rattle.model.specs.Refusals.{number, thing, position}
+use Rattle.model.specs.Refusals.{number, thing, position, amount}
 use Rattle.text.specs.Decimals.{decimal, signedDecimal}
 use Rattle.lines.specs.Ascii.{ascii, space, newline}
 
@@ -22,10 +22,10 @@ startLine figure = line (ascii "start" ∷ signedDecimal figure ∷ [])
 unfoldable pub acceptedLine : ℕ → Mode → ℤ → List ℕ
 acceptedLine place t figure = line (decimal place ∷ decimal (t .0) ∷ decimal (number Accepted) ∷ signedDecimal figure ∷ [])
 
--- "`refused` has position, mode, answer, pair"
+-- "`refused` has position, mode, answer, pair", and document 02, P3: the amount "as a fifth field"
 unfoldable pub refusedLine : ℕ → Mode → Refusal → List ℕ
 refusedLine place t r =
-    line (ascii "refused" ∷ decimal place ∷ decimal (t .0) ∷ decimal (number (Refused r)) ∷ decimal (position (Refused r)) ∷ [])
+    line (ascii "refused" ∷ decimal place ∷ decimal (t .0) ∷ decimal (number (Refused r)) ∷ decimal (position (Refused r)) ∷ decimal (amount (Refused r)) ∷ [])
 
 -- "`end` has movements accepted and last figure"
 unfoldable pub endLine : ℕ → ℤ → List ℕ

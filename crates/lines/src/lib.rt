@@ -2,23 +2,18 @@
 // is handed back.
 mod words;
 
+use crate::words::last_decimal;
 use crate::words::last_figure;
 use crate::words::next_decimal;
 use model::Mode;
 use model::Refusal;
-use text::writes::write_byte;
 use text::writes::write_bytes;
 use text::writes::write_decimal;
 use told::line_of;
 use told::thing_of;
-ghost use mathlib.Core.List.{[], _∷_, _++_};
 ghost use Prim.Native.Nat.{_+_, _≤_};
 ghost use lib.ListN.{length};
-ghost use Rattle.model.specs.declared.Answer.the-variants.{Refused};
-ghost use Rattle.model.specs.Refusals.{number, position};
-ghost use Rattle.text.specs.Decimals.{decimal};
 ghost use Rattle.text.specs.Puts.{Writes};
-ghost use Rattle.lines.specs.Ascii.{space, newline};
 ghost use Rattle.lines.specs.Lines.{startLine, acceptedLine, refusedLine, endLine, badLine, longLine};
 
 pub fn put_start(out: &mut [u8], at: usize, figure: i64) -> usize
@@ -39,26 +34,18 @@ pub fn put_accepted(out: &mut [u8], at: usize, place: u64, mode: Mode, figure: i
     last_figure(out, third, figure)
 }
 
-// The number and the position of a refusal, as the last words of a line.
-fn last_refusal(out: &mut [u8], at: usize, refusal: Refusal) -> usize
-    requires { ⌜ at + 43 ≤ length (now out) ⌝ }
-    ensures { λ r. ⌜ Writes 43 (now (out .entry)) at (space ∷ decimal (number (Refused refusal)) ++ (space ∷ decimal (position (Refused refusal)) ++ newline ∷ [])) r (now (out .exit)) ⌝ }
+pub fn put_refused(out: &mut [u8], at: usize, place: u64, mode: Mode, refusal: Refusal) -> usize
+    requires { ⌜ at + 113 ≤ length (now out) ⌝ }
+    ensures { λ r. ⌜ Writes 113 (now (out .entry)) at (refusedLine place mode refusal) r (now (out .exit)) ⌝ }
 {
     let fault = refusal.fault;
     let line = line_of(fault);
-    let first = next_decimal(out, at, line.number);
-    let second = next_decimal(out, first, line.position);
-    write_byte(out, second, b'\n')
-}
-
-pub fn put_refused(out: &mut [u8], at: usize, place: u64, mode: Mode, refusal: Refusal) -> usize
-    requires { ⌜ at + 92 ≤ length (now out) ⌝ }
-    ensures { λ r. ⌜ Writes 92 (now (out .entry)) at (refusedLine place mode refusal) r (now (out .exit)) ⌝ }
-{
     let word = write_bytes(out, at, b"refused");
     let first = next_decimal(out, word, place);
     let second = next_decimal(out, first, mode.0 as u64);
-    last_refusal(out, second, refusal)
+    let third = next_decimal(out, second, line.number);
+    let fourth = next_decimal(out, third, line.position);
+    last_decimal(out, fourth, line.amount)
 }
 
 pub fn put_end(out: &mut [u8], at: usize, accepted: u64, figure: i64) -> usize
@@ -74,9 +61,12 @@ pub fn put_bad(out: &mut [u8], at: usize, refusal: Refusal) -> usize
     requires { ⌜ at + 67 ≤ length (now out) ⌝ }
     ensures { λ r. ⌜ Writes 67 (now (out .entry)) at (badLine refusal) r (now (out .exit)) ⌝ }
 {
+    let fault = refusal.fault;
+    let line = line_of(fault);
     let word = write_bytes(out, at, b"bad");
     let first = next_decimal(out, word, thing_of(refusal));
-    last_refusal(out, first, refusal)
+    let second = next_decimal(out, first, line.number);
+    last_decimal(out, second, line.position)
 }
 
 pub fn put_long(out: &mut [u8], at: usize) -> usize

@@ -17,6 +17,14 @@ pub(crate) fn next_decimal(out: &mut [u8], at: usize, n: u64) -> usize
     write_decimal(out, word, n)
 }
 
+pub(crate) fn last_decimal(out: &mut [u8], at: usize, n: u64) -> usize
+    requires { ⌜ at + 22 ≤ length (now out) ⌝ }
+    ensures { λ r. ⌜ Writes 22 (now (out .entry)) at (space ∷ decimal n ++ newline ∷ []) r (now (out .exit)) ⌝ }
+{
+    let end = next_decimal(out, at, n);
+    write_byte(out, end, b'\n')
+}
+
 // A figure as the last word of a line.
 pub(crate) fn last_figure(out: &mut [u8], at: usize, figure: i64) -> usize
     requires { ⌜ at + 22 ≤ length (now out) ⌝ }

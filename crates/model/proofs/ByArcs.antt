@@ -1,4 +1,4 @@
--- Testing and writing only a mode's arcs gives the same as the definitions over all pairs, position included.
+-- Testing and writing only a mode's arcs gives the same as the definitions over all pairs, position and amount included.
 use Prim.Native.Nat.{ℕ, zero, suc, _+_, _-_, _≤_, _<_}
 use mathlib.Core.Path.{_≡_, refl, sym, _∙_, ap, fun-ext}
 use mathlib.Core.Bool.{Bool, false}
@@ -23,7 +23,7 @@ use Rattle.model.specs.Rows.{noArc, Row, Capacities, Counts}
 use Rattle.model.specs.Nets.{NetArc, PNet, pairs, K, count, arcNo, row}
 use Rattle.model.specs.WellFormed.{WellFormed}
 use Rattle.model.specs.Markings.{Marking}
-use Rattle.model.specs.Firing.{after, stops, stopped, lowestStop, ruleRefusal, rowRefusal, firedRow, fired}
+use Rattle.model.specs.Firing.{after, stops, stoppedBy, stopped, lowestStop, ruleRefusal, rowRefusal, firedRow, fired}
 use Rattle.model.proofs.First.{then-assoc, left-none, right-none, none-then, first-each, first-all, first-ext, first-sparse, only-if-none, lowest-or-none}
 use Rattle.model.proofs.Numbers.{false-above}
 use Rattle.model.proofs.Nets.{rises-all, rises-in-mode, entry-written, entry-unwritten}
@@ -56,7 +56,7 @@ module _ (about : Thing) (c : ℕ) (arc : ℕ → NetArc) (room : ℕ → ℕ∞
   arcStops why k = stops why (arc k .entry) (room k) (M (arc k .pair .0))
 
   abbrev pub arcsStop : Why → Option Refusal
-  arcsStop why = lowest c (arcStops why) (λ k. stopped about why (arc k .pair .0))
+  arcsStop why = lowest c (arcStops why) (λ k. stopped about why (arc k .pair .0) (stoppedBy why (arc k .entry) (room k) (M (arc k .pair .0))))
 
   unfoldable pub arcsRefusal : Option Refusal
   arcsRefusal = inOrder arcsStop
@@ -84,7 +84,8 @@ module _ {n c : ℕ} {r : Row} {arc : ℕ → NetArc} (listing : Listing n r c a
     (room : ℕ → ℕ∞) (sameRoom : (k : ℕ) → k < c → K (arc k .pair .0) ≡ room k) where
   pub arcs-stop : (why : Why) → lowestStop about n K r M why ≡ arcsStop about c arc room M why
   arcs-stop why =
-      first-sparse n c (λ p. onlyIf (stops why (r p) (K p) (M p)) (stopped about why p)) (λ k. arc k .pair .0) (listing .inside) (listing .rising)
+      first-sparse n c (λ p. onlyIf (stops why (r p) (K p) (M p)) (stopped about why p (stoppedBy why (r p) (K p) (M p)))) (λ k. arc k .pair .0)
+      (listing .inside) (listing .rising)
       (λ p h elsewhere. rw (listing .unwritten p h elsewhere, no-arc-passes why (K p) (M p) (inRange p h) (within p h)))
       ∙ first-ext c _ _ (λ k h. rw (listing .written k h, sameRoom k h))
 

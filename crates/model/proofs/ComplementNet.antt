@@ -85,7 +85,7 @@ module _ (net : PNet) where
 
   pub pairs-complement : pairs (complement net) ≡ allPairs net
   unfolding complement
-  pairs-complement = total-append (net .colours) (newPlaces (K net) (net .colours)) ∙ ap (λ b. pairs net + b) (total-new (K net) (net .colours))
+  pairs-complement = omega (arith, total-append (net .colours) (newPlaces (K net) (net .colours)), total-new (K net) (net .colours))
 
   pub capacity-complement : (p : ℕ) → K (complement net) p ≡ ∞
   unfolding complement
@@ -152,7 +152,7 @@ first-corresponds net marks =
         ap (λ n. count (net .start ++ map rest (boundedPairs net)) (n + boundedBelow (K net) p)) (sym (marks .oneEach))
         ∙ getD-append-add (net .start) (map rest (boundedPairs net)) (boundedBelow (K net) p) 0
         ∙ map-at rest (boundedPairs net) (boundedBelow (K net) p) 0 0 (bounded-number (K net) (pairs net) p k h e)
-        ∙ rw (bounded-at (K net) (pairs net) p k h e, e)
+        ∙ rw (bounded-at (K net) (pairs net) p k h e, e) (omega arith)
         in
         omega arith
 

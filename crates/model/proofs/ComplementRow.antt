@@ -1,4 +1,4 @@
--- One bounded pair and its complement: the complement lacks exactly where the original is crowded, and a movement keeps their sum.
+-- One bounded pair and its complement: the complement lacks exactly where the original is crowded, by the larger amount, and a movement keeps their sum.
 use Prim.Native.Nat.{ℕ, _+_, _-_, _≤_, _<_, max}
 use mathlib.Core.Path.{_≡_, refl}
 use mathlib.Core.Bool.{Bool, true, false, cond, _||_}
@@ -9,7 +9,7 @@ use Rattle.model.specs.Numbers.{ℕ∞, fin, ∞, above}
 use Rattle.model.specs.Rows.{Entry, Row, Capacities}
 use Rattle.model.specs.Firing.{after}
 use Rattle.model.specs.Complement.{boundedBelow, complementPair, complemented, reserve, complementPre, original, complementEntry, complementRow}
-use Rattle.model.specs.DemandThree.{crowded}
+use Rattle.model.specs.DemandThree.{crowded, crowdedBy}
 use Rattle.model.proofs.Bounded.{bounded-at}
 
 -- the floor at 0 is the truncated difference
@@ -34,6 +34,14 @@ lacks-crowded k m m′ e s = go (ltb k (m + e .post)) refl
     go : (b : Bool) → ltb k (m + e .post) ≡ b → above (complementPre k e) (fin m′) ≡ (b || above m (e .inhibitor))
     go true l = lt-ltb m′ (complementPre k e) (omega (arith, ltb-true k (m + e .post) l))
     go false l = inhibits (e .inhibitor) (ltb-false k (m + e .post) l)
+
+-- and lacks the larger of the two amounts
+pub lacks-by : (k m m′ : ℕ) (e : Entry) → m + m′ ≡ k → complementPre k e - m′ ≡ crowdedBy e (fin k) m
+lacks-by k m m′ e s = go (e .inhibitor)
+  where
+    go : (i : ℕ∞) → max (e .post) (reserve k i) - m′ ≡ crowdedBy (record { pre = e .pre; post = e .post; inhibitor = i }) (fin k) m
+    go (fin i) = rw reserve-is (omega arith)
+    go ∞ = omega arith
 
 pub sum-kept : (k m m′ : ℕ) (e : Entry) → m + m′ ≡ k → e .pre ≤ m → complementPre k e ≤ m′
     → after e m + after (complementEntry (fin k) e) m′ ≡ k

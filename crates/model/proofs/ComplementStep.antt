@@ -11,13 +11,13 @@ use Rattle.model.specs.declared.Refusal.{Refusal}
 use Rattle.model.specs.First.{_▸_, first, onlyIf}
 use Rattle.model.specs.Numbers.{ℕ∞, fin, ∞, limit}
 use Rattle.model.specs.Rows.{Entry, Row, Capacities, Counts}
-use Rattle.model.specs.Firing.{after, stops, stopped, lowestStop, ruleRefusal, rowRefusal}
+use Rattle.model.specs.Firing.{after, compared, stops, stoppedBy, stopped, lowestStop, ruleRefusal, rowRefusal}
 use Rattle.model.specs.Complement.{bounded, boundedBelow, complementPair, original, complementRow}
-use Rattle.model.specs.DemandThree.{crowded, lowestCrowded}
+use Rattle.model.specs.DemandThree.{crowded, crowdedBy, lowestCrowded}
 use Rattle.model.proofs.First.{first-split, then-under, then-none, then-assoc, first-all, first-ext, first-sparse, first-each, only-if-none}
 use Rattle.model.proofs.Numbers.{above-false, false-above}
 use Rattle.model.proofs.Bounded.{bounded-number, bounded-pair, at-complements, bounded-rises, unbounded}
-use Rattle.model.proofs.ComplementRow.{lacks-crowded, sum-kept, row-original, row-complement, row-uninhibited}
+use Rattle.model.proofs.ComplementRow.{lacks-crowded, lacks-by, sum-kept, row-original, row-complement, row-uninhibited}
 
 -- the complement's answer in terms of the net's row and marking
 abbrev pub answerInComplement : Thing → ℕ → Capacities → Row → Counts → Option Refusal
@@ -36,13 +36,13 @@ module _ (thing : Thing) (n : ℕ) (K : Capacities) (row : Row) (M M′ : Counts
   R = complementRow n K row
 
   abbrev stopAt : Why → ℕ → Option Refusal
-  stopAt why p = onlyIf (stops why (R p) ∞ (M′ p)) (stopped thing why p)
+  stopAt why p = onlyIf (stops why (R p) ∞ (M′ p)) (stopped thing why p (stoppedBy why (R p) ∞ (M′ p)))
 
   abbrev crowdedAt : ℕ → Option Refusal
-  crowdedAt p = onlyIf (crowded (row p) (K p) (M p)) (stopped thing Lacking (complementPair n K p))
+  crowdedAt p = onlyIf (crowded (row p) (K p) (M p)) (stopped thing Lacking (complementPair n K p) (crowdedBy (row p) (K p) (M p)))
 
   -- 11 and 14 look at Pre, Post and the count alone, which the originals keep
-  originals : (why : Why) → ((e : Entry) (k : ℕ∞) (m : ℕ) → stops why (original e) ∞ m ≡ stops why e k m)
+  originals : (why : Why) → ((e : Entry) (k : ℕ∞) (m : ℕ) → compared why (original e) ∞ m ≡ compared why e k m)
       → first n (stopAt why) ≡ lowestStop thing n K row M why
   originals why same = first-ext n (stopAt why) _ (λ p h. rw (row-original n K row p h, equal p h, same (row p) (K p) (M p)))
 
@@ -56,14 +56,16 @@ module _ (thing : Thing) (n : ℕ) (K : Capacities) (row : Row) (M M′ : Counts
   enough : NothingLacks → (p : ℕ) → p < n + boundedBelow K n → R p .pre ≤ M′ p
   enough l p h =
       above-false (R p .pre) (fin (M′ p))
-      (only-if-none _ (stopped thing Lacking p) (first-each (n + boundedBelow K n) (stopAt Lacking) l p h))
+      (only-if-none _ _ (first-each (n + boundedBelow K n) (stopAt Lacking) l p h))
 
   module _ (p k : ℕ) (h : p < n) (e : K p ≡ fin k) where
     abbrev c : ℕ
     c = complementPair n K p
 
     lacks-at : stopAt Lacking c ≡ crowdedAt p
-    lacks-at = rw (row-complement n K row p k h e, e, lacks-crowded k (M p) (M′ c) (row p) (addUp p k h e))
+    lacks-at =
+        let s = addUp p k h e in
+        rw (row-complement n K row p k h e, e, lacks-crowded k (M p) (M′ c) (row p) s, lacks-by k (M p) (M′ c) (row p) s)
 
     -- the counts after the movement add up to K too, and K is in range
     within-limit : NothingLacks → after (R c) (M′ c) ≤ limit

@@ -12,12 +12,12 @@ use Rattle.model.specs.First.{_▸_, first}
 use Rattle.model.specs.Refusals.{answer, number}
 use Rattle.model.specs.Numbers.{ℕ∞, fin, ∞}
 use Rattle.model.specs.Rows.{Row, Capacities, Counts}
-use Rattle.model.specs.Firing.{ruleRefusal, rowRefusal}
+use Rattle.model.specs.Firing.{ruleRefusal, rowRefusal, modeRefusal}
 use Rattle.model.specs.Nets.{modeNo, K, entryAt, row}
 use Rattle.model.specs.Complement.{bounded, reserve, complementRow, newPlaces, arcsOf, complement, refusal15, refusal16, sheetLimits, complementRefusal}
 use Rattle.model.specs.Lists.{joined}
 use Rattle.model.specs.Promises.{stays}
-use Rattle.model.specs.Edges.{numberAt, edges, complementGives, edgeNet, Edges}
+use Rattle.model.specs.Edges.{answerAt, numberAt, edges, complementGives, edgeNet, Edges}
 use Rattle.model.proofs.Firing.{Low, No, row11, row12, find-stop}
 use Rattle.model.proofs.ComplementRow.{reserve-is, row-complement}
 use Rattle.model.proofs.ComplementNet.{rows-complement}
@@ -25,7 +25,7 @@ use Rattle.model.proofs.Runs.{certificates}
 
 -- Post above K is found at pair 0, unless the count is lacking there
 never : (i : ℕ∞) (pre m : ℕ) → ¬ (numberAt (fin 5) i pre 6 m ≡ 0)
-unfolding numberAt
+unfolding answerAt
 never i pre m e =
     ⊎-elim (λ (r : (p : ℕ) × Low Argument 1 k six M Lacking p). clash 11 (row11 Argument 1 k six M (r .0) (r .1)) refl (omega arith))
     (λ (a : No Argument 1 k six M Lacking).
@@ -60,10 +60,12 @@ pre-six i pre =
     larger ∞ = refl
 
 pub starred : Edges
-unfolding numberAt edges rowRefusal ruleRefusal _▸_ first complementGives complementRefusal refusal15 refusal16 sheetLimits complement arcsOf newPlaces complementRow bounded joined entryAt
+unfolding answerAt edges modeRefusal rowRefusal ruleRefusal _▸_ first complementGives complementRefusal refusal15 refusal16 sheetLimits complement arcsOf newPlaces complementRow bounded joined entryAt
 starred =
     record {
       answers = refl;
+      amounts = refl;
+      largerAmount = (refl, refl);
       never = never;
       preSix = pre-six;
       preSixAccepted = refl;

@@ -5,31 +5,43 @@ use mathlib.Core.List.{List}
 use mathlib.Core.Logic.{_↔_, _⊎_}
 use mathlib.Core.Option.{none, some}
 use lib.ListN.{length}
+use native.Mathlib.Omega.{arith}
 use borrow.Author.Tests.{leb-false, le-leb, lt-leb}
 use Rattle.model.specs.declared.Mode.{Mode}
 use Rattle.model.specs.declared.Thing.{Thing}
+use Rattle.model.specs.declared.Thing.the-variants.{Argument}
 use Rattle.model.specs.declared.Why.{Why}
 use Rattle.model.specs.declared.Why.the-variants.{Lacking, OverCapacity, Inhibited, OverLimit}
 use Rattle.model.specs.declared.Fault.the-variants.{NotThere}
+use Rattle.model.specs.declared.Refusal.{Refusal}
 use Rattle.model.specs.declared.Answer.the-variants.{Refused}
-use Rattle.model.specs.First.{Lowest, NoneBelow}
+use Rattle.model.specs.First.{_▸_, first, Lowest, NoneBelow}
 use Rattle.model.specs.Refusals.{thingNumber, carried}
 use Rattle.model.specs.RefusalTables.{row as tableRow, each, Reads, oneEachTable, markingTable, missingTable, modeTable}
-use Rattle.model.specs.Numbers.{ℕ∞, Above, _≤∞_, limit}
+use Rattle.model.specs.Numbers.{ℕ∞, fin, ∞, Above, _≤∞_, limit}
 use Rattle.model.specs.Billington.{Enables}
 use Rattle.model.specs.Rows.{Entry, Row, Capacities, Counts}
 use Rattle.model.specs.Nets.{PNet, pairs, modes, K, count, row}
 use Rattle.model.specs.Markings.{unequal, markingRefusal}
-use Rattle.model.specs.Firing.{after, compared, stops, stopped, lowestStop, ruleRefusal, rowRefusal, absent, rooms, modeRefusal}
+use Rattle.model.specs.Firing.{after, compared, stops, stoppedBy, stopped, lowestStop, ruleRefusal, rowRefusal, absent, rooms, modeRefusal}
 use Rattle.model.specs.Promises.{RefusalTable, Rule}
 use Rattle.model.proofs.First.{Decides, only-if-none, left-none, right-none, none-then, some-then, lowest-none, lowest-some, none-lowest, lowest-or-none}
-use Rattle.model.proofs.Numbers.{above-true, true-above, not-above, le-not-above, le-room, room-le}
+use Rattle.model.proofs.Numbers.{above-true, true-above, not-above, le-not-above, le-as, le-room, room-le}
 use Rattle.model.proofs.Decisions.{by-less, by-at-most, by-equal, by-above, by-not}
 use Rattle.model.proofs.RefusalTables.{reads-plain, reads-then, reads-each, four}
 
 -- one of 11 to 14 at one pair, where the mode has e, the capacity is k and the count m
 abbrev pub Stops : Why → Entry → ℕ∞ → ℕ → Type 0
 Stops why e k m = Above (compared why e k m .number) (compared why e k m .bound)
+
+-- computed, before any law: 11 where 12 and 13 stop the mode too, and 14 where nothing else does
+lacking-first : rowRefusal Argument 1 (λ p. fin 1) (λ p. record { pre = 2; post = 1; inhibitor = fin 0 }) (λ p. 1) ≡ some (stopped Argument Lacking 0 1)
+unfolding rowRefusal ruleRefusal _▸_ first
+lacking-first = refl
+
+limit-last : rowRefusal Argument 1 (λ p. ∞) (λ p. record { pre = 0; post = 1; inhibitor = ∞ }) (λ p. limit) ≡ some (stopped Argument OverLimit 0 1)
+unfolding rowRefusal ruleRefusal _▸_ first
+limit-last = refl
 
 -- an accepted row is four facts at each pair: 11 to 14 in document 01's words
 pub record Passes (n : ℕ) (k : Capacities) (r : Row) (M : Counts) : Type 0 where
@@ -40,11 +52,11 @@ pub record Passes (n : ℕ) (k : Capacities) (r : Row) (M : Counts) : Type 0 whe
 
 module _ {n : ℕ} {k : Capacities} {r : Row} {M : Counts} where
   pub passes-enables : Passes n k r M → Enables n k r M
-  passes-enables h = record { enough = h .enough; room = λ p l. le-room (M p) (r p .post) (k p) (h .room p l); uninhibited = h .low }
+  passes-enables h = record { enough = h .enough; room = λ p l. le-room (M p) (r p .post) (k p) (omega arith) (omega arith) (h .room p l); uninhibited = λ p l. le-as (r p .inhibitor) (omega arith) (h .low p l) }
 
   pub enables-passes : Enables n k r M → ((p : ℕ) → p < n → after (r p) (M p) ≤ limit) → Passes n k r M
   enables-passes h small =
-      record { enough = h .enough; room = λ p l. room-le (M p) (r p .post) (k p) (h .room p l); low = h .uninhibited; small = small }
+      record { enough = h .enough; room = λ p l. room-le (M p) (r p .post) (k p) (omega arith) (omega arith) (h .room p l); low = λ p l. le-as (r p .inhibitor) (omega arith) (h .uninhibited p l); small = small }
 
 module _ (about : Thing) (n : ℕ) (k : Capacities) (r : Row) (M : Counts) where
   abbrev pub At : Why → ℕ → Type 0
@@ -57,17 +69,21 @@ module _ (about : Thing) (n : ℕ) (k : Capacities) (r : Row) (M : Counts) where
         complete = λ p. true-above (compared why (r p) (k p) (M p) .number) (compared why (r p) (k p) (M p) .bound);
       }
 
-  pub none-stop : (why : Why) → NoneBelow n (At why) → lowestStop about n k r M why ≡ none
-  none-stop why = lowest-none (decides-stop why) (stopped about why) n
+  -- what 11 to 14 say at one pair
+  abbrev pub stop : Why → ℕ → Refusal
+  stop why p = stopped about why p (stoppedBy why (r p) (k p) (M p))
 
-  pub lowest-stop : (why : Why) (p : ℕ) → Lowest n (At why) p → lowestStop about n k r M why ≡ some (stopped about why p)
-  lowest-stop why = lowest-some (decides-stop why) (stopped about why) n
+  pub none-stop : (why : Why) → NoneBelow n (At why) → lowestStop about n k r M why ≡ none
+  none-stop why = lowest-none (decides-stop why) (stop why) n
+
+  pub lowest-stop : (why : Why) (p : ℕ) → Lowest n (At why) p → lowestStop about n k r M why ≡ some (stop why p)
+  lowest-stop why = lowest-some (decides-stop why) (stop why) n
 
   pub stop-none : (why : Why) → lowestStop about n k r M why ≡ none → NoneBelow n (At why)
-  stop-none why = none-lowest (decides-stop why) (stopped about why) n
+  stop-none why = none-lowest (decides-stop why) (stop why) n
 
   pub find-stop : (why : Why) → ((p : ℕ) × Lowest n (At why) p) ⊎ NoneBelow n (At why)
-  find-stop why = lowest-or-none (decides-stop why) (stopped about why) n
+  find-stop why = lowest-or-none (decides-stop why) (stop why) n
 
   -- which of 11 to 14 a row is refused by
   abbrev pub No : Why → Type 0
@@ -76,15 +92,15 @@ module _ (about : Thing) (n : ℕ) (k : Capacities) (r : Row) (M : Counts) where
   abbrev pub Low : Why → ℕ → Type 0
   Low why p = Lowest n (At why) p
 
-  pub row11 : (p : ℕ) → Low Lacking p → rowRefusal about n k r M ≡ some (stopped about Lacking p)
+  pub row11 : (p : ℕ) → Low Lacking p → rowRefusal about n k r M ≡ some (stop Lacking p)
   unfolding rowRefusal ruleRefusal
   row11 p l = some-then _ (some-then _ (lowest-stop Lacking p l))
 
-  pub row12 : (p : ℕ) → No Lacking → Low OverCapacity p → rowRefusal about n k r M ≡ some (stopped about OverCapacity p)
+  pub row12 : (p : ℕ) → No Lacking → Low OverCapacity p → rowRefusal about n k r M ≡ some (stop OverCapacity p)
   unfolding rowRefusal ruleRefusal
   row12 p a l = some-then _ (none-then (none-stop Lacking a) (some-then _ (lowest-stop OverCapacity p l)))
 
-  pub row13 : (p : ℕ) → No Lacking → No OverCapacity → Low Inhibited p → rowRefusal about n k r M ≡ some (stopped about Inhibited p)
+  pub row13 : (p : ℕ) → No Lacking → No OverCapacity → Low Inhibited p → rowRefusal about n k r M ≡ some (stop Inhibited p)
   unfolding rowRefusal ruleRefusal
   row13 p a b l = some-then _ (none-then (none-stop Lacking a) (none-then (none-stop OverCapacity b) (lowest-stop Inhibited p l)))
 
@@ -92,7 +108,7 @@ module _ (about : Thing) (n : ℕ) (k : Capacities) (r : Row) (M : Counts) where
   unfolding ruleRefusal
   allowed a b c = none-then (none-stop Lacking a) (none-then (none-stop OverCapacity b) (none-stop Inhibited c))
 
-  pub row14 : (p : ℕ) → No Lacking → No OverCapacity → No Inhibited → Low OverLimit p → rowRefusal about n k r M ≡ some (stopped about OverLimit p)
+  pub row14 : (p : ℕ) → No Lacking → No OverCapacity → No Inhibited → Low OverLimit p → rowRefusal about n k r M ≡ some (stop OverLimit p)
   unfolding rowRefusal
   row14 p a b c l = none-then (allowed a b c) (lowest-stop OverLimit p l)
 
@@ -116,15 +132,16 @@ module _ (about : Thing) (n : ℕ) (k : Capacities) (r : Row) (M : Counts) where
       let over = right-none (lowestStop about n k r M Lacking) _ e in
       record {
         enough = stays-within Lacking .0 (left-none _ _ e);
-        room = λ p h. le-room (M p) (r p .post) (k p) (stays-within OverCapacity .0 (left-none _ _ over) p h);
-        uninhibited = stays-within Inhibited .0 (right-none _ _ over);
+        room = λ p h. le-room (M p) (r p .post) (k p) (omega arith) (omega arith) (stays-within OverCapacity .0 (left-none _ _ over) p h);
+        uninhibited = λ p h. le-as (r p .inhibitor) (omega arith) (stays-within Inhibited .0 (right-none _ _ over) p h);
       }
 
   enables-accepted : Enables n k r M → ruleRefusal about n k r M ≡ none
   unfolding ruleRefusal
   enables-accepted h =
       none-then (stays-within Lacking .1 (h .enough))
-      (none-then (stays-within OverCapacity .1 (λ p l. room-le (M p) (r p .post) (k p) (h .room p l))) (stays-within Inhibited .1 (h .uninhibited)))
+      (none-then (stays-within OverCapacity .1 (λ p l. room-le (M p) (r p .post) (k p) (omega arith) (omega arith) (h .room p l)))
+      (stays-within Inhibited .1 (λ p l. le-as (r p .inhibitor) (omega arith) (h .uninhibited p l))))
 
   pub row-passes : (rowRefusal about n k r M ≡ none) ↔ Passes n k r M
   unfolding rowRefusal
@@ -164,7 +181,7 @@ missing-reads about net t = reads-plain _ (by-at-most (modes net) (t .0))
 
 module _ (about : Thing) (net : PNet) (t : Mode) (m : List ℕ) where
   stop-reads : (why : Why)
-      → Reads (each (pairs net) (λ p. tableRow (Stops why (row net t p) (K net p) (count m p)) (carried (Refused (stopped about why p)))))
+      → Reads (each (pairs net) (λ p. tableRow (Stops why (row net t p) (K net p) (count m p)) (carried (Refused (stop about (pairs net) (K net) (row net t) (count m) why p)))))
       (lowestStop about (pairs net) (K net) (row net t) (count m) why)
   stop-reads why =
       reads-each (pairs net) (λ p l. let c = compared why (row net t p) (K net p) (count m p) in reads-plain _ (by-above (c .number) (c .bound)))

@@ -16,6 +16,7 @@ pub mod WorkedExamples
 pub mod Numbers
 pub mod Tables
 pub mod Firing
+pub mod ShortOrOver
 pub mod Markings
 pub mod Runs
 pub mod Dead

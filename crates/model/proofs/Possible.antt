@@ -15,7 +15,7 @@ use Rattle.model.specs.Markings.{Marking}
 use Rattle.model.specs.Firing.{rooms}
 use Rattle.model.specs.Dead.{highestPre, Kills, isDead, lowestMarking}
 use Rattle.model.specs.Promises.{DeadExactly, DeadOrLive}
-use Rattle.model.proofs.Numbers.{le-not-above, le-le∞, room-le}
+use Rattle.model.proofs.Numbers.{le-not-above, le-le∞, le-as, room-le}
 use Rattle.model.proofs.Tables.{table-at, table-length}
 use Rattle.model.proofs.Firing.{Passes, passes-enables, passes-accepted}
 use Rattle.model.proofs.ComplementWellFormed.{row-small}
@@ -61,8 +61,8 @@ module _ (net : PNet) (t : Mode) where
   never d M h =
       let r = dead-modes net t .0 d in
       let p = r .0 in
-      let room = room-le (M p) (row net t p .post) (K net p) (h .room p (r .1)) in
-      kills-stops (row net t p) (K net p) (M p) (r .2) (le-le∞ (M p) _ (K net p) (omega arith) room) (h .enough p (r .1)) room (h .uninhibited p (r .1))
+      let room = room-le (M p) (row net t p .post) (K net p) (omega arith) (omega arith) (h .room p (r .1)) in
+      kills-stops (row net t p) (K net p) (M p) (r .2) (le-le∞ (M p) _ (K net p) (omega arith) room) (h .enough p (r .1)) room (le-as (row net t p .inhibitor) (omega arith) (h .uninhibited p (r .1)))
 
   -- what some counts enable is not dead
   pub enabled-live : (M : Counts) → Enables (pairs net) (K net) (row net t) M → isDead net t ≡ false

@@ -12,7 +12,7 @@ use native.Mathlib.Omega.{arith}
 use Rattle.model.specs.declared.Mode.{Mode}
 use Rattle.model.specs.declared.Thing.the-variants.{Argument}
 use Rattle.model.specs.First.{_▸_, first}
-use Rattle.model.specs.Numbers.{ℕ∞, fin, ∞, _≤∞_, Above, above, leastOf, limit}
+use Rattle.model.specs.Numbers.{ℕ∞, fin, ∞, _≤∞_, Above, above, leastOf, leastOfAll, limit}
 use Rattle.model.specs.Rows.{Entry, noArc}
 use Rattle.model.specs.Nets.{PNet, total, pairs, modes, modeNo, count, row}
 use Rattle.model.specs.WellFormed.{WellFormed}
@@ -82,6 +82,11 @@ pre-is net p = sum-is net p (λ e. e .pre) refl (λ a b. omega arith)
 
 pub post-is : (net : PNet) (p : ℕ) (ts : List Mode) → together net ts p .post ≡ total (map (λ t. row net t p .post) ts)
 post-is net p = sum-is net p (λ e. e .post) refl (λ a b. omega arith)
+
+pub low-is : (net : PNet) (p : ℕ) (ts : List Mode) → together net ts p .inhibitor ≡ leastOfAll (map (λ t. row net t p .inhibitor) ts)
+unfolding together leastOfAll
+low-is net p [] = refl
+low-is net p (t ∷ ts) = ap (leastOf (row net t p .inhibitor)) (low-is net p ts)
 
 -- at most the least I is at most each
 low-each : (net : PNet) (p m : ℕ) (ts : List Mode) → (m ≤∞ together net ts p .inhibitor) ↔ Each (λ t. m ≤∞ row net t p .inhibitor) ts

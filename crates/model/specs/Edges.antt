@@ -4,27 +4,33 @@ use mathlib.Core.Path.{_≡_}
 use mathlib.Core.Bool.{cond}
 use mathlib.Core.List.{List, [], _∷_, map}
 use mathlib.Core.Logic.{_≢_}
-use mathlib.Core.Option.{none}
+use mathlib.Core.Option.{none, some}
 use lib.Dec.{eqb}
 use lib.ListN.{length}
 use Rattle.model.specs.declared.Thing.the-variants.{Argument}
-use Rattle.model.specs.Refusals.{answer, number}
+use Rattle.model.specs.declared.Why.the-variants.{Lacking, OverCapacity}
+use Rattle.model.specs.declared.Answer.{Answer}
+use Rattle.model.specs.Refusals.{answer, number, amount}
 use Rattle.model.specs.Numbers.{ℕ∞, fin, ∞}
 use Rattle.model.specs.Nets.{PNet, pairs, modeNo, pairNo, row}
-use Rattle.model.specs.Firing.{rowRefusal}
+use Rattle.model.specs.Firing.{stopped, rowRefusal, modeRefusal}
 use Rattle.model.specs.Complement.{complementRefusal, complement}
 use Rattle.model.specs.Runs.{certificateRefusal}
 
--- the number of the answer to one mode at one pair, for K, I, Pre, Post and the count there
-unfoldable pub numberAt : ℕ∞ → ℕ∞ → ℕ → ℕ → ℕ → ℕ
-numberAt k i pre post m = number (answer (rowRefusal Argument 1 (λ p. k) (λ p. record { pre = pre; post = post; inhibitor = i }) (λ p. m)))
+-- the answer to one mode at one pair, for K, I, Pre, Post and the count there
+unfoldable pub answerAt : ℕ∞ → ℕ∞ → ℕ → ℕ → ℕ → Answer
+answerAt k i pre post m = answer (rowRefusal Argument 1 (λ p. k) (λ p. record { pre = pre; post = post; inhibitor = i }) (λ p. m))
+
+abbrev pub numberAt : ℕ∞ → ℕ∞ → ℕ → ℕ → ℕ → ℕ
+numberAt k i pre post m = number (answerAt k i pre post m)
 
 pub record Edge : Type 0 where
   pub answered : ℕ
   pub expected : ℕ
+  pub amount : ℕ
 
 abbrev pub edge : ℕ∞ → ℕ∞ → ℕ → ℕ → ℕ → ℕ → Edge
-edge k i pre post m n = record { answered = numberAt k i pre post m; expected = n }
+edge k i pre post m n = record { answered = numberAt k i pre post m; expected = n; amount = amount (answerAt k i pre post m) }
 
 --   K, I, Pre, Post, count, answer
 unfoldable pub edges : List Edge
@@ -69,6 +75,11 @@ complementGives k i pre post =
 
 pub record Edges : Type 0 where
   pub answers : map (λ e. e .answered) edges ≡ map (λ e. e .expected) edges
+  -- document 02, P3: 0 where it is enabled, and each of the others is 1 over the edge, whatever Pre takes off
+  pub amounts : map (λ e. e .amount) edges ≡ 0 ∷ 1 ∷ 1 ∷ 0 ∷ 1 ∷ 0 ∷ 0 ∷ 1 ∷ 0 ∷ 1 ∷ []
+  -- K 5, count 5, Post 1, I 0: over capacity by 1 and over the inhibitor by 5, so that the complement pair lacks 5
+  pub largerAmount : (modeRefusal Argument (edgeNet 5 (fin 0) 0 1) (modeNo 0) (5 ∷ []) ≡ some (stopped Argument OverCapacity 0 1))
+      × (modeRefusal Argument (complement (edgeNet 5 (fin 0) 0 1)) (modeNo 0) (5 ∷ 0 ∷ []) ≡ some (stopped Argument Lacking 1 5))
   -- Post 6, K 5: never enabled; complement Pre 6, for any I and Pre
   pub never : (i : ℕ∞) (pre m : ℕ) → numberAt (fin 5) i pre 6 m ≢ 0
   pub preSix : (i : ℕ∞) (pre : ℕ) → row (complement (edgeNet 5 i pre 6)) (modeNo 0) 1 .pre ≡ 6

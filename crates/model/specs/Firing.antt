@@ -12,7 +12,7 @@ use Rattle.model.specs.declared.Fault.the-variants.{NotThere, Stopped}
 use Rattle.model.specs.declared.Refusal.{Refusal}
 use Rattle.model.specs.Refusals.{wrong}
 use Rattle.model.specs.First.{_▸_, onlyIf, lowest}
-use Rattle.model.specs.Numbers.{ℕ∞, fin, above, limit}
+use Rattle.model.specs.Numbers.{ℕ∞, fin, above, aboveBy, limit}
 use Rattle.model.specs.Rows.{Entry, Row, Capacities, Counts}
 use Rattle.model.specs.Lists.{table}
 use Rattle.model.specs.Nets.{NetArc, PNet, pairs, modes, pairNo, K, count, row}
@@ -40,13 +40,17 @@ compared OverLimit e k m = after e m against fin limit
 abbrev pub stops : Why → Entry → ℕ∞ → ℕ → Bool
 stops why e k m = above (compared why e k m .number) (compared why e k m .bound)
 
-abbrev pub stopped : Thing → Why → ℕ → Refusal
-stopped thing why p = wrong thing (Stopped why (pairNo p))
+-- by how much, the amount of document 02, P3: tokens lacking, over capacity, over the inhibitor or over the counter's limit
+abbrev pub stoppedBy : Why → Entry → ℕ∞ → ℕ → ℕ
+stoppedBy why e k m = aboveBy (compared why e k m .number) (compared why e k m .bound)
+
+abbrev pub stopped : Thing → Why → ℕ → ℕ → Refusal
+stopped thing why p by = wrong thing (Stopped why (pairNo p) by)
 
 module _ (thing : Thing) (n : ℕ) (K : Capacities) (row : Row) (M : Counts) where
-  -- each of 11 to 14 names its lowest pair
+  -- each of 11 to 14 names its lowest pair, and the amount there
   abbrev pub lowestStop : Why → Option Refusal
-  lowestStop why = lowest n (λ p. stops why (row p) (K p) (M p)) (stopped thing why)
+  lowestStop why = lowest n (λ p. stops why (row p) (K p) (M p)) (λ p. stopped thing why p (stoppedBy why (row p) (K p) (M p)))
 
   -- the three conditions, source document 000's rule
   unfoldable pub ruleRefusal : Option Refusal

@@ -1,6 +1,7 @@
 -- Numbers with ∞ (source document 000, Appendix A.1 and A.2.6), and the largest number of document 01.
 use Prim.Native.Nat.{ℕ, _-_, _≤_, _<_, min}
 use mathlib.Core.Bool.{Bool, false}
+use mathlib.Core.List.{List, [], _∷_}
 use lib.Dec.{ltb}
 use lib.IntN.{ℤ, pos, _-ℤ_}
 use lib.Signed.{_≤ℤ_}
@@ -27,6 +28,11 @@ abbrev pub above : ℕ → ℕ∞ → Bool
 above n (fin k) = ltb k n
 above n ∞ = false
 
+-- by how much: the number less the bound
+abbrev pub aboveBy : ℕ → ℕ∞ → ℕ
+aboveBy n (fin k) = n - k
+aboveBy n ∞ = 0
+
 -- the lesser of a bound and a number, and of two bounds
 abbrev pub least : ℕ∞ → ℕ → ℕ
 least (fin k) n = min k n
@@ -35,6 +41,11 @@ least ∞ n = n
 abbrev pub leastOf : ℕ∞ → ℕ∞ → ℕ∞
 leastOf k (fin n) = fin (least k n)
 leastOf k ∞ = k
+
+-- the least of several, unbounded where all are
+unfoldable pub leastOfAll : List ℕ∞ → ℕ∞
+leastOfAll [] = ∞
+leastOfAll (k ∷ ks) = leastOf k (leastOfAll ks)
 
 -- k less n, or 0 where n is above k
 abbrev pub lessThan : ℕ∞ → ℕ → ℕ∞

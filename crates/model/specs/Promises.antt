@@ -4,7 +4,7 @@ use Prim.Native.Nat.{ℕ, suc, _-_, _≤_, _<_}
 use mathlib.Core.Path.{_≡_}
 use mathlib.Core.Bool.{true, false}
 use mathlib.Core.List.{List, [], _∷_, _++_, List·Memᴰ}
-use mathlib.Core.Logic.{_↔_, _⊎_}
+use mathlib.Core.Logic.{_↔_, _⊎_, _≢_}
 use mathlib.Core.Option.{none, some}
 use lib.Dec.{ltb}
 use lib.ListN.{length, take, getD, replicate}
@@ -12,8 +12,9 @@ use lib.IntN.{ℤ, pos, _+ℤ_, _-ℤ_}
 use Rattle.model.specs.declared.Mode.{Mode}
 use Rattle.model.specs.declared.Thing.{Thing}
 use Rattle.model.specs.declared.Thing.the-variants.{Movements}
+use Rattle.model.specs.declared.Answer.{Answer}
 use Rattle.model.specs.First.{Lowest, NoneBelow}
-use Rattle.model.specs.Refusals.{thingNumber}
+use Rattle.model.specs.Refusals.{answer, number, amount, thingNumber}
 use Rattle.model.specs.RefusalTables.{markingTable, modeTable, Reads}
 use Rattle.model.specs.Numbers.{fin, ∞, limit}
 use Rattle.model.specs.Rows.{Entry, Row, Capacities, Counts}
@@ -22,7 +23,7 @@ use Rattle.model.specs.Lists.{joined, listIf}
 use Rattle.model.specs.Nets.{NetArc, PNet, pairs, modes, firstPair, pairNo, modeNo, K, count, arcNo, row}
 use Rattle.model.specs.Markings.{Marking, markingRefusal}
 use Rattle.model.specs.WellFormed.{Blank, WellFormed}
-use Rattle.model.specs.Firing.{ruleRefusal, modeRefusal, fired}
+use Rattle.model.specs.Firing.{ruleRefusal, rowRefusal, modeRefusal, fired}
 use Rattle.model.specs.Runs.{run, certificateRefusal}
 use Rattle.model.specs.Figures.{figure, changes}
 use Rattle.model.specs.Dead.{Kills, isDead, lowestMarking, firstDead}
@@ -32,6 +33,13 @@ use Rattle.model.specs.Complement.{boundedBelow, complementPair, origina
 pub record RefusalTable : Type 0 where
   pub marking : (net : PNet) (m : List ℕ) → Reads (markingTable net m) (markingRefusal net m)
   pub mode : (about : Thing) (net : PNet) (t : Mode) (m : List ℕ) → Reads (modeTable (thingNumber about) net t m) (modeRefusal about net t m)
+
+-- "Every answer now carries this amount, 0 for all other numbers": an answer by another number than 11 to 14 carries 0, and what these refuse, of one mode or of
+-- several at once, is short or over by something. How much it is, the tables say.
+pub record Amounts : Type 0 where
+  pub otherNumbers : (a : Answer) → (number a < 11) ⊎ (14 < number a) → amount a ≡ 0
+  pub refused : (about : Thing) (n : ℕ) (k : Capacities) (r : Row) (M : Counts) → rowRefusal about n k r M ≢ none
+      → 0 < amount (answer (rowRefusal about n k r M))
 
 -- 2. The rule: 14 aside, a row is accepted exactly when source document 000 has it enabled; so a net's mode, where it is there and no new count is above
 -- 1,000,000. An accepted movement gives M - Pre + Post at every pair.

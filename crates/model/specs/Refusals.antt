@@ -1,4 +1,4 @@
--- Document 01, "Refusal numbers": the number, thing and position that each answer carries.
+-- Document 01, "Refusal numbers": the number, thing and position that each answer carries; and the amount of document 02, P3.
 use Prim.Native.Nat.{ℕ}
 use mathlib.Core.Bool.{Bool, cond, _||_}
 use mathlib.Core.Option.{Option, none, some}
@@ -24,9 +24,14 @@ answer (some r) = Refused r
 pub record Line : Type 0 where
   pub number : ℕ
   pub position : ℕ
+  pub amount : ℕ
+
+-- "Every answer now carries this amount, 0 for all other numbers", those that do not say by how much
+abbrev pub saysBy : ℕ → ℕ → ℕ → Line
+saysBy number position amount = record { number = number; position = position; amount = amount }
 
 abbrev pub says : ℕ → ℕ → Line
-says number position = record { number = number; position = position }
+says number position = saysBy number position 0
 
 -- "The position of a field, an arc or a byte is the offset of its first byte ..; the position of a pair or a mode is its number", and 0 where none is named
 abbrev pub line : Fault → Line
@@ -43,10 +48,10 @@ line (Blank at) = says 8 at
 line (StartAboveCapacity at) = says 9 at
 line (MarkingAboveCapacity p) = says 9 (p .0)
 line NoRoom = says 10 0
-line (Stopped Lacking p) = says 11 (p .0)
-line (Stopped OverCapacity p) = says 12 (p .0)
-line (Stopped Inhibited p) = says 13 (p .0)
-line (Stopped OverLimit p) = says 14 (p .0)
+line (Stopped Lacking p by) = saysBy 11 (p .0) by
+line (Stopped OverCapacity p by) = saysBy 12 (p .0) by
+line (Stopped Inhibited p by) = saysBy 13 (p .0) by
+line (Stopped OverLimit p by) = saysBy 14 (p .0) by
 line (InhibitedUnbounded at) = says 15 at
 line (ComplementAbove at) = says 16 at
 line (NotOneEach at) = says 17 at
@@ -59,6 +64,10 @@ number (Refused r) = line (r .fault) .number
 abbrev pub position : Answer → ℕ
 position Accepted = 0
 position (Refused r) = line (r .fault) .position
+
+abbrev pub amount : Answer → ℕ
+amount Accepted = 0
+amount (Refused r) = line (r .fault) .amount
 
 abbrev pub thingNumber : Thing → ℕ
 thingNumber Net = 0
@@ -75,14 +84,18 @@ thing Accepted = 0
 thing (Refused r) = cond (alwaysNet (line (r .fault) .number)) 0 (thingNumber (r .thing))
 
 -- "Every answer carries the number, which thing was at fault (0 net, also for numbers 0, 10, 15, 16 and any above 18; 1 weights; 2 movements, also one that a
--- run or certificate refuses; 3 marking, claim or any other argument) and a position, 0 where none is named."
+-- run or certificate refuses; 3 marking, claim or any other argument) and a position, 0 where none is named." Document 02, P3: and an amount.
 pub record Carried : Type 0 where
   pub number : ℕ
   pub thing : ℕ
   pub position : ℕ
+  pub amount : ℕ
+
+abbrev pub carriesBy : ℕ → ℕ → ℕ → ℕ → Carried
+carriesBy n about at by = record { number = n; thing = about; position = at; amount = by }
 
 abbrev pub carries : ℕ → ℕ → ℕ → Carried
-carries n about at = record { number = n; thing = about; position = at }
+carries n about at = carriesBy n about at 0
 
 abbrev pub carried : Answer → Carried
-carried a = carries (number a) (thing a) (position a)
+carried a = carriesBy (number a) (thing a) (position a) (amount a)

@@ -64,7 +64,7 @@ abbrev pub StepAfter : Type 0
 StepAfter = (net : PNet) (ts : List Mode) (m : List ℕ) → stepRefusal net ts m ≡ none
     → Follows (pairs net) (together net ts) (count m) (count (firedTogether net ts m)) × (length (firedTogether net ts m) ≡ pairs net)
 
--- 2. A step of one mode is the mode: the refusal, its position included, and the marking after.
+-- 2. A step of one mode is the mode: the refusal, its position and amount included, and the marking after.
 abbrev pub StepOfOne : Type 0
 StepOfOne = (net : PNet) (t : Mode) (m : List ℕ)
     → (stepRefusal net (t ∷ []) m ≡ modeRefusal Argument net t m) × (firedTogether net (t ∷ []) m ≡ fired net t m)
@@ -88,7 +88,7 @@ pub record OnlyFewer (net : PNet) (m c n : ℕ) : Type 0 where
   pub corresponds : Corresponds net (m ∷ []) (m ∷ c ∷ [])
   pub inNet : stepRefusal net (times (suc n)) (m ∷ []) ≡ none
   pub fewer : stepRefusal (complement net) (times n) (m ∷ c ∷ []) ≡ none
-  pub refused : stepRefusal (complement net) (times (suc n)) (m ∷ c ∷ []) ≡ some (stopped Argument Lacking 1)
+  pub refused : stepRefusal (complement net) (times (suc n)) (m ∷ c ∷ []) ≡ some (stopped Argument Lacking 1 1)
 
 pub record StepExamples : Type 0 where
   -- source document 000, section 6.3: "K 5, count 3, I 4, Pre 1, where three at once pass in the net and only two in the complement"
@@ -97,7 +97,7 @@ pub record StepExamples : Type 0 where
   pub smallest : OnlyFewer (edgeNet 1 (fin 0) 0 0) 0 1 1
   -- K 2, count 0, I 0, Post 1: two pass at once, and in no order
   pub atOnceAlone : (stepRefusal (edgeNet 2 (fin 0) 0 1) (times 2) (0 ∷ []) ≡ none)
-      × (run (edgeNet 2 (fin 0) 0 1) (times 2) (0 ∷ []) .refusal ≡ some (stopped Movements Inhibited 0))
+      × (run (edgeNet 2 (fin 0) 0 1) (times 2) (0 ∷ []) .refusal ≡ some (stopped Movements Inhibited 0 1))
   -- K 3, count 1, Pre 1, Post 1: two pass one after the other, and not at once
   pub inTurnAlone : (run (edgeNet 3 ∞ 1 1) (times 2) (1 ∷ []) .refusal ≡ none)
-      × (stepRefusal (edgeNet 3 ∞ 1 1) (times 2) (1 ∷ []) ≡ some (stopped Argument Lacking 0))
+      × (stepRefusal (edgeNet 3 ∞ 1 1) (times 2) (1 ∷ []) ≡ some (stopped Argument Lacking 0 1))

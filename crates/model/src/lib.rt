@@ -34,7 +34,7 @@ pub enum Why {
     OverLimit,
 }
 
-// What is wrong: a case for each refusal number and kind of position. A usize is the offset of a byte.
+// What is wrong: a case for each refusal number and kind of position. A usize is the offset of a byte; 11 to 14 say by how much.
 pub enum Fault {
     CutShort,
     WrongVersion(usize),
@@ -49,7 +49,7 @@ pub enum Fault {
     StartAboveCapacity(usize),
     MarkingAboveCapacity(Pair),
     NoRoom,
-    Stopped(Why, Pair),
+    Stopped(Why, Pair, u32),
     InhibitedUnbounded(usize),
     ComplementAbove(usize),
     NotOneEach(usize),

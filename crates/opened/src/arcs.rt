@@ -7,7 +7,7 @@ use heads::bytes::u32_at;
 use model::Arc;
 use model::Pair;
 ghost use mathlib.Core.Path.{_≡_};
-ghost use Prim.Native.Nat.{_+_, _≤_};
+ghost use Prim.Native.Nat.{_+_, _≤_, _<_};
 ghost use lib.ListN.{length};
 ghost use Rattle.heads.specs.Layout.{arcSize};
 ghost use Rattle.sheets.specs.Decoded.{netOf};
@@ -38,4 +38,13 @@ pub fn arc(s: &[u8], net: NetShape, arcs: Segment, i: usize) -> Arc
         post: u32_at(s, at + 8),
         inhibitor: u32_at(s, at + 12),
     }
+}
+
+// Where the arc's own entry stands in a table with one for each arc of a net: no two arcs share it.
+pub fn slot(s: &[u8], net: NetShape, arcs: Segment, i: usize) -> usize
+    requires { ⌜ Open (now s) net ⌝ }
+    requires { ⌜ OwnArc (netOf (now s) .arcs) arcs i ⌝ }
+    ensures { λ r. ⌜ (r ≡ arcs .start + i) × (r < net .arcs) ⌝ }
+{
+    arcs.start + i
 }

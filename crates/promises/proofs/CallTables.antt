@@ -19,18 +19,18 @@ use Rattle.model.specs.declared.Answer.the-variants.{Refused}
 use Rattle.model.specs.First.{_▸_, first}
 use Rattle.model.specs.Refusals.{carried, wrong, thingNumber}
 use Rattle.model.specs.RefusalTables.{Table, row, _then_, each, Reads}
-use Rattle.model.specs.Numbers.{ℕ∞, fin, ∞, limit}
+use Rattle.model.specs.Numbers.{ℕ∞, fin, ∞, aboveBy, limit}
 use Rattle.model.specs.Nets.{PNet, pairs, pairNo, modeNo, K, count}
-use Rattle.model.specs.Firing.{stops, stopped, lowestStop, ruleRefusal, rowRefusal, modeRefusal, fired}
+use Rattle.model.specs.Firing.{stops, stoppedBy, stopped, lowestStop, ruleRefusal, rowRefusal, modeRefusal, fired}
 use Rattle.model.specs.Steps.{together, stepRefusal}
 use Rattle.model.specs.Runs.{Outcome, goOn, runFrom, run, elsewhere, endsAt, certificateRefusal}
 use Rattle.model.specs.Complement.{finite, complement, refusal15, refusal16, sheetLimits, complementRefusal}
 use Rattle.model.proofs.First.{below-or, left-none, then-none, then-assoc, then-under}
 use Rattle.model.proofs.Runs.{runs}
 use Rattle.model.proofs.Decisions.{Decided, by-less, by-at-most, by-equal, by-above, by-not, by-or, by-and, by-other}
-use Rattle.model.proofs.RefusalTables.{four, reads-plain, reads-then, reads-each, reads-either}
+use Rattle.model.proofs.RefusalTables.{four, reads-row, reads-plain, reads-then, reads-each, reads-either}
 use Rattle.model.proofs.Firing.{one-each-reads, missing-reads, refusal-table}
-use Rattle.model.proofs.Steps.{pre-is, post-is, by-some}
+use Rattle.model.proofs.Steps.{pre-is, post-is, low-is, by-some}
 use Rattle.heads.specs.Layout.{sheetEnd}
 use Rattle.sheets.specs.Whole.{bytesAfter, wholeNet, wholeWeights, wholeMovements}
 use Rattle.sheets.specs.Decoded.{netOf, movementsOf}
@@ -124,10 +124,11 @@ module _ (net movements marking : List ℕ) where
 
 -- a step: 11 to 14 of its row, in the words of the members
 module _ (net : PNet) (ts : List Mode) (m : List ℕ) where
-  sums-read : (why : Why) {P : ℕ → Type 0} → ((p : ℕ) → Decided (stops why (together net ts p) (K net p) (count m p)) (P p))
-      → Reads (each (pairs net) (λ p. row (P p) (carried (Refused (stopped Argument why p)))))
+  sums-read : (why : Why) {P : ℕ → Type 0} {by : ℕ → ℕ} → ((p : ℕ) → Decided (stops why (together net ts p) (K net p) (count m p)) (P p))
+      → ((p : ℕ) → by p ≡ stoppedBy why (together net ts p) (K net p) (count m p))
+      → Reads (each (pairs net) (λ p. row (P p) (carried (Refused (stopped Argument why p (by p))))))
       (lowestStop Argument (pairs net) (K net) (together net ts) (count m) why)
-  sums-read why d = reads-each (pairs net) (λ p l. reads-plain _ (d p))
+  sums-read why d same = reads-each (pairs net) (λ p l. reads-row _ (d p) (λ h. ap (λ n. carried (Refused (stopped Argument why p n))) (same p)))
 
   step-reads : Reads (stepTable net ts m) (stepRefusal net ts m)
   unfolding stepRefusal rowRefusal ruleRefusal
@@ -135,10 +136,16 @@ module _ (net : PNet) (ts : List Mode) (m : List ℕ) where
       reads-then (reads-plain _ (by-or (by-equal (length ts) 0) (by-less 64 (length ts))))
       (reads-then (reads-each (length ts) (λ i l. missing-reads Argument net (getD ts i (modeNo 0))))
       (subst (Reads _) (four _ _ _ _)
-      (reads-then (sums-read Lacking (λ p. rw (← pre-is net p ts) (by-less (count m p) (together net ts p .pre))))
-      (reads-then (sums-read OverCapacity (λ p. rw (← post-is net p ts) (by-above (count m p + together net ts p .post) (K net p))))
-      (reads-then (sums-read Inhibited (λ p. by-some net p (count m p) ts))
-      (sums-read OverLimit (λ p. rw (← pre-is net p ts, ← post-is net p ts) (by-less limit (count m p - together net ts p .pre + together net ts p .post)))))))))
+      (reads-then
+      (sums-read Lacking (λ p. rw (← pre-is net p ts) (by-less (count m p) (together net ts p .pre)))
+      (λ p. ap (λ n. n - count m p) (sym (pre-is net p ts))))
+      (reads-then
+      (sums-read OverCapacity (λ p. rw (← post-is net p ts) (by-above (count m p + together net ts p .post) (K net p)))
+      (λ p. ap (λ n. aboveBy (count m p + n) (K net p)) (sym (post-is net p ts))))
+      (reads-then (sums-read Inhibited (λ p. by-some net p (count m p) ts) (λ p. ap (aboveBy (count m p)) (sym (low-is net p ts))))
+      (sums-read OverLimit
+      (λ p. rw (← pre-is net p ts, ← post-is net p ts) (by-less limit (count m p - together net ts p .pre + together net ts p .post)))
+      (λ p. rw (← pre-is net p ts, ← post-is net p ts))))))))
 
 -- complementing
 by-finite : (x : ℕ∞) → Decided (finite x) ((i : ℕ) × (x ≡ fin i))

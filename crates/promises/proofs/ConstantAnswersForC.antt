@@ -13,7 +13,7 @@ use Rattle.promises.proofs.ConstantAnswers.{accepts-and-refuses, consta
 
 -- the library's contract and C's
 module _ {I O P : Type 0} {Allows : I → O → Type 0} {number : O → ℕ} {Tells : I → P → Type 0} {told : P → ℕ} where
-  tells : Varies Allows number → ((i : I) (p : P) → Tells i p → (o : O) × Allows i o × (told p ≡ number o)) → Varies Tells told
+  pub tells : Varies Allows number → ((i : I) (p : P) → Tells i p → (o : O) × Allows i o × (told p ≡ number o)) → Varies Tells told
   tells v from =
       accepts-and-refuses _ _ (v .notAllRefused .0) (v .notAllAccepted .0)
       (λ p a. let h = from _ p a in h .2 ∙ v .notAllRefused .1 (h .0) (h .1))

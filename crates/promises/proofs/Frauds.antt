@@ -2,6 +2,7 @@
 use Rattle.promises.specs.Frauds.{Frauds}
 use Rattle.promises.proofs.ConstantAnswers.{constant-answers}
 use Rattle.promises.proofs.ConstantAnswersForC.{constant-answers-for-c}
+use Rattle.promises.proofs.ConstantAmounts.{constant-amounts}
 use Rattle.promises.proofs.WritesNothing.{writes-nothing}
 use Rattle.promises.proofs.CopiesNet.{copies-net}
 use Rattle.promises.proofs.RunFrauds.{run-frauds}
@@ -12,6 +13,7 @@ frauds =
     record {
       constant = constant-answers;
       constantForC = constant-answers-for-c;
+      constantAmount = constant-amounts;
       firing = writes-nothing;
       copying = copies-net;
       running = run-frauds;

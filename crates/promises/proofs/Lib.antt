@@ -8,6 +8,7 @@ pub mod Uniqueness
 pub mod OwnExample
 pub mod ConstantAnswers
 pub mod ConstantAnswersForC
+pub mod ConstantAmounts
 pub mod Accepting
 pub mod WritesNothing
 pub mod CopiesNet

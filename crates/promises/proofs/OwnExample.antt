@@ -9,12 +9,14 @@ use lib.IntN.{pos, negsuc}
 use lib.ListN.{length}
 use native.Mathlib.Omega.{arith}
 use Rattle.model.specs.declared.Mode.{Mode}
+use Rattle.model.specs.declared.Thing.{Thing}
 use Rattle.model.specs.declared.Thing.the-variants.{Argument, Movements}
 use Rattle.model.specs.declared.Why.the-variants.{Lacking}
+use Rattle.model.specs.declared.Refusal.{Refusal}
 use Rattle.model.specs.Numbers.{∞}
 use Rattle.model.specs.First.{_▸_, first}
 use Rattle.model.specs.Nets.{modeNo, entryAt}
-use Rattle.model.specs.Refusals.{number, carried}
+use Rattle.model.specs.Refusals.{answer, number, carried}
 use Rattle.model.specs.Runs.{Outcome, runFrom, run, elsewhere, endsAt, certificateRefusal}
 use Rattle.model.specs.Figures.{sum, figure, change}
 use Rattle.model.specs.Dead.{deadPair, isDead, firstDead}
@@ -42,7 +44,7 @@ use Rattle.fire.specs.Calls.{beginRefusal, testRefusal}
 use Rattle.run.specs.declared.Ran.{Ran}
 use Rattle.run.specs.Contracts.{RunAllows}
 use Rattle.run.specs.Calls.{ranOf, beforeRun, runOf, certifyRefusal}
-use Rattle.step.specs.Calls.{testStepRefusal}
+use Rattle.step.specs.Calls.{stepModes, testStepRefusal}
 use Rattle.weigh.specs.Calls as weigh
 use Rattle.weigh.specs.Calls.{figured, figureRefusal, changeRefusal}
 use Rattle.dead.specs.IsDead as one
@@ -123,8 +125,32 @@ landed : firedTogether example atOnce (3 ∷ 0 ∷ []) ≡ 0 ∷ 3 ∷ []
 unfolding firedTogether together table entryAt
 landed = refl
 
+-- the same where tokens are lacking
+abbrev lacking : Thing → ℕ → Refusal
+lacking about n = stopped about Lacking 0 n
+
+none-aboard : markingRefusal example (0 ∷ 3 ∷ []) ≡ none
+unfolding markingRefusal first _▸_
+none-aboard = refl
+
+moves-not : modeRefusal Argument example (modeNo 0) (0 ∷ 3 ∷ []) ≡ some (lacking Argument 1)
+unfolding modeRefusal rowRefusal ruleRefusal first _▸_ entryAt
+moves-not = refl
+
+pub lacks : testRefusal own.net (0 ∷ 3 ∷ []) (modeNo 0) ≡ some (lacking Argument 1)
+unfolding testRefusal
+lacks = none-then (read-back .accepted) (rw (read-back .same) (none-then none-aboard moves-not))
+
+moves-not-at-once : stepRefusal example (stepModes own.five) (3 ∷ 0 ∷ []) ≡ some (lacking Argument 2)
+unfolding stepRefusal together rowRefusal ruleRefusal first _▸_ entryAt
+moves-not-at-once = refl
+
+pub lacks-together : testStepRefusal own.net (3 ∷ 0 ∷ []) own.five ≡ some (lacking Argument 2)
+unfolding testStepRefusal
+lacks-together = none-then (read-back .accepted) (rw (read-back .same) (none-then start-accepted moves-not-at-once))
+
 abbrev stops : Outcome
-stops = record { accepted = 3; refusal = some (stopped Movements Lacking 0); marking = 0 ∷ 3 ∷ [] }
+stops = record { accepted = 3; refusal = some (lacking Movements 1); marking = 0 ∷ 3 ∷ [] }
 
 before-run : (sheet : List ℕ) → wholeMovements sheet ≡ none → beforeRun own.net sheet (3 ∷ 0 ∷ []) ≡ none
 unfolding beforeRun
@@ -134,7 +160,7 @@ runs : run example (movementsOf sheets.movements) (3 ∷ 0 ∷ []) ≡ stops
 unfolding runFrom movementsOf table u16At u32At modeRefusal rowRefusal ruleRefusal first _▸_ entryAt fired
 runs = refl
 
-run-is : runOf own.net sheets.movements (3 ∷ 0 ∷ []) ≡ stops
+pub run-is : runOf own.net sheets.movements (3 ∷ 0 ∷ []) ≡ stops
 unfolding runOf
 run-is = rw (before-run sheets.movements movements-read, read-back .same) runs
 
@@ -142,9 +168,17 @@ certificate : certificateRefusal example (movementsOf own.three) (0 ∷ 3 ∷ []
 unfolding certificateRefusal endsAt elsewhere runFrom movementsOf table u16At u32At modeRefusal rowRefusal ruleRefusal first _▸_ entryAt fired
 certificate = refl
 
-certifies : certifyRefusal own.net own.three (0 ∷ 3 ∷ []) ≡ none
+pub certifies : certifyRefusal own.net own.three (0 ∷ 3 ∷ []) ≡ none
 unfolding certifyRefusal
 certifies = none-then (read-back .accepted) (none-then three-read (rw (read-back .same) certificate))
+
+stops-certificate : certificateRefusal example (movementsOf sheets.movements) (0 ∷ 3 ∷ []) ≡ some (lacking Movements 1)
+unfolding certificateRefusal endsAt elsewhere runFrom movementsOf table u16At u32At modeRefusal rowRefusal ruleRefusal first _▸_ entryAt fired
+stops-certificate = refl
+
+pub lacks-certified : certifyRefusal own.net sheets.movements (0 ∷ 3 ∷ []) ≡ some (lacking Movements 1)
+unfolding certifyRefusal
+lacks-certified = none-then (read-back .accepted) (none-then movements-read (rw (read-back .same) stops-certificate))
 
 pub runs-whole : runOf own.net own.three (3 ∷ 0 ∷ []) .refusal ≡ none
 unfolding runOf certificateRefusal endsAt
@@ -206,6 +240,8 @@ own-example =
       begin = λ o a. (ap number (a .0) ∙ rw begins, a .1 ∙ rw (begins, read-back .same));
       fire = λ o a. (ap number (a .0) ∙ rw tests, a .1 ∙ rw (tests, read-back .same) fires);
       fireStep = λ o a. (ap number (a .0) ∙ rw steps, a .1 ∙ rw (steps, read-back .same) landed);
+      test = λ told a. ap carried a ∙ ap (λ o. carried (answer o)) lacks;
+      testStep = λ told a. ap carried a ∙ ap (λ o. carried (answer o)) lacks-together;
       run = run-allows;
       certify = λ told a. ap number a ∙ rw certifies;
       figure = λ o a. ap weigh.told a ∙ rw (figure-accepted, read-back .same, figure-is);

@@ -1,5 +1,6 @@
 -- Every promise, with its one term.
 use Rattle.model.proofs.Firing.{refusal-table, rule}
+use Rattle.model.proofs.ShortOrOver.{amounts}
 use Rattle.model.proofs.Markings.{mode-rule, marking-after, without-arcs, marking-test, marking-kept}
 use Rattle.model.proofs.Runs.{runs, certificates}
 use Rattle.model.proofs.Figures.{figure-after}
@@ -40,6 +41,7 @@ pub promises : Promises
 promises =
     record {
       refusalTable = refusal-table;
+      amounts = amounts;
       rule = rule;
       modeRule = mode-rule;
       markingAfter = marking-after;

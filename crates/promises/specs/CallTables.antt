@@ -1,5 +1,5 @@
--- The exact refusal table of each call, row by row in document 01's words and order. A row is given, with its number, thing and position, exactly when its
--- proposition holds and no earlier row's does.
+-- The exact refusal table of each call, row by row in document 01's words and order. A row is given, with its number, thing, position and amount, exactly
+-- when its proposition holds and no earlier row's does.
 use Prim.Native.Nat.{ℕ, _+_, _-_, _<_}
 use mathlib.Core.Path.{_≡_}
 use mathlib.Core.List.{List, [], _∷_, map}
@@ -7,9 +7,9 @@ use mathlib.Core.Logic.{_⊎_, _≢_}
 use mathlib.Core.Option.{none}
 use lib.ListN.{length, take, getD}
 use Rattle.model.specs.declared.Mode.{Mode}
-use Rattle.model.specs.Refusals.{carries}
+use Rattle.model.specs.Refusals.{carriesBy, carries}
 use Rattle.model.specs.RefusalTables.{Table, row, _then_, each, Reads, oneEachTable, markingTable, missingTable, modeTable}
-use Rattle.model.specs.Numbers.{fin, ∞, Above, limit}
+use Rattle.model.specs.Numbers.{ℕ∞, fin, ∞, Above, aboveBy, leastOfAll, limit}
 use Rattle.model.specs.Rows.{Entry}
 use Rattle.model.specs.Nets.{NetArc, PNet, total, pairs, modeNo, K, count, arcNo, row as modeRow}
 use Rattle.model.specs.Firing.{fired}
@@ -57,7 +57,7 @@ certificateTable net ts claim =
     -- 18: "certificate ends at another marking", "lowest differing pair"
     then each (pairs net) (λ p. row (count (markingAfter net ts (net .start)) p ≢ count claim p) (carries 18 3 p))
 
--- "4 for an empty or too long step, then 6, 11, 12, 13, 14 over the sums", a step being "a list of 1 to 64 modes"
+-- "4 for an empty or too long step, then 6, 11, 12, 13, 14 over the sums", a step being "a list of 1 to 64 modes"; the amounts are over the sums too
 module _ (net : PNet) (ts : List Mode) (m : List ℕ) where
   abbrev member : ℕ → Mode
   member i = getD ts i (modeNo 0)
@@ -68,16 +68,22 @@ module _ (net : PNet) (ts : List Mode) (m : List ℕ) where
   abbrev summedPost : ℕ → ℕ
   summedPost p = total (map (λ t. modeRow net t p .post) ts)
 
+  abbrev leastInhibitor : ℕ → ℕ∞
+  leastInhibitor p = leastOfAll (map (λ t. modeRow net t p .inhibitor) ts)
+
   abbrev pub stepTable : Table
   stepTable =
       row ((length ts ≡ 0) ⊎ (64 < length ts)) (carries 4 3 0)
       then each (length ts) (λ i. missingTable 3 net (member i))
       -- "summed Pre ≤ M, M + summed Post ≤ K, and M ≤ the least I of its members"
-      then each (pairs net) (λ p. row (count m p < summedPre p) (carries 11 3 p))
-      then each (pairs net) (λ p. row (Above (count m p + summedPost p) (K net p)) (carries 12 3 p))
+      then each (pairs net) (λ p. row (count m p < summedPre p) (carriesBy 11 3 p (summedPre p - count m p)))
       then each (pairs net) (λ p.
-      row ((i : ℕ) × (i < length ts) × Above (count m p) (modeRow net (member i) p .inhibitor)) (carries 13 3 p))
-      then each (pairs net) (λ p. row (limit < count m p - summedPre p + summedPost p) (carries 14 3 p))
+      row (Above (count m p + summedPost p) (K net p)) (carriesBy 12 3 p (aboveBy (count m p + summedPost p) (K net p))))
+      then each (pairs net) (λ p.
+      row ((i : ℕ) × (i < length ts) × Above (count m p) (modeRow net (member i) p .inhibitor))
+      (carriesBy 13 3 p (aboveBy (count m p) (leastInhibitor p))))
+      then each (pairs net) (λ p.
+      row (limit < count m p - summedPre p + summedPost p) (carriesBy 14 3 p (count m p - summedPre p + summedPost p - limit)))
 
 -- "Complementing: net, 15, 16, 10, each at its first arc in order."
 module _ (s : List ℕ) (room : ℕ) where

@@ -27,6 +27,7 @@ use Rattle.complement.specs.Complemented.{told}
 use Rattle.complement.specs.Contracts.{ComplementAllows}
 use Rattle.promises.specs.ConstantAnswers.{ConstantAnswers}
 use Rattle.promises.specs.ConstantAnswersForC.{ConstantAnswersForC}
+use Rattle.promises.specs.ConstantAmounts.{ConstantAmounts}
 
 -- "A firing that writes nothing breaks demand 2's rule": an accepted firing of a mode that takes from some pair another number than it gives leaves another marking
 abbrev pub WritesNothing : Type 0
@@ -84,6 +85,7 @@ FirstMemberAlone = (net marking : List ℕ) (first : ℕ) (later : List ℕ) (p 
 pub record Frauds : Type 0 where
   pub constant : ConstantAnswers
   pub constantForC : ConstantAnswersForC
+  pub constantAmount : ConstantAmounts
   pub firing : WritesNothing
   pub copying : CopiesNet
   pub running : RunFrauds

@@ -9,5 +9,6 @@ pub mod Uniqueness
 pub mod OwnExample
 pub mod ConstantAnswers
 pub mod ConstantAnswersForC
+pub mod ConstantAmounts
 pub mod Frauds
 pub mod CallTables

@@ -7,15 +7,15 @@ use mathlib.Core.Option.{none}
 use lib.IntN.{pos, negsuc}
 use lib.ListN.{replicate}
 use Rattle.model.specs.declared.Answer.{Answer}
-use Rattle.model.specs.Refusals.{number, carries, carried}
+use Rattle.model.specs.Refusals.{number, carriesBy, carried}
 use Rattle.model.specs.Replies.{yields}
 use Rattle.model.specs.Nets.{PNet, modeNo}
 use Rattle.model.specs.WorkedExamples.{ownExample}
 use Rattle.written.specs.Written.{sheetOf}
-use Rattle.fire.specs.Contracts.{BeginAllows, FireAllows}
+use Rattle.fire.specs.Contracts.{BeginAllows, TestAllows, FireAllows}
 use Rattle.run.specs.declared.Ran.{Ran}
 use Rattle.run.specs.Contracts.{RunAllows, CertifyAllows}
-use Rattle.step.specs.Contracts.{FireStepAllows}
+use Rattle.step.specs.Contracts.{TestStepAllows, FireStepAllows}
 use Rattle.weigh.specs.declared.Figured.{Figured}
 use Rattle.weigh.specs.Calls as weigh
 use Rattle.weigh.specs.Contracts.{FigureAllows, ChangeAllows}
@@ -44,13 +44,17 @@ net = sheetOf example
 abbrev pub three : List ℕ
 three = 0 ∷ 0 ∷ 0 ∷ 7 ∷ 1 ∷ replicate 6 0
 
+-- five landed at once, of three aboard
+abbrev pub five : List ℕ
+five = replicate 5 0
+
 -- a slice with room for the complement, which "has L = 87"
 abbrev pub room : List ℕ
 room = replicate 91 0
 
 pub record RunsTo (o : Ran × List ℕ) : Type 0 where
   pub accepted : o .0 .accepted ≡ 3
-  pub refused : carried (o .0 .answer) ≡ carries 11 2 0
+  pub refused : carried (o .0 .answer) ≡ carriesBy 11 2 0 1
   pub marking : o .1 ≡ 0 ∷ 3 ∷ []
 
 pub record OwnExample : Type 0 where
@@ -58,7 +62,10 @@ pub record OwnExample : Type 0 where
   pub fire : (o : Answer × List ℕ) → FireAllows net (3 ∷ 0 ∷ []) (modeNo 0) o → (number (o .0) ≡ 0) × (o .1 ≡ 2 ∷ 1 ∷ [])
   -- the three aboard, landed at once
   pub fireStep : (o : Answer × List ℕ) → FireStepAllows net (3 ∷ 0 ∷ []) (0 ∷ 0 ∷ 0 ∷ []) o → (number (o .0) ≡ 0) × (o .1 ≡ 0 ∷ 3 ∷ [])
-  -- "refused 4 0 11 0", "end 3 0"
+  -- none is left aboard: one token is lacking; and two for five at once of three
+  pub test : (told : Answer) → TestAllows net (0 ∷ 3 ∷ []) (modeNo 0) told → carried told ≡ carriesBy 11 3 0 1
+  pub testStep : (told : Answer) → TestStepAllows net (3 ∷ 0 ∷ []) five told → carried told ≡ carriesBy 11 3 0 2
+  -- "refused 4 0 11 0 1", "end 3 0"
   pub run : (o : Ran × List ℕ) → RunAllows net movements (3 ∷ 0 ∷ []) o → RunsTo o
   pub certify : (told : Answer) → CertifyAllows net three (0 ∷ 3 ∷ []) told → number told ≡ 0
   -- "start 750"

@@ -28,6 +28,7 @@ use Rattle.promises.specs.OwnExample.{OwnExample}
 pub record Promises : Type 0 where
   -- of nets, markings and lists of modes
   pub refusalTable : model.RefusalTable
+  pub amounts : model.Amounts
   pub rule : model.Rule
   pub modeRule : model.ModeRule
   pub markingAfter : model.MarkingAfter

@@ -1,4 +1,4 @@
-// What a mode meets at one of its pairs: refusals 11 to 14, and the count after firing.
+// What a mode meets at one of its pairs: refusals 11 to 14, by how much, and the count after firing.
 use fields::numbers::above_bound;
 use model::Arc;
 use model::Why;
@@ -6,7 +6,8 @@ ghost use mathlib.Core.Path.{_≡_};
 ghost use mathlib.Core.Bool.{true};
 ghost use mathlib.Core.Logic.{_↔_};
 ghost use Prim.Native.Nat.{_+_};
-ghost use Rattle.model.specs.Firing.{after, stops};
+ghost use Rattle.model.specs.Numbers.{aboveBy};
+ghost use Rattle.model.specs.Firing.{after, stops, stoppedBy};
 ghost use Rattle.fields.specs.Numbers.{bound};
 ghost use Rattle.sheets.specs.Decoded.{netArc};
 ghost use Rattle.rule.specs.AtPair.{Counted, Unstopped};
@@ -45,8 +46,36 @@ pub fn is_stopped(why: Why, at: AtPair) -> bool
     match why {
         Why::Lacking => at.count < arc.pre,
         Why::OverCapacity => above_bound(with_post(arc, at.count), at.capacity),
-        Why::Inhibited => above_bound(at.count, arc.inhibitor),
+        // no count is above the number that means unbounded
+        Why::Inhibited => arc.inhibitor < at.count,
         Why::OverLimit => 1_000_000 < moved(arc, at.count),
+    }
+}
+
+// How far a number is above a bound, 0 where it is not.
+fn above_by(number: u32, x: u32) -> u32
+    ensures { λ r. ⌜ r ≡ aboveBy number (bound x) ⌝ }
+{
+    if x == 0xffff_ffff {
+        return 0;
+    }
+    if number < x {
+        return 0;
+    }
+    number - x
+}
+
+// "how many tokens are lacking (11), over capacity (12), over the inhibitor (13) or over the counter's limit (14)"
+pub fn stopped_by(why: Why, at: AtPair) -> u32
+    requires { ⌜ Counted (at .arc) (at .count) ⌝ }
+    ensures { λ r. ⌜ r ≡ stoppedBy why (netArc (at .arc) .entry) (bound (at .capacity)) (at .count) ⌝ }
+{
+    let arc = at.arc;
+    match why {
+        Why::Lacking => above_by(arc.pre, at.count),
+        Why::OverCapacity => above_by(with_post(arc, at.count), at.capacity),
+        Why::Inhibited => above_by(at.count, arc.inhibitor),
+        Why::OverLimit => above_by(moved(arc, at.count), 1_000_000),
     }
 }
 

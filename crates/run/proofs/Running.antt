@@ -72,6 +72,10 @@ module _ {s : List ℕ} {net : NetShape} (o : Open s net) (t : Mode) {m new : Li
 abbrev pub told : ℕ → Answer → Ran
 told k a = record { accepted = k; answer = a }
 
+-- the same number, told otherwise
+pub accepts-as : {o : Outcome} {k told : ℕ} {left : List ℕ} → told ≡ k → Accepts o k left → Accepts o told left
+accepts-as e a = record { accepted = e ∙ a .accepted; leaves = a .leaves }
+
 -- k of the count movements that stand in s from `start` on have led from m₀ to m
 pub record Along (net : PNet) (s : List ℕ) (start count : ℕ) (m₀ : List ℕ) (k : ℕ) (m : List ℕ) : Type 0 where
   pub marking : Marking net m

@@ -5,6 +5,7 @@ use firing::mode::write_arcs;
 use model::Arc;
 use model::Mode;
 use opened::arcs::arc;
+use opened::arcs::slot;
 use opened::shape::NetShape;
 use opened::shape::capacity;
 use opened::starts::Segment;
@@ -22,7 +23,7 @@ ghost use Rattle.sheets.specs.Decoded.{netOf, netArc};
 ghost use Rattle.opened.specs.Shape.{Open};
 ghost use Rattle.opened.specs.Starts.{StartsAre, ModeArcs, OwnArc};
 ghost use Rattle.firing.specs.AtMode.{Free, AtMode, OfMode, Decides, Fires};
-ghost use Rattle.run.specs.Parts.{numberOf, NumbersTo, NumbersAre};
+ghost use Rattle.run.specs.Parts.{numberOf, NumbersBelow, NumbersAre};
 
 // The counts below this number, from Pre on, are those that pass all four tests.
 fn pass_below(arc: Arc, capacity: u32) -> u32
@@ -46,18 +47,17 @@ fn arc_number(s: &[u8], net: NetShape, arcs: Segment, i: usize) -> u32
     pass_below(arc, capacity(s, net, pair))
 }
 
-// The numbers of a mode's arcs, after those of the modes before it.
+// The numbers of a mode's arcs, where those of the modes below it are written.
 fn write_mode(s: &[u8], net: NetShape, arcs: Segment, numbers: &mut [u32])
     requires { ⌜ Open (now s) net ⌝ }
     requires { ⌜ ModeArcs (netOf (now s) .arcs) (arcs .mode) (arcs .start) (arcs .count) ⌝ }
-    requires { ⌜ NumbersTo (netOf (now s)) (now numbers) (arcs .start) ⌝ }
-    ensures { λ r. ⌜ NumbersTo (netOf (now (s .entry))) (now (numbers .exit)) (arcs .start + arcs .count) ⌝ }
+    requires { ⌜ NumbersBelow (netOf (now s)) (now numbers) (arcs .mode .0) ⌝ }
+    ensures { λ r. ⌜ NumbersBelow (netOf (now (s .entry))) (now (numbers .exit)) (arcs .mode .0 + 1) ⌝ }
 {
-    let start = arcs.start;
     let count = arcs.count;
     let mut i = 0;
     while i < count {
-        numbers[start + i] = arc_number(s, net, arcs, i);
+        numbers[slot(s, net, arcs, i)] = arc_number(s, net, arcs, i);
         i += 1;
     }
 }
@@ -95,8 +95,7 @@ fn arc_within(
     if at.count < at.arc.pre {
         return false;
     }
-    let k = arcs.start + i;
-    at.count < numbers[k]
+    at.count < numbers[slot(s, net, arcs, i)]
 }
 
 // One pass over the arcs of a mode, each tested by its number.

@@ -21,7 +21,7 @@ use Rattle.opened.proofs.Shapes.{sizes}
 use Rattle.opened.proofs.Segments.{mode-lists}
 use Rattle.halves.specs.declared.half.Half.{Half}
 use Rattle.halves.specs.declared.half.Half.the-variants.{Original, Complement}
-use Rattle.sections.specs.Arcs.{kept, halfArc, halfBytes, rowArcs, rowBytes}
+use Rattle.sections.specs.Arcs.{kept, halfArc, halfNo, halfBytes, rowArcs, rowBytes}
 
 module _ (net : PNet) where
   abbrev pub keptHalf : Half → ℕ → List NetArc
@@ -34,7 +34,8 @@ module _ (net : PNet) where
         mode-by-arcs (modeNo t) (pairs net) (K net) (row net (modeNo t)) count _ (mode-lists net wf (modeNo t) start count arcs)
         ∙ ap₂ (λ xs ys. xs ++ ys) (joined-ext count _ _ (λ i h. rw (← arcs .own i h))) (joined-ext count _ _ (λ i h. rw (← arcs .own i h)))
 
-    row-bytes : rowBytes net t ≡ joined count (halfBytes net Original start) ++ joined count (halfBytes net Complement start)
+    row-bytes : rowBytes net t ≡ joined 2 (λ h. joined count (halfBytes net (halfNo h) start))
+    unfolding joined halfNo
     row-bytes =
         ap (flatMap arcBytes) row-halves
         ∙ section-append arcBytes (joined count (λ i. keptHalf Original (start + i))) _
@@ -67,5 +68,5 @@ module _ {s : List ℕ} {net : NetShape} (o : Open s net) where
   arc-parts = rw (sizes o .modes) (arcs-bytes (netOf s))
 
   pub mode-part : (t : Mode) (start count : ℕ) → ModeArcs (netOf s .arcs) t start count
-      → rowBytes (netOf s) (t .0) ≡ joined count (halfBytes (netOf s) Original start) ++ joined count (halfBytes (netOf s) Complement start)
+      → rowBytes (netOf s) (t .0) ≡ joined 2 (λ h. joined count (halfBytes (netOf s) (halfNo h) start))
   mode-part t start count arcs = row-bytes (netOf s) (sizes o .wellFormed) (t .0) start count arcs

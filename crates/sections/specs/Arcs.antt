@@ -18,6 +18,11 @@ kept a = written (a .mode) (a .pair .0) (a .entry)
 abbrev pub keptBytes : NetArc → List ℕ
 keptBytes a = flatMap arcBytes (kept a)
 
+-- the two halves, in order
+unfoldable pub halfNo : ℕ → Half
+halfNo zero = Original
+halfNo (suc h) = Complement
+
 -- a test that passes at each number below n
 unfoldable pub every : ℕ → (ℕ → Bool) → Bool
 every zero test = true

@@ -22,7 +22,7 @@ ghost use Rattle.opened.specs.Shape.{Open};
 ghost use Rattle.opened.specs.Starts.{StartsAre, ModeArcs, OwnArc};
 ghost use Rattle.written.specs.Written.{arcBytes};
 ghost use Rattle.halves.specs.Bounded.{BelowAre};
-ghost use Rattle.sections.specs.Arcs.{keptBytes, halfArc, halfBytes, rowBytes};
+ghost use Rattle.sections.specs.Arcs.{keptBytes, halfArc, halfNo, halfBytes, rowBytes};
 ghost use Rattle.halves.specs.Puts.{Room, Puts};
 
 // A half of what the i-th arc of a mode becomes.
@@ -81,25 +81,23 @@ fn put_half_arc(
     put_kept(out, at, half_arc(s, net, below, half, arcs, i))
 }
 
-// A half of what the arcs of a mode become. The segment comes in its parts: so the call is inlined (docs/SPEED.md).
+// A half of what the arcs of a mode become.
 fn put_half_arcs(
     s: &[u8],
     net: NetShape,
     below: &[u16; 257],
     half: Half,
-    mode: Mode,
-    start: usize,
-    count: usize,
+    arcs: Segment,
     out: &mut [u8],
     at: usize,
 ) -> usize
     requires { ⌜ Open (now s) net ⌝ }
     requires { ⌜ BelowAre (netOf (now s)) (now below) ⌝ }
-    requires { ⌜ ModeArcs (netOf (now s) .arcs) mode start count ⌝ }
-    requires { ⌜ Room (now out) at (joined count (halfBytes (netOf (now s)) half start)) ⌝ }
-    ensures { λ r. ⌜ Puts (now (out .entry)) at (joined count (halfBytes (netOf (now (s .entry))) half start)) (now (out .exit)) r ⌝ }
+    requires { ⌜ ModeArcs (netOf (now s) .arcs) (arcs .mode) (arcs .start) (arcs .count) ⌝ }
+    requires { ⌜ Room (now out) at (joined (arcs .count) (halfBytes (netOf (now s)) half (arcs .start))) ⌝ }
+    ensures { λ r. ⌜ Puts (now (out .entry)) at (joined (arcs .count) (halfBytes (netOf (now (s .entry))) half (arcs .start))) (now (out .exit)) r ⌝ }
 {
-    let arcs = Segment { mode, start, count };
+    let count = arcs.count;
     let mut next = at;
     let mut i = 0;
     while i < count {
@@ -109,7 +107,17 @@ fn put_half_arcs(
     next
 }
 
-// "arcs rise strictly by mode, then pair": a mode's arcs on complement pairs follow its originals.
+fn half_no(h: usize) -> Half
+    ensures { λ r. ⌜ r ≡ halfNo h ⌝ }
+{
+    if h == 0 {
+        return Half::Original;
+    }
+    Half::Complement
+}
+
+// "arcs rise strictly by mode, then pair": a mode's arcs on complement pairs follow its originals. A loop over both, so that the
+// inner one has one caller and is inlined (docs/SPEED.md).
 fn put_mode(
     s: &[u8],
     net: NetShape,
@@ -124,21 +132,13 @@ fn put_mode(
     requires { ⌜ Room (now out) at (rowBytes (netOf (now s)) (arcs .mode .0)) ⌝ }
     ensures { λ r. ⌜ Puts (now (out .entry)) at (rowBytes (netOf (now (s .entry))) (arcs .mode .0)) (now (out .exit)) r ⌝ }
 {
-    let mode = arcs.mode;
-    let start = arcs.start;
-    let count = arcs.count;
-    let next = put_half_arcs(s, net, below, Half::Original, mode, start, count, out, at);
-    put_half_arcs(
-        s,
-        net,
-        below,
-        Half::Complement,
-        mode,
-        start,
-        count,
-        out,
-        next,
-    )
+    let mut next = at;
+    let mut h = 0;
+    while h < 2 {
+        next = put_half_arcs(s, net, below, half_no(h), arcs, out, next);
+        h += 1;
+    }
+    next
 }
 
 pub fn put_arcs(

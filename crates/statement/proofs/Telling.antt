@@ -66,7 +66,7 @@ along-none h e l = record { marking = h; weighs = e; lines = []; told = nothing 
 
 -- the lines of at most 8,192 accepted movements, `refused` and `end`
 abbrev pub mostLines : ℕ
-mostLines = 28 * 8192 + 138
+mostLines = 28 * 8192 + 159
 
 module _ {s : List ℕ} {shape : NetShape} {w movements : List ℕ} (read : Read s shape w movements) {count : ℕ}
     (counted : count ≡ movementCount movements) where
@@ -90,11 +90,11 @@ module _ {s : List ℕ} {shape : NetShape} {w movements : List ℕ} (read : Read
     whole = linesFrom net weights 0 ts m₀
 
     -- there is room for the last lines, and so for an accepted one
-    pub along-room : k ≤ count → at + mostLines ≤ length out₀ → end + 138 ≤ length out
+    pub along-room : k ≤ count → at + mostLines ≤ length out₀ → end + 159 ≤ length out
     along-room h l = rw (length-kept (along .told)) (omega (arith, along .told .next, along .told .within, at-most))
 
     -- what ends the list, told after what is written
-    ended : {most : ℕ} {last : List ℕ} {after : ℕ} {now : List ℕ} → k ≤ count → most ≤ 138 → linesFrom net weights k (drop k ts) m ≡ last
+    ended : {most : ℕ} {last : List ℕ} {after : ℕ} {now : List ℕ} → k ≤ count → most ≤ 159 → linesFrom net weights k (drop k ts) m ≡ last
         → Writes most out end last after now → Writes mostLines out₀ at whole after now
     ended h l e p =
         let all = along .told and p in
@@ -108,7 +108,7 @@ module _ {s : List ℕ} {shape : NetShape} {w movements : List ℕ} (read : Read
       there : k < length ts
       there = rw list-length h
 
-      pub along-stops : {r : Refusal} {after : ℕ} {now : List ℕ} → a ≡ Refused r → Writes 138 out end (refusedLine (k + 1) t r ++ endLine k z) after now
+      pub along-stops : {r : Refusal} {after : ℕ} {now : List ℕ} → a ≡ Refused r → Writes 159 out end (refusedLine (k + 1) t r ++ endLine k z) after now
           → Writes mostLines out₀ at whole after now
       along-stops {r} e p =
           ended (omega arith) (omega arith) (lines-stop net weights ts k m t there (sym q) r (answer-refused _ (sym (move .answers) ∙ e)))

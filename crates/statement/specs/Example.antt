@@ -27,4 +27,4 @@ abbrev pub input : List ℕ
 input = netCounts ++ netPairs ++ netArcs ++ weights ++ movements
 
 abbrev pub Printed : Type 0
-Printed = replayText input ≡ ascii "start 750\n1 0 0 500\n2 0 0 250\n3 0 0 0\nrefused 4 0 11 0\nend 3 0\n"
+Printed = replayText input ≡ ascii "start 750\n1 0 0 500\n2 0 0 250\n3 0 0 0\nrefused 4 0 11 0 1\nend 3 0\n"

@@ -57,8 +57,8 @@ fn put_stop(
     figure: i64,
 ) -> usize
     requires { ⌜ accepted < 8192 ⌝ }
-    requires { ⌜ at + 138 ≤ length (now out) ⌝ }
-    ensures { λ r. ⌜ Writes 138 (now (out .entry)) at (refusedLine (accepted + 1) mode refusal ++ endLine accepted figure) r (now (out .exit)) ⌝ }
+    requires { ⌜ at + 159 ≤ length (now out) ⌝ }
+    ensures { λ r. ⌜ Writes 159 (now (out .entry)) at (refusedLine (accepted + 1) mode refusal ++ endLine accepted figure) r (now (out .exit)) ⌝ }
 {
     let line = put_refused(out, at, accepted + 1, mode, refusal);
     put_end(out, line, accepted, figure)
@@ -79,8 +79,8 @@ pub(crate) fn put_movements(
     requires { ⌜ StartsAre (netOf (now s) .arcs) (now starts) ⌝ }
     requires { ⌜ Marking (netOf (now s)) (now marking) ⌝ }
     requires { ⌜ first ≡ figureAt (netOf (now s)) (weightsOf (now weights)) (now marking) ⌝ }
-    requires { ⌜ at + (28 * 8192 + 138) ≤ length (now out) ⌝ }
-    ensures { λ r. ⌜ Writes (28 * 8192 + 138) (now (out .entry)) at (linesFrom (netOf (now (s .entry))) (weightsOf (now (weights .entry))) 0 (movementsOf (now (movements .entry))) (now (marking .entry))) r (now (out .exit)) ⌝ }
+    requires { ⌜ at + (28 * 8192 + 159) ≤ length (now out) ⌝ }
+    ensures { λ r. ⌜ Writes (28 * 8192 + 159) (now (out .entry)) at (linesFrom (netOf (now (s .entry))) (weightsOf (now (weights .entry))) 0 (movementsOf (now (movements .entry))) (now (marking .entry))) r (now (out .exit)) ⌝ }
 {
     let count = movement_count(movements);
     let mut end = at;

@@ -21,7 +21,7 @@ use Rattle.model.specs.Numbers.{ℕ∞}
 use Rattle.model.specs.Rows.{Entry, Row}
 use Rattle.model.specs.Nets.{PNet, pairs, K, count}
 use Rattle.model.specs.Markings.{Marking}
-use Rattle.model.specs.Firing.{after, stops, ruleRefusal, rowRefusal, firedRow, rooms}
+use Rattle.model.specs.Firing.{after, stops, stoppedBy, ruleRefusal, rowRefusal, firedRow, rooms}
 use Rattle.model.proofs.First.{then-assoc}
 use Rattle.model.proofs.Markings.{row-fired-at, row-fired-length}
 use Rattle.fields.specs.Numbers.{bound}
@@ -46,14 +46,20 @@ module _ {s : List ℕ} {net : NetShape} (o : Open s net) where
 
 module _ (net : PNet) (m : List ℕ) (k : ℕ) {r : Row} {p : ℕ} {a : Arc} (sum : SumIs r p a) (room : bound k ≡ K net (a .pair .0)) (why : Why) {test : Bool}
     (tested : test ≡ stops why (netArc a .entry) (bound k) (count m p)) where
-  tests : test ≡ stops why (r p) (rooms net r p) (count m p)
-  tests =
-      tested ∙ ap (λ (e : Entry). stops why e (bound k) (count m p)) (sum .entry)
-      ∙ ap (λ (b : ℕ∞). stops why (r p) b (count m p)) (room ∙ ap (λ (x : Pair). K net (x .0)) (sum .pair))
+  -- what is said of the arc that was read is said of the sums
+  sums-as : {A : Type 0} (f : Entry → ℕ∞ → ℕ → A) → f (netArc a .entry) (bound k) (count m p) ≡ f (r p) (rooms net r p) (count m p)
+  sums-as f =
+      ap (λ (e : Entry). f e (bound k) (count m p)) (sum .entry)
+      ∙ ap (λ (b : ℕ∞). f (r p) b (count m p)) (room ∙ ap (λ (x : Pair). K net (x .0)) (sum .pair))
 
-  pub stop-found : {x : Answer} → test ≡ true → x ≡ Refused (wrong Argument (Stopped why (a .pair))) → x ≡ answer (stopAt why net r m p)
+  tests : test ≡ stops why (r p) (rooms net r p) (count m p)
+  tests = tested ∙ sums-as (stops why)
+
+  pub stop-found : {x : Answer} {n : ℕ} → test ≡ true → n ≡ stoppedBy why (netArc a .entry) (bound k) (count m p)
+      → x ≡ Refused (wrong Argument (Stopped why (a .pair) n)) → x ≡ answer (stopAt why net r m p)
   unfolding stopAt
-  stop-found e q = rw (sym tests ∙ e) (q ∙ ap (λ (x : Pair). Refused (wrong Argument (Stopped why x))) (sum .pair))
+  stop-found {n = n} e f q =
+      rw (sym tests ∙ e, ← (f ∙ sums-as (stoppedBy why))) (q ∙ ap (λ (x : Pair). Refused (wrong Argument (Stopped why x n))) (sum .pair))
 
   pub stop-passed : test ≡ false → Accepted ≡ answer (stopAt why net r m p)
   unfolding stopAt

@@ -15,7 +15,7 @@ use Rattle.model.specs.First.{onlyIf}
 use Rattle.model.specs.Numbers.{limit}
 use Rattle.model.specs.Rows.{Row}
 use Rattle.model.specs.Nets.{NetArc, PNet, pairs, pairNo, count}
-use Rattle.model.specs.Firing.{stops, stopped, lowestStop, rowRefusal, rooms}
+use Rattle.model.specs.Firing.{stops, stoppedBy, stopped, lowestStop, rowRefusal, rooms}
 use Rattle.model.specs.Steps.{beside, together}
 use Rattle.fields.specs.Numbers.{unbounded, bound}
 use Rattle.sheets.specs.Decoded.{netArc}
@@ -59,7 +59,8 @@ pub record SumIs (r : Row) (p : ℕ) (a : Arc) : Type 0 where
 
 -- one of 11 to 14 at pair p, its lowest pair, and the first of the four
 unfoldable pub stopAt : Why → PNet → Row → List ℕ → ℕ → Option Refusal
-stopAt why net r m p = onlyIf (stops why (r p) (rooms net r p) (count m p)) (stopped Argument why p)
+stopAt why net r m p =
+    onlyIf (stops why (r p) (rooms net r p) (count m p)) (stopped Argument why p (stoppedBy why (r p) (rooms net r p) (count m p)))
 
 unfoldable pub stopOf : Why → PNet → Row → List ℕ → Option Refusal
 stopOf why net r m = lowestStop Argument (pairs net) (rooms net r) r (count m) why

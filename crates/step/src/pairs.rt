@@ -12,6 +12,7 @@ use opened::shape::capacity;
 use rule::AtPair;
 use rule::is_stopped;
 use rule::moved;
+use rule::stopped_by;
 ghost use mathlib.Core.Path.{_≡_};
 ghost use Prim.Native.Nat.{_<_};
 ghost use Rattle.model.specs.Refusals.{answer};
@@ -61,7 +62,8 @@ fn pair_stop(
         count: marking[p],
     };
     if is_stopped(why, at) {
-        return refused(Thing::Argument, Fault::Stopped(why, pair));
+        let by = stopped_by(why, at);
+        return refused(Thing::Argument, Fault::Stopped(why, pair, by));
     }
     Answer::Accepted
 }

@@ -76,9 +76,9 @@ module _ (out : List ℕ) (at : ℕ) (bytes : List ℕ) where
       (le-or-lt (at + length bytes) (length out))
 
   -- the laws of a loop that copies: a turn, and the end
-  pub one-copied : (now : List ℕ) (i : ℕ) → at + length bytes ≤ length out → i < length bytes → now ≡ paste out at bytes i
-      → set now (at + i) (getD bytes i 0) ≡ paste out at bytes (i + 1)
-  one-copied now i h l e = rw (e, add-one) (paste-suc out at bytes i 0 (omega arith) l)
+  pub one-copied : (now : List ℕ) (i : ℕ) {place : ℕ} → at + length bytes ≤ length out → i < length bytes → place ≡ at + i → now ≡ paste out at bytes i
+      → set now place (getD bytes i 0) ≡ paste out at bytes (i + 1)
+  one-copied now i h l q e = rw (q, e, add-one) (paste-suc out at bytes i 0 (omega arith) l)
 
   pub all-copied : (i : ℕ) → at + length bytes ≤ length out → i ≤ length bytes → length bytes ≤ i → paste out at bytes i ≡ putInto out at bytes
   all-copied i h l g = let e : i ≡ length bytes = omega arith in rw (e, take-length, into-within h)

@@ -1,4 +1,4 @@
-// Document 01's number, thing and position of a refusal.
+// Document 01's number, thing and position of a refusal, and document 02's amount.
 use model::Fault;
 use model::Pair;
 use model::Refusal;
@@ -12,32 +12,43 @@ ghost use Rattle.model.specs.Refusals.{line, alwaysNet, thing, thingNumber};
 pub struct Line {
     pub number: u64,
     pub position: u64,
+    pub amount: u64,
 }
 
 fn says(number: u64, position: usize) -> Line
-    ensures { λ r. ⌜ (r .number ≡ number) × (r .position ≡ position) ⌝ }
+    ensures { λ r. ⌜ (r .number ≡ number) × (r .position ≡ position) × (r .amount ≡ 0) ⌝ }
 {
     Line {
         number,
         position: position as u64,
+        amount: 0,
     }
 }
 
-// 11 to 14, at a pair.
-fn stop_line(why: Why, pair: Pair) -> Line
-    ensures { λ r. ⌜ (r .number ≡ line (Stopped why pair) .number) × (r .position ≡ line (Stopped why pair) .position) ⌝ }
+fn says_by(number: u64, pair: Pair, by: u32) -> Line
+    ensures { λ r. ⌜ (r .number ≡ number) × (r .position ≡ pair .0) × (r .amount ≡ by) ⌝ }
 {
-    let p = pair.0 as usize;
+    Line {
+        number,
+        position: pair.0 as u64,
+        amount: by as u64,
+    }
+}
+
+// 11 to 14, at a pair and by how much.
+fn stop_line(why: Why, pair: Pair, by: u32) -> Line
+    ensures { λ r. ⌜ (r .number ≡ line (Stopped why pair by) .number) × (r .position ≡ line (Stopped why pair by) .position) × (r .amount ≡ line (Stopped why pair by) .amount) ⌝ }
+{
     match why {
-        Why::Lacking => says(11, p),
-        Why::OverCapacity => says(12, p),
-        Why::Inhibited => says(13, p),
-        Why::OverLimit => says(14, p),
+        Why::Lacking => says_by(11, pair, by),
+        Why::OverCapacity => says_by(12, pair, by),
+        Why::Inhibited => says_by(13, pair, by),
+        Why::OverLimit => says_by(14, pair, by),
     }
 }
 
 pub fn line_of(fault: Fault) -> Line
-    ensures { λ r. ⌜ (r .number ≡ line fault .number) × (r .position ≡ line fault .position) ⌝ }
+    ensures { λ r. ⌜ (r .number ≡ line fault .number) × (r .position ≡ line fault .position) × (r .amount ≡ line fault .amount) ⌝ }
 {
     match fault {
         Fault::CutShort => says(1, 0),
@@ -53,7 +64,7 @@ pub fn line_of(fault: Fault) -> Line
         Fault::StartAboveCapacity(at) => says(9, at),
         Fault::MarkingAboveCapacity(pair) => says(9, pair.0 as usize),
         Fault::NoRoom => says(10, 0),
-        Fault::Stopped(why, pair) => stop_line(why, pair),
+        Fault::Stopped(why, pair, by) => stop_line(why, pair, by),
         Fault::InhibitedUnbounded(at) => says(15, at),
         Fault::ComplementAbove(at) => says(16, at),
         Fault::NotOneEach(at) => says(17, at),

@@ -1,5 +1,8 @@
 //! The inputs at full size, and at a part of it.
 
+use std::path::Path;
+use std::{fs, io};
+
 use pnet::Mode;
 use reference::build::{OPEN, PlainArc, PlainNet, movements, weights};
 
@@ -84,6 +87,22 @@ impl Inputs {
             weights,
             movements,
         }
+    }
+
+    /// As files, each with its part in its name; counts in the machine's order.
+    pub fn write(&self, folder: &Path, part: usize) -> io::Result<()> {
+        let counts =
+            |counts: &[u32]| counts.iter().flat_map(|count| count.to_ne_bytes()).collect::<Vec<u8>>();
+        let (marking, claim) = (counts(&self.marking), counts(&self.claim));
+        let files = [
+            ("net", &self.net),
+            ("movements", &self.movements),
+            ("marking", &marking),
+            ("claim", &claim),
+            ("bounded", &self.bounded),
+            ("input", &self.input),
+        ];
+        files.iter().try_for_each(|(name, bytes)| fs::write(folder.join(format!("{name}-{part}")), bytes))
     }
 }
 

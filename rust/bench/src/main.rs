@@ -3,6 +3,7 @@
 //!
 //!     bench                  times and instruction counts, as the tables of docs/BENCHMARKS.md
 //!     bench times            the times alone
+//!     bench inputs DIR       the inputs as files, for tests/beside.c
 //!     bench once WORK ENGINE PART ARCS TIMES    one piece of work so many times, for callgrind
 //!
 //! Times are the least of many repetitions, the engines in turn. Everything is warm: sheets, marking and output slice are used again
@@ -13,9 +14,13 @@ mod inputs;
 mod works;
 
 use std::env;
+use std::path::Path;
 
 use inputs::{Inputs, Size};
 use works::{Figures, OTHERS, READ, RUN, SIZED, Work};
+
+/// Full size, and so many times smaller.
+const PARTS: [usize; 3] = [1, 4, 16];
 
 /// What a table measures of a work at a size.
 type Measure = fn(Work, Size) -> Figures;
@@ -29,12 +34,17 @@ fn main() {
             tables("Instructions, in thousands", "k", counts::instructions);
         }
         ["times"] => tables("Microseconds, the least", "µs", times),
+        ["inputs", folder] => {
+            for part in PARTS {
+                Inputs::of(Size::part(part)).write(Path::new(folder), part).expect("a folder to write to");
+            }
+        }
         ["once", work, engine, part, arcs, times] => {
             let number = |word: &str| word.parse::<usize>().expect("a number");
             let size = Size { part: number(part), arcs: number(arcs) };
             works::repeat(works::named(work), engine, &Inputs::of(size), number(times));
         }
-        _ => panic!("bench [times | once WORK ENGINE PART ARCS TIMES]"),
+        _ => panic!("bench [times | inputs DIR | once WORK ENGINE PART ARCS TIMES]"),
     }
 }
 
@@ -47,7 +57,7 @@ fn tables(title: &str, unit: &str, measure: Measure) {
     println!("\n### {title}\n");
     head("Size", unit);
     for work in SIZED {
-        for part in [1, 4, 16] {
+        for part in PARTS {
             let size = Size::part(part);
             rows(work, size, &size.name(), measure);
         }

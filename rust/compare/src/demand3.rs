@@ -1,6 +1,6 @@
 //! A net and its complement: what docs/RULES.md says of the two, for any list of movements and any step.
 
-use reference::build::{OPEN, PlainNet, movements};
+use reference::build::{OPEN, PlainArc, PlainNet, movements};
 
 use crate::case::walk;
 use crate::generator::{self, Random, Style, total};
@@ -18,6 +18,9 @@ pub fn in_step(same: &mut Same, random: &mut Random, style: Style, net: &PlainNe
         net.pairs.iter().map(|&(capacity, _)| generator::count(random, style, capacity)).collect();
     for start in [first, other] {
         let list = walk(random, &sheet, &start, total(&net.modes), most);
+        for mode in 0..total(&net.modes).min(EACH) as u16 {
+            one(same, net, (&sheet, &complement), &start, mode);
+        }
         one_by_one(same, net, (&sheet, &complement), &start, &list);
         let modes = generator::step(random, net);
         at_once(same, net, (&sheet, &complement), &start, &modes);
@@ -25,7 +28,29 @@ pub fn in_step(same: &mut Same, random: &mut Random, style: Style, net: &PlainNe
     true
 }
 
-/// Movement by movement: refusals correspond, and so do the markings after each. Then both lists as one run.
+/// So many modes are tried at the marking where a list begins.
+const EACH: usize = 8;
+
+/// One mode: refusals correspond, and so do the markings after it.
+fn one(
+    same: &mut Same,
+    net: &PlainNet,
+    (sheet, complement): (&[u8], &[u8]),
+    counts: &[u32],
+    mode: u16,
+) -> Vec<u32> {
+    let (answer, after) = same.fire(sheet, counts, mode);
+    let (other, both_after) = same.fire(complement, &completed(net, counts), mode);
+    let of = format!("{}: mode {mode} at {counts:?} of {net:?}", same.part);
+    assert_eq!(other, corresponding(net, counts, mode, answer), "{of}");
+    assert_eq!(both_after, completed(net, &after), "{of}");
+    if other.3 > answer.3 {
+        same.hits.value("by more in the complement");
+    }
+    after
+}
+
+/// Movement by movement, then both lists as one run.
 fn one_by_one(
     same: &mut Same,
     net: &PlainNet,
@@ -35,24 +60,15 @@ fn one_by_one(
 ) {
     let mut counts = start.to_vec();
     for &mode in list {
-        let both = completed(net, &counts);
-        let (answer, after) = same.fire(sheet, &counts, mode);
-        let (other, both_after) = same.fire(complement, &both, mode);
-        assert_eq!(
-            other,
-            corresponding(net, &counts, mode, answer),
-            "{}: mode {mode} at {counts:?} of {net:?}",
-            same.part
-        );
-        assert_eq!(both_after, completed(net, &after), "{}: mode {mode} at {counts:?} of {net:?}", same.part);
-        counts = after;
+        counts = one(same, net, (sheet, complement), &counts, mode);
     }
-    let list = movements(list);
-    let (accepted, answer, after) = same.run(sheet, &list, start);
-    let (both_accepted, other, both_after) = same.run(complement, &list, &completed(net, start));
+    let bytes = movements(list);
+    let (accepted, answer, after) = same.run(sheet, &bytes, start);
+    let (both_accepted, other, both_after) = same.run(complement, &bytes, &completed(net, start));
     assert_eq!(accepted, both_accepted, "{}: {net:?}", same.part);
     assert_eq!(both_after, completed(net, &after), "{}: {net:?}", same.part);
-    assert_eq!(become_11(answer.0), other.0, "{}: {net:?}", same.part);
+    let last = list.get(accepted).map_or(answer, |&mode| corresponding(net, &after, mode, answer));
+    assert_eq!(last, other, "{}: {net:?}", same.part);
 }
 
 /// A step that the complement accepts the net accepts, and the markings after correspond; where no inhibitor is finite, a step that
@@ -78,28 +94,27 @@ fn at_once(
     }
 }
 
-/// "11, 12 and 13 in the net become 11 in its complement; 6 and 14 stay."
-fn become_11(number: u64) -> u64 {
-    if matches!(number, 12 | 13) { 11 } else { number }
-}
-
 /// The marking of the complement: on each complement pair "K less the original's".
 fn completed(net: &PlainNet, counts: &[u32]) -> Vec<u32> {
     let bounded = net.pairs.iter().zip(counts).filter(|((capacity, _), _)| *capacity != OPEN);
     counts.iter().copied().chain(bounded.map(|((capacity, _), count)| capacity - count)).collect()
 }
 
-/// The complement's answer: 12 and 13 become 11 at the complement of the lowest pair that breaks either.
+/// "11, 12 and 13 in the net become 11 in its complement; 6 and 14 stay": 12 and 13 at the complement of the lowest pair that breaks
+/// either, by the larger of the two amounts there. 6, 11 and 14 keep their position and amount.
 fn corresponding(net: &PlainNet, counts: &[u32], mode: u16, answer: Plain) -> Plain {
     if !matches!(answer.0, 12 | 13) {
         return answer;
     }
-    let breaks = |pair: usize| {
-        let (capacity, count) = (net.pairs[pair].0, counts[pair]);
-        let own = net.arcs.iter().find(|arc| (arc.mode, usize::from(arc.pair)) == (mode, pair));
-        own.is_some_and(|arc| count > arc.inhibitor || (capacity != OPEN && count + arc.post > capacity))
+    // An unbounded K or I is above every count.
+    let above = |arc: &PlainArc| {
+        let (capacity, count) = (net.pairs[usize::from(arc.pair)].0, counts[usize::from(arc.pair)]);
+        (count + arc.post).saturating_sub(capacity).max(count.saturating_sub(arc.inhibitor))
     };
-    let lowest = (0..counts.len()).find(|&pair| breaks(pair)).expect("12 or 13 is broken at some pair");
+    // Arcs rise by their pairs.
+    let own = net.arcs.iter().filter(|arc| arc.mode == mode);
+    let broken = own.map(|arc| (usize::from(arc.pair), above(arc))).find(|&(_, amount)| amount > 0);
+    let (lowest, amount) = broken.expect("12 or 13 is broken at some pair");
     let before = net.pairs[..lowest].iter().filter(|(capacity, _)| *capacity != OPEN).count();
-    (11, answer.1, (counts.len() + before) as u64)
+    (11, answer.1, (counts.len() + before) as u64, amount.into())
 }

@@ -93,8 +93,10 @@ pub struct Hits {
     runs: usize,
     whole: usize,
     longest: usize,
-    /// Values that are no numbers: yes, no, a mode named, none named; what a search for a marking found; what a text is of; by which of a net and its complement a step is accepted.
+    /// Values that are no numbers: yes, no, a mode named, none named; what a search for a marking found; what a text is of; by which of a net and its complement a step is accepted; that a complement refuses by more than its net.
     values: BTreeMap<&'static str, usize>,
+    /// Refusals by an amount above 1, by their number.
+    by_more: BTreeMap<u64, usize>,
 }
 
 impl Hits {
@@ -106,6 +108,10 @@ impl Hits {
         self.runs += 1;
         self.whole += usize::from(whole);
         self.longest = self.longest.max(accepted);
+    }
+
+    pub fn by_more(&mut self, number: u64) {
+        *self.by_more.entry(number).or_default() += 1;
     }
 
     pub fn value(&mut self, value: &'static str) {
@@ -147,9 +153,15 @@ impl Hits {
             "long",
             "step of both",
             "step without an inhibitor",
+            "by more in the complement",
         ] {
             if self.values.get(value).copied().unwrap_or(0) < ENOUGH {
                 wants.push(format!("the value '{value}' came up too rarely"));
+            }
+        }
+        for number in 11..=14 {
+            if self.by_more.get(&number).copied().unwrap_or(0) < ENOUGH {
+                wants.push(format!("{number} by more than 1 came up too rarely"));
             }
         }
         if 3 * self.whole < self.runs {
@@ -172,6 +184,9 @@ impl fmt::Display for Hits {
         }
         let values: Vec<String> = self.values.iter().map(|(value, hits)| format!("{value} {hits}")).collect();
         writeln!(f, "values: {}", values.join(", "))?;
+        let by_more: Vec<String> =
+            self.by_more.iter().map(|(number, hits)| format!("{number}:{hits}")).collect();
+        writeln!(f, "by more than 1: {}", by_more.join(" "))?;
         writeln!(
             f,
             "runs: {}, {} of them accepted whole, the longest of {} movements",

@@ -73,6 +73,17 @@ pub fn brim(random: &mut Random) -> PlainNet {
     }
 }
 
+/// The net with a K at every pair where an inhibitor is finite: 15 is not given.
+pub fn with_capacities(mut net: PlainNet) -> PlainNet {
+    for arc in net.arcs.iter().filter(|arc| arc.inhibitor != OPEN) {
+        let (capacity, count) = &mut net.pairs[usize::from(arc.pair)];
+        if *capacity == OPEN {
+            *capacity = 9.max(*count);
+        }
+    }
+    net
+}
+
 /// So many places for an arc, in rising order, spread over all modes and pairs.
 fn cells(
     random: &mut Random,

@@ -99,6 +99,8 @@ fn complements(same: &mut Same, random: &mut Random) {
     for most in [4, 16, 64] {
         let (net, style) = any_net(random);
         demand3::in_step(same, random, style, &net, most);
+        let net = limits::with_capacities(generator::net(random, Style::Small, 5, 4, 24));
+        demand3::in_step(same, random, Style::Small, &net, most);
     }
 }
 

@@ -7,18 +7,18 @@ use pnet::{Mode, Refusal};
 use crate::guarded;
 use crate::hits::{Call, Hits};
 
-/// Number, thing and position.
-pub type Plain = (u64, u64, u64);
+/// Number, thing, position and amount.
+pub type Plain = (u64, u64, u64, u64);
 
 fn told<V>(result: &Result<V, Refusal>) -> Plain {
     match result {
-        Ok(_) => (0, 0, 0),
-        Err(refusal) => (refusal.number(), refusal.thing() as u64, refusal.position()),
+        Ok(_) => (0, 0, 0, 0),
+        Err(refusal) => (refusal.number(), refusal.thing() as u64, refusal.position(), refusal.amount()),
     }
 }
 
 fn plain(answer: reference::Answer) -> Plain {
-    (answer.number.into(), answer.thing.into(), answer.position)
+    (answer.number.into(), answer.thing.into(), answer.position, answer.amount)
 }
 
 fn plain_of<V>(result: &Result<V, reference::Answer>) -> Plain {
@@ -55,6 +55,9 @@ impl Same {
             );
         }
         self.hits.told(call, answer.0, answer.1);
+        if answer.3 > 1 {
+            self.hits.by_more(answer.0);
+        }
     }
 
     /// A reader: the bytes after the sheet are those that the reference's count leaves.
@@ -230,7 +233,7 @@ impl Same {
             _ => "text of a whole run",
         });
         let (reference, length) =
-            if room < pnet::TEXT_ROOM { ((10, 0, 0), None) } else { ((0, 0, 0), Some(expected.len())) };
+            if room < pnet::TEXT_ROOM { ((10, 0, 0, 0), None) } else { ((0, 0, 0, 0), Some(expected.len())) };
         expected.truncate(length.unwrap_or(0));
         expected.resize(room, 170);
         self.hold(

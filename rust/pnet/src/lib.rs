@@ -34,12 +34,12 @@
 //! assert_eq!(ran.accepted, 3);
 //! assert_eq!(marking, [0, 3]);
 //! let refusal = ran.result.unwrap_err();
-//! assert_eq!((refusal.fault(), refusal.pair()), (Fault::Lacking, Some(Pair(0))));
-//! assert_eq!(refusal.to_string(), "11: pair 0 holds too few");
+//! assert_eq!((refusal.fault(), refusal.pair(), refusal.amount()), (Fault::Lacking, Some(Pair(0)), 1));
+//! assert_eq!(refusal.to_string(), "11: pair 0 holds 1 too few");
 //!
 //! let (input, mut text) = ([&net[..], &weights, &movements].concat(), vec![0; pnet::TEXT_ROOM]);
 //! let length = pnet::statement(&input, &mut text)?;
-//! assert_eq!(&text[..length], b"start 750\n1 0 0 500\n2 0 0 250\n3 0 0 0\nrefused 4 0 11 0\nend 3 0\n");
+//! assert_eq!(&text[..length], b"start 750\n1 0 0 500\n2 0 0 250\n3 0 0 0\nrefused 4 0 11 0 1\nend 3 0\n");
 //! # Ok::<(), pnet::Refusal>(())
 //! ```
 

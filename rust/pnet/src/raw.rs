@@ -13,6 +13,7 @@ pub struct Answer {
     number: u64,
     thing: u64,
     position: u64,
+    amount: u64,
 }
 
 #[repr(C)]
@@ -30,7 +31,7 @@ pub struct Named {
 }
 
 unsafe extern "C" {
-    fn pnet_abi_1() -> u64;
+    fn pnet_abi_2() -> u64;
     pub fn pnet_size(net: *const u8, net_length: usize) -> With<Size>;
     pub fn pnet_read_net(bytes: *const u8, length: usize) -> With<u64>;
     pub fn pnet_read_weights(bytes: *const u8, length: usize, pairs: usize) -> With<u64>;
@@ -117,13 +118,13 @@ impl Answer {
     /// Things are 0 to 3, and a wrong length is at a byte of its sheet or just after it: the contract of each call.
     pub fn result(self, given: Sheets) -> Result<(), Refusal> {
         // The structs above are those of one version: an archive of another does not link.
-        black_box(pnet_abi_1 as unsafe extern "C" fn() -> u64);
+        black_box(pnet_abi_2 as unsafe extern "C" fn() -> u64);
         if self.number == 0 {
             return Ok(());
         }
         let thing = Thing::ALL[self.thing as usize];
         let fault = Fault::of(self.number, || given.length(thing, self.position as usize));
-        Err(Refusal::new(fault, thing, self.position))
+        Err(Refusal::new(fault, thing, self.position, self.amount))
     }
 }
 

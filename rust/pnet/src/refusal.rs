@@ -5,17 +5,18 @@ use std::fmt;
 use crate::fault::{Fault, Length};
 use crate::kinds::{Pair, Thing};
 
-/// Why a call was refused: what is wrong, in which thing and where. It prints in words.
+/// Why a call was refused: what is wrong, in which thing, where and by how much. It prints in words.
 #[derive(Clone, Copy, Debug, PartialEq, Eq, Hash)]
 pub struct Refusal {
     fault: Fault,
     thing: Thing,
     position: u64,
+    amount: u64,
 }
 
 impl Refusal {
-    pub(crate) fn new(fault: Fault, thing: Thing, position: u64) -> Refusal {
-        Refusal { fault, thing, position }
+    pub(crate) fn new(fault: Fault, thing: Thing, position: u64, amount: u64) -> Refusal {
+        Refusal { fault, thing, position, amount }
     }
 
     /// What is wrong.
@@ -36,6 +37,12 @@ impl Refusal {
     /// The position of the table: a pair's number, the offset of a byte in its sheet, or 0.
     pub fn position(&self) -> u64 {
         self.position
+    }
+
+    /// How many tokens are lacking at the pair (11), over its capacity (12), over the inhibitor (13) or over 1,000,000 (14); 0 for
+    /// every other number.
+    pub fn amount(&self) -> u64 {
+        self.amount
     }
 
     /// The pair at fault, where the position is one.
@@ -66,7 +73,7 @@ impl std::error::Error for Refusal {}
 
 impl fmt::Display for Refusal {
     fn fmt(&self, f: &mut fmt::Formatter) -> fmt::Result {
-        let at = self.position;
+        let (at, amount) = (self.position, self.amount);
         write!(f, "{}: ", self.number())?;
         match (self.fault, self.thing) {
             (Fault::CutShort, thing) => write!(f, "the {thing} sheet is cut short"),
@@ -102,10 +109,14 @@ impl fmt::Display for Refusal {
                     "what is to be written exceeds the room for it, or a complement the limits of a sheet"
                 )
             }
-            (Fault::Lacking, _) => write!(f, "pair {at} holds too few"),
-            (Fault::OverCapacity, _) => write!(f, "pair {at} has no capacity for what is added"),
-            (Fault::Inhibited, _) => write!(f, "pair {at} holds more than the inhibitor allows"),
-            (Fault::OverLimit, _) => write!(f, "pair {at} would hold more than 1,000,000"),
+            (Fault::Lacking, _) => write!(f, "pair {at} holds {amount} too few"),
+            (Fault::OverCapacity, _) => {
+                write!(f, "pair {at} with what is added is {amount} over the capacity")
+            }
+            (Fault::Inhibited, _) => write!(f, "pair {at} holds {amount} over the inhibitor"),
+            (Fault::OverLimit, _) => {
+                write!(f, "pair {at} would hold {amount} over the counter's limit, 1,000,000")
+            }
             (Fault::InhibitedUnbounded, _) => {
                 write!(f, "the arc at byte {at} inhibits a pair of unbounded capacity")
             }

@@ -94,12 +94,29 @@ fn of_a_marking_and_a_mode() {
     says(test(&plain, &[1_000_001, 0], Mode(0)), "5: pair 0 holds more than 1,000,000");
     says(test(&plain, &[6, 0], Mode(0)), "9: pair 0 holds more than its capacity");
     says(test(&plain, &[0, 0], Mode(1)), "6: the mode is not there");
-    says(test(&plain, &[0, 0], Mode(0)), "11: pair 0 holds too few");
-    says(test(&plain, &[5, 0], Mode(0)), "13: pair 0 holds more than the inhibitor allows");
-    says(test(&plain, &[1, 1_000_000], Mode(0)), "14: pair 1 would hold more than 1,000,000");
+    says(test(&plain, &[0, 0], Mode(0)), "11: pair 0 holds 1 too few");
+    says(test(&plain, &[5, 0], Mode(0)), "13: pair 0 holds 1 over the inhibitor");
+    says(
+        test(&plain, &[1, 1_000_000], Mode(0)),
+        "14: pair 1 would hold 1 over the counter's limit, 1,000,000",
+    );
     let full = net(&[(5, 5)], &[arc(0, 0, 1, 1, OPEN)]);
-    says(test(&full, &[5], Mode(0)), "12: pair 0 has no capacity for what is added");
+    says(test(&full, &[5], Mode(0)), "12: pair 0 with what is added is 1 over the capacity");
     says(certify(&plain, &movements(&[0]), &[3, 1]), "18: pair 0 ends at another count than is claimed");
+}
+
+#[test]
+fn of_an_amount_above_1() {
+    let one = |pair: (u32, u32), arc| net(&[(5, 3), pair], &[arc]);
+    says(test(&one((9, 2), arc(0, 1, 9, 0, OPEN)), &[3, 2], Mode(0)), "11: pair 1 holds 7 too few");
+    let over = one((10, 3), arc(0, 1, 3, 9, 3));
+    says(fire(&over, &mut [3, 3], Mode(0)), "12: pair 1 with what is added is 2 over the capacity");
+    let inhibited = one((9, 7), arc(0, 1, 1, 2, 4));
+    says(certify(&inhibited, &movements(&[0]), &[3, 7]), "13: pair 1 holds 3 over the inhibitor");
+    let limit = run(&one((OPEN, 0), arc(0, 1, 1, 6, OPEN)), &movements(&[0]), &mut [3, 999_999]).result;
+    says(limit, "14: pair 1 would hold 4 over the counter's limit, 1,000,000");
+    assert_eq!(limit.unwrap_err().amount(), 4);
+    assert_eq!(test(&example(), &[6, 0], Mode(0)).unwrap_err().amount(), 0);
 }
 
 #[test]
@@ -109,8 +126,8 @@ fn of_a_step() {
     says(test_step(&plain, &[3, 0], &[]), "4: the step has no mode, or more than 64");
     says(test_step(&plain, &[3, 0], &[Mode(0); 65]), "4: the step has no mode, or more than 64");
     says(fire_step(&plain, &mut [3, 0], &[Mode(0), Mode(1)]), "6: the mode is not there");
-    says(fire_step(&plain, &mut [3, 0], &[Mode(0); 4]), "11: pair 0 holds too few");
-    says(test_step(&plain, &[5, 0], &once), "13: pair 0 holds more than the inhibitor allows");
+    says(fire_step(&plain, &mut [3, 0], &[Mode(0); 9]), "11: pair 0 holds 6 too few");
+    says(test_step(&plain, &[5, 0], &once), "13: pair 0 holds 1 over the inhibitor");
     let mut marking = [3, 0];
     assert_eq!((fire_step(&plain, &mut marking, &[Mode(0); 3]), marking), (Ok(()), [0, 3]));
 }

@@ -1,4 +1,5 @@
-//! "Every answer carries the number, which thing was at fault and a position."
+//! "Every answer carries the number, which thing was at fault and a position"; "every answer now carries
+//! this amount, 0 for all other numbers".
 
 /// What a call answers.
 #[derive(Clone, Copy, Debug, PartialEq, Eq)]
@@ -9,6 +10,9 @@ pub struct Answer {
     pub thing: u8,
     /// An offset, a pair or 0, as the table says.
     pub position: u64,
+    /// "How many tokens are lacking (11), over capacity (12), over the inhibitor (13) or over the counter's
+    /// limit (14) at the named pair"; 0 for every other number.
+    pub amount: u64,
 }
 
 /// Which thing was at fault.
@@ -67,11 +71,16 @@ pub enum Refusal {
 
 impl Answer {
     /// "0 | accepted | 0"
-    pub const ACCEPTED: Answer = Answer { number: 0, thing: 0, position: 0 };
+    pub const ACCEPTED: Answer = Answer { number: 0, thing: 0, position: 0, amount: 0 };
 
-    /// A refusal of a thing at a position.
+    /// A refusal of a thing at a position, by no amount.
     pub fn refused(refusal: Refusal, thing: Thing, position: usize) -> Answer {
-        Answer { number: refusal as u32, thing: thing as u8, position: position as u64 }
+        Answer { number: refusal as u32, thing: thing as u8, position: position as u64, amount: 0 }
+    }
+
+    /// The same refusal by an amount.
+    pub fn by(self, amount: u32) -> Answer {
+        Answer { amount: amount.into(), ..self }
     }
 
     /// The answer of a call whose value is there only where it was accepted.

@@ -27,9 +27,14 @@ impl Bound {
 
     /// Whether a number is above the bound; nothing is above an unbounded one.
     pub fn is_below(self, number: u32) -> bool {
+        self.passed_by(number).is_some()
+    }
+
+    /// How much a number is above the bound, where it is.
+    pub fn passed_by(self, number: u32) -> Option<u32> {
         match self {
-            Bound::Finite(most) => number > most,
-            Bound::Unbounded => false,
+            Bound::Finite(most) if number > most => Some(number - most),
+            _ => None,
         }
     }
 

@@ -2,6 +2,7 @@
 
 use crate::answer::{Answer, Refusal, Thing};
 use crate::arc::Flow;
+use crate::bound::Bound;
 use crate::kinds::Mode;
 use crate::limits::LARGEST;
 use crate::marking::check_marking;
@@ -44,18 +45,20 @@ pub fn next_marking(net: &Net, marking: &[u32], mode: Mode, thing: Thing) -> Res
 }
 
 /// The marking M - Pre + Post by the Pre, Post and I of one mode, or summed over a step: "11 over all
-/// pairs, 12, 13, 14".
+/// pairs, 12, 13, 14", each with its amount at the lowest pair that breaks it.
 pub fn next_by(net: &Net, marking: &[u32], flows: &[Flow], thing: Thing) -> Result<Vec<u32>, Answer> {
     // Pre is at most M once 11 is passed over, so M - Pre + Post is never below zero.
     let new_count = |p: usize| marking[p] - flows[p].pre + flows[p].post;
     let pairs = || 0..net.pair_count();
-    let refuse_at = |refusal, lowest: Option<usize>| match lowest {
-        Some(pair) => Err(Answer::refused(refusal, thing, pair)),
+    let refuse = |refusal, amount: &dyn Fn(usize) -> Option<u32>| match pairs()
+        .find_map(|pair| Some((pair, amount(pair)?)))
+    {
+        Some((pair, amount)) => Err(Answer::refused(refusal, thing, pair).by(amount)),
         None => Ok(()),
     };
-    refuse_at(Refusal::Pre, pairs().find(|&p| flows[p].pre > marking[p]))?;
-    refuse_at(Refusal::Post, pairs().find(|&p| net.capacity[p].is_below(marking[p] + flows[p].post)))?;
-    refuse_at(Refusal::Inhibitor, pairs().find(|&p| flows[p].inhibitor.is_below(marking[p])))?;
-    refuse_at(Refusal::NewCount, pairs().find(|&p| new_count(p) > LARGEST))?;
+    refuse(Refusal::Pre, &|p| Bound::Finite(marking[p]).passed_by(flows[p].pre))?;
+    refuse(Refusal::Post, &|p| net.capacity[p].passed_by(marking[p] + flows[p].post))?;
+    refuse(Refusal::Inhibitor, &|p| flows[p].inhibitor.passed_by(marking[p]))?;
+    refuse(Refusal::NewCount, &|p| Bound::Finite(LARGEST).passed_by(new_count(p)))?;
     Ok(pairs().map(new_count).collect())
 }

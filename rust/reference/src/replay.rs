@@ -50,9 +50,9 @@ fn lines(net: &Net, weights: &[i32], movements: &[Mode]) -> String {
                 accepted += 1;
                 text += &format!("{} {} 0 {}\n", accepted, mode.0, figure_of(weights, &marking));
             }
-            Err(answer) => {
-                text +=
-                    &format!("refused {} {} {} {}\n", accepted + 1, mode.0, answer.number, answer.position);
+            Err(Answer { number, position, amount, .. }) => {
+                // "A fifth field of a `refused` line": the amount.
+                text += &format!("refused {} {} {number} {position} {amount}\n", accepted + 1, mode.0);
                 break;
             }
         }

@@ -23,8 +23,8 @@ fn tried(net: &[u8], count: u32) -> Result<u32, Answer> {
     Err(answer)
 }
 
-fn no(number: u32) -> Result<u32, Answer> {
-    Err(refused(number, ARGUMENT, 0))
+fn no(number: u32, amount: u64) -> Result<u32, Answer> {
+    Err(short(number, ARGUMENT, 0, amount))
 }
 
 /// Pre and Post of the last arc of the one-pair net's complement.
@@ -42,32 +42,32 @@ fn complement_arc(net: &[u8]) -> (u32, u32) {
 #[test]
 fn post_up_to_the_capacity() {
     assert_eq!(tried(&one(5, 0, 1, OPEN), 4), Ok(5));
-    assert_eq!(tried(&one(5, 0, 1, OPEN), 5), no(12));
+    assert_eq!(tried(&one(5, 0, 1, OPEN), 5), no(12, 1));
 }
 
 #[test]
 fn pre_is_not_taken_off_before_the_capacity_test() {
-    assert_eq!(tried(&one(5, 1, 1, OPEN), 5), no(12));
+    assert_eq!(tried(&one(5, 1, 1, OPEN), 5), no(12, 1));
     assert_eq!(tried(&one(5, 1, 1, OPEN), 4), Ok(4));
 }
 
 #[test]
 fn a_count_equal_to_i_is_allowed() {
     assert_eq!(tried(&one(5, 1, 0, 4), 4), Ok(3));
-    assert_eq!(tried(&one(5, 1, 0, 4), 5), no(13));
+    assert_eq!(tried(&one(5, 1, 0, 4), 5), no(13, 1));
 }
 
 #[test]
 fn i_zero_at_count_zero() {
     assert_eq!(tried(&one(5, 0, 0, 0), 0), Ok(0));
-    assert_eq!(tried(&one(5, 0, 0, 0), 1), no(13));
+    assert_eq!(tried(&one(5, 0, 0, 0), 1), no(13, 1));
     assert_eq!(tried(&one(OPEN, 0, 1, 0), 0), Ok(1));
 }
 
 #[test]
 fn new_counts_end_at_a_million() {
     assert_eq!(tried(&one(OPEN, 0, 1, OPEN), 999_999), Ok(1_000_000));
-    assert_eq!(tried(&one(OPEN, 0, 1, OPEN), 1_000_000), no(14));
+    assert_eq!(tried(&one(OPEN, 0, 1, OPEN), 1_000_000), no(14, 1));
     assert_eq!(tried(&one(OPEN, 1, 1, OPEN), 1_000_000), Ok(1_000_000));
 }
 
@@ -75,7 +75,7 @@ fn new_counts_end_at_a_million() {
 fn post_above_the_capacity_is_never_enabled() {
     let net = one(5, 0, 6, OPEN);
     for count in 0..=5 {
-        assert_eq!(tried(&net, count), no(12));
+        assert_eq!(tried(&net, count), no(12, u64::from(count) + 1));
     }
     assert_eq!(complement_arc(&net), (6, 0));
     assert_eq!(is_dead(&net, 0), Ok(true));
@@ -93,7 +93,7 @@ fn complement_numbers_end_at_a_million() {
 
 #[test]
 fn pre_comes_before_the_inhibitor() {
-    assert_eq!(tried(&one(5, 2, 0, 0), 1), no(11));
+    assert_eq!(tried(&one(5, 2, 0, 0), 1), no(11, 1));
 }
 
 #[test]

@@ -9,7 +9,7 @@ use support::*;
 #[test]
 fn replay_prints_the_example_text() {
     let input = input(&example().sheet(), &example_weights(), &example_movements());
-    let text = "start 750\n1 0 0 500\n2 0 0 250\n3 0 0 0\nrefused 4 0 11 0\nend 3 0\n";
+    let text = "start 750\n1 0 0 500\n2 0 0 250\n3 0 0 0\nrefused 4 0 11 0 1\nend 3 0\n";
     assert_eq!(replay(&input), text.as_bytes());
 }
 
@@ -60,7 +60,7 @@ fn the_simple_inhibitor_example_of_source_000_complements_as_figure_6_6() {
 fn running_the_example_stops_at_the_fourth_movement() {
     let mut marking = [3, 0];
     let (accepted, answer) = run(&example().sheet(), &example_movements(), &mut marking);
-    assert_eq!((accepted, answer), (3, refused(11, MOVEMENTS, 0)));
+    assert_eq!((accepted, answer), (3, short(11, MOVEMENTS, 0, 1)));
     assert_eq!(marking, [0, 3]);
 }
 

@@ -154,7 +154,7 @@ fn a_marking_pair_by_pair_5_before_9_then_the_mode() {
     assert_eq!(answer(&[5, 1_000_001], 7), refused(5, ARGUMENT, 1));
     assert_eq!(answer(&[5, 6], 7), refused(9, ARGUMENT, 1));
     assert_eq!(answer(&[5, 5], 7), refused(6, ARGUMENT, 0));
-    assert_eq!(answer(&[5, 5], 0), refused(11, ARGUMENT, 0));
+    assert_eq!(answer(&[5, 5], 0), short(11, ARGUMENT, 0, 4));
 }
 
 #[test]
@@ -163,18 +163,18 @@ fn in_a_mode_11_over_all_pairs_then_12_13_and_14() {
     let answer = |arcs: &[PlainArc]| {
         let net = PlainNet::plain(1, &[(OPEN, 0), (5, 0), (5, 0), (OPEN, 0)], arcs);
         let answer = test(&net.sheet(), &[full, 5, 1, full], 0);
-        (answer.number, answer.position)
+        (answer.number, answer.position, answer.amount)
     };
     let new_count = arc(0, 0, 0, 1, OPEN);
     let inhibitor = arc(0, 1, 0, 0, 4);
     let post = arc(0, 2, 1, 5, 0);
     let pre = arc(0, 3, full, full, OPEN);
     let above = PlainArc { pre: full, ..arc(0, 2, 0, 0, OPEN) };
-    assert_eq!(answer(&[new_count, inhibitor, above, pre]), (11, 2));
-    assert_eq!(answer(&[new_count, inhibitor, post, pre]), (12, 2));
-    assert_eq!(answer(&[new_count, inhibitor, pre]), (13, 1));
-    assert_eq!(answer(&[new_count, pre]), (14, 0));
-    assert_eq!(answer(&[pre]), (0, 0));
+    assert_eq!(answer(&[new_count, inhibitor, above, pre]), (11, 2, 999_999));
+    assert_eq!(answer(&[new_count, inhibitor, post, pre]), (12, 2, 1));
+    assert_eq!(answer(&[new_count, inhibitor, pre]), (13, 1, 1));
+    assert_eq!(answer(&[new_count, pre]), (14, 0, 1));
+    assert_eq!(answer(&[pre]), (0, 0, 0));
 }
 
 #[test]
@@ -185,7 +185,7 @@ fn a_certificate_net_movements_17_the_run_18() {
     assert_eq!(certify(&net, &list[1..], &[]), refused(1, MOVEMENTS, 0));
     assert_eq!(certify(&net, &list, &[]), refused(17, ARGUMENT, 0));
     assert_eq!(certify(&net, &list, &[OPEN, OPEN]), refused(6, MOVEMENTS, 0));
-    assert_eq!(certify(&net, &example_movements(), &[OPEN, OPEN]), refused(11, MOVEMENTS, 0));
+    assert_eq!(certify(&net, &example_movements(), &[OPEN, OPEN]), short(11, MOVEMENTS, 0, 1));
     assert_eq!(certify(&net, &movements(&[0]), &[OPEN, OPEN]), refused(18, ARGUMENT, 0));
 }
 
@@ -193,7 +193,7 @@ fn a_certificate_net_movements_17_the_run_18() {
 fn a_movement_that_is_not_there_is_met_when_the_run_reaches_it() {
     let net = example().sheet();
     let mut marking = [1, 0];
-    assert_eq!(run(&net, &movements(&[0, 0, 9]), &mut marking), (1, refused(11, MOVEMENTS, 0)));
+    assert_eq!(run(&net, &movements(&[0, 0, 9]), &mut marking), (1, short(11, MOVEMENTS, 0, 1)));
     assert_eq!(run(&net, &movements(&[9, 0]), &mut marking), (0, refused(6, MOVEMENTS, 0)));
     assert_eq!(marking, [0, 1]);
 }
@@ -231,5 +231,5 @@ fn replay_tests_all_sheets_before_it_starts() {
     assert_eq!(print(&[&net, &w, &bad_m]), "bad 2 2 4\n");
     assert_eq!(print(&[&net, &w, &bad_m, &[1]]), "bad 2 2 4\n");
     assert_eq!(print(&[&net, &w, &m, &[1]]), "bad 2 3 7\n");
-    assert_eq!(print(&[&net, &w, &m]), "start 750\nrefused 1 9 6 0\nend 0 750\n");
+    assert_eq!(print(&[&net, &w, &m]), "start 750\nrefused 1 9 6 0 0\nend 0 750\n");
 }

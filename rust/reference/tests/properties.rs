@@ -48,7 +48,7 @@ fn a_run_is_its_movements_fired_one_by_one() {
             assert_eq!(accepted as usize, list.len());
         } else if let Some(&mode) = list.get(accepted as usize) {
             let alone = fire(&sheet, &mut fired, mode);
-            assert_eq!((alone.number, alone.position), (answer.number, answer.position));
+            assert_eq!(Answer { thing: answer.thing, ..alone }, answer);
             assert_eq!(fired, ran);
         }
     }
@@ -121,18 +121,20 @@ fn complement_pairs(net: &PlainNet) -> Vec<Option<usize>> {
     net.pairs.iter().map(number).collect()
 }
 
-/// "11, 12 and 13 in the net become 11 in its complement; 6 and 14 stay."
+/// "11, 12 and 13 in the net become 11 in its complement; 6 and 14 stay." 12 and 13 become 11 by the larger of
+/// the two amounts at the lowest pair that breaks either.
 fn correspond(net: &PlainNet, counts: &[u32], mode: u16, answer: Answer) -> Answer {
     if !matches!(answer.number, 12 | 13) {
         return answer;
     }
-    let breaks = |arc: &&build::PlainArc| {
+    let amount = |arc: &build::PlainArc| {
         let (capacity, count) = (net.pairs[arc.pair as usize].0, counts[arc.pair as usize]);
-        arc.mode == mode && (count > arc.inhibitor || (capacity != OPEN && count + arc.post > capacity))
+        (count + arc.post).saturating_sub(capacity).max(count.saturating_sub(arc.inhibitor))
     };
-    let lowest = net.arcs.iter().find(breaks).unwrap().pair as usize;
-    let position = complement_pairs(net)[lowest].unwrap() as u64;
-    Answer { number: 11, position, ..answer }
+    let breaks = |arc: &&build::PlainArc| arc.mode == mode && amount(arc) > 0;
+    let lowest = net.arcs.iter().find(breaks).unwrap();
+    let position = complement_pairs(net)[lowest.pair as usize].unwrap() as u64;
+    Answer { number: 11, position, amount: amount(lowest).into(), ..answer }
 }
 
 #[test]

@@ -337,40 +337,41 @@ fn three(capacity: u32, flows: [(u32, u32, u32); 3]) -> Vec<u8> {
 }
 
 /// Test and fire name an argument, run and certificate a movement; nothing is written.
-fn all_name(net: &[u8], number: u32, pair: u64, count: u32) {
-    let mut counts = [count; 3];
-    assert_eq!(test(net, &counts, 0), refused(number, ARGUMENT, pair));
-    assert_eq!(fire(net, &mut counts, 0), refused(number, ARGUMENT, pair));
-    assert_eq!(run(net, &movements(&[0]), &mut counts), (0, refused(number, MOVEMENTS, pair)));
-    assert_eq!(counts, [count; 3]);
+fn all_name(net: &[u8], number: u32, pair: u64, amount: u64) {
+    let mut counts = [2; 3];
+    assert_eq!(test(net, &counts, 0), short(number, ARGUMENT, pair, amount));
+    assert_eq!(fire(net, &mut counts, 0), short(number, ARGUMENT, pair, amount));
+    assert_eq!(fire_step(net, &mut counts, &[0]), short(number, ARGUMENT, pair, amount));
+    assert_eq!(run(net, &movements(&[0]), &mut counts), (0, short(number, MOVEMENTS, pair, amount)));
+    assert_eq!(certify(net, &movements(&[0]), &counts), short(number, MOVEMENTS, pair, amount));
+    assert_eq!(counts, [2; 3]);
 }
 
 #[test]
 fn number_11_pre_above_the_count() {
-    let net = three(5, [(2, 0, 5), (3, 0, 5), (4, 0, 5)]);
-    all_name(&net, 11, 1, 2);
-    assert_eq!(certify(&net, &movements(&[0]), &[2, 2, 2]), refused(11, MOVEMENTS, 1));
+    all_name(&three(5, [(2, 0, 5), (3, 0, 5), (4, 0, 5)]), 11, 1, 1);
+    all_name(&three(5, [(2, 0, 5), (2, 0, 5), (9, 0, 5)]), 11, 2, 7);
+    all_name(&three(5, [(1_000_000, 0, 5), (3, 0, 5), (4, 0, 5)]), 11, 0, 999_998);
 }
 
 #[test]
 fn number_12_count_plus_post_above_the_capacity() {
-    let net = three(5, [(0, 3, 5), (2, 4, 5), (0, 4, 5)]);
-    all_name(&net, 12, 1, 2);
-    assert_eq!(certify(&net, &movements(&[0]), &[2, 2, 2]), refused(12, MOVEMENTS, 1));
+    // Pre is not taken off: 2 and 4 are 6.
+    all_name(&three(5, [(0, 3, 5), (2, 4, 5), (0, 9, 5)]), 12, 1, 1);
+    all_name(&three(5, [(0, 3, 5), (2, 3, 5), (0, 9, 5)]), 12, 2, 6);
+    all_name(&three(5, [(0, 1_000_000, 5), (2, 3, 5), (0, 9, 5)]), 12, 0, 999_997);
 }
 
 #[test]
 fn number_13_count_above_the_inhibitor() {
-    let net = three(5, [(0, 0, 2), (0, 0, 1), (0, 0, 0)]);
-    all_name(&net, 13, 1, 2);
-    assert_eq!(certify(&net, &movements(&[0]), &[2, 2, 2]), refused(13, MOVEMENTS, 1));
+    all_name(&three(5, [(0, 0, 2), (0, 0, 1), (0, 0, 0)]), 13, 1, 1);
+    all_name(&three(5, [(0, 0, 2), (1, 1, 2), (1, 1, 0)]), 13, 2, 2);
 }
 
 #[test]
 fn number_14_new_count_above_a_million() {
-    let net = three(OPEN, [(2, 1_000_000, OPEN), (1, 1_000_000, OPEN), (0, 1_000_000, OPEN)]);
-    all_name(&net, 14, 1, 2);
-    assert_eq!(certify(&net, &movements(&[0]), &[2, 2, 2]), refused(14, MOVEMENTS, 1));
+    all_name(&three(OPEN, [(2, 1_000_000, OPEN), (1, 1_000_000, OPEN), (0, 1_000_000, OPEN)]), 14, 1, 1);
+    all_name(&three(OPEN, [(2, 1_000_000, OPEN), (2, 1_000_000, OPEN), (0, 1_000_000, OPEN)]), 14, 2, 2);
 }
 
 #[test]

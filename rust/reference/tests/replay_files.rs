@@ -19,5 +19,5 @@ fn each_input_prints_its_text() {
             compared += 1;
         }
     }
-    assert!(compared >= 19, "only {compared} inputs");
+    assert!(compared >= 23, "only {compared} inputs");
 }

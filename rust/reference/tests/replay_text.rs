@@ -55,12 +55,12 @@ fn a_negative_figure_has_a_minus_sign() {
 }
 
 #[test]
-fn a_refused_movement_names_its_pair() {
+fn a_refused_movement_names_its_pair_and_its_amount() {
     let arcs = [arc(0, 1, 0, 1, OPEN), arc(1, 0, 0, 1, OPEN), arc(1, 1, 0, 2, OPEN), arc(2, 1, 0, 0, 1)];
     let net = PlainNet::plain(4, &[(OPEN, 1_000_000), (3, 1)], &arcs).sheet();
     let text = |list: &[u16]| print(&input(&net, &weights(&[0, 10]), &movements(list)));
-    assert_eq!(text(&[3, 0, 2]), "start 10\n1 3 0 10\n2 0 0 20\nrefused 3 2 13 1\nend 2 20\n");
-    assert_eq!(text(&[0, 1]), "start 10\n1 0 0 20\nrefused 2 1 12 1\nend 1 20\n");
-    assert_eq!(text(&[1]), "start 10\nrefused 1 1 14 0\nend 0 10\n");
-    assert_eq!(text(&[2, 4, 0]), "start 10\n1 2 0 10\nrefused 2 4 6 0\nend 1 10\n");
+    assert_eq!(text(&[3, 0, 2]), "start 10\n1 3 0 10\n2 0 0 20\nrefused 3 2 13 1 1\nend 2 20\n");
+    assert_eq!(text(&[0, 1]), "start 10\n1 0 0 20\nrefused 2 1 12 1 1\nend 1 20\n");
+    assert_eq!(text(&[1]), "start 10\nrefused 1 1 14 0 1\nend 0 10\n");
+    assert_eq!(text(&[2, 4, 0]), "start 10\n1 2 0 10\nrefused 2 4 6 0 0\nend 1 10\n");
 }

@@ -21,8 +21,13 @@ fn tried(net: &[u8], counts: &[u32], modes: &[u16]) -> Result<Vec<u32>, Answer> 
     Err(answer)
 }
 
-fn no<V>(number: u32, pair: u64) -> Result<V, Answer> {
-    Err(refused(number, ARGUMENT, pair))
+fn no<V>(number: u32, position: u64) -> Result<V, Answer> {
+    Err(refused(number, ARGUMENT, position))
+}
+
+/// Refused at a pair, by an amount over the sums.
+fn by<V>(number: u32, pair: u64, amount: u64) -> Result<V, Answer> {
+    Err(short(number, ARGUMENT, pair, amount))
 }
 
 /// Two pairs of capacity K and two modes with these arcs.
@@ -55,12 +60,13 @@ fn number_6_a_member_that_is_not_there() {
 fn number_11_summed_pre_above_the_count() {
     let net = two(5, &[arc(0, 1, 2, 0, OPEN), arc(1, 1, 1, 0, OPEN)]);
     assert_eq!(tried(&net, &[0, 3], &[0, 1]), Ok(vec![0, 0]));
-    assert_eq!(tried(&net, &[0, 2], &[0, 1]), no(11, 1));
+    assert_eq!(tried(&net, &[0, 2], &[0, 1]), by(11, 1, 1));
     assert_eq!(tried(&net, &[0, 4], &[0, 0]), Ok(vec![0, 0]));
-    assert_eq!(tried(&net, &[0, 3], &[0, 0]), no(11, 1));
+    assert_eq!(tried(&net, &[0, 3], &[0, 0]), by(11, 1, 1));
+    assert_eq!(tried(&net, &[0, 1], &[0, 1, 0, 1]), by(11, 1, 5));
     // What one member gives, another cannot take in the same step.
     let net = two(5, &[arc(0, 1, 0, 1, OPEN), arc(1, 1, 1, 0, OPEN)]);
-    assert_eq!(tried(&net, &[0, 0], &[0, 1]), no(11, 1));
+    assert_eq!(tried(&net, &[0, 0], &[0, 1]), by(11, 1, 1));
     assert_eq!(tried(&net, &[0, 1], &[0, 1]), Ok(vec![0, 1]));
 }
 
@@ -68,12 +74,13 @@ fn number_11_summed_pre_above_the_count() {
 fn number_12_count_plus_summed_post_above_the_capacity() {
     let net = two(5, &[arc(0, 1, 0, 2, OPEN), arc(1, 1, 0, 1, OPEN)]);
     assert_eq!(tried(&net, &[5, 2], &[0, 1]), Ok(vec![5, 5]));
-    assert_eq!(tried(&net, &[5, 3], &[0, 1]), no(12, 1));
+    assert_eq!(tried(&net, &[5, 3], &[0, 1]), by(12, 1, 1));
     assert_eq!(tried(&net, &[5, 1], &[0, 0]), Ok(vec![5, 5]));
-    assert_eq!(tried(&net, &[5, 2], &[0, 0]), no(12, 1));
+    assert_eq!(tried(&net, &[5, 2], &[0, 0]), by(12, 1, 1));
+    assert_eq!(tried(&net, &[5, 2], &[0, 1, 0, 1]), by(12, 1, 3));
     // Even where another member frees the room.
     let net = two(5, &[arc(0, 1, 1, 0, OPEN), arc(1, 1, 0, 1, OPEN)]);
-    assert_eq!(tried(&net, &[0, 5], &[0, 1]), no(12, 1));
+    assert_eq!(tried(&net, &[0, 5], &[0, 1]), by(12, 1, 1));
     assert_eq!(tried(&net, &[0, 4], &[0, 1]), Ok(vec![0, 4]));
 }
 
@@ -81,13 +88,14 @@ fn number_12_count_plus_summed_post_above_the_capacity() {
 fn number_13_count_above_the_least_inhibitor() {
     let net = two(5, &[arc(0, 1, 0, 0, 3), arc(1, 1, 1, 0, 2)]);
     assert_eq!(tried(&net, &[5, 2], &[0, 1, 0]), Ok(vec![5, 1]));
-    assert_eq!(tried(&net, &[5, 3], &[0, 1, 0]), no(13, 1));
+    assert_eq!(tried(&net, &[5, 3], &[0, 1, 0]), by(13, 1, 1));
     assert_eq!(tried(&net, &[5, 3], &[0, 0]), Ok(vec![5, 3]));
-    assert_eq!(tried(&net, &[5, 4], &[0, 0]), no(13, 1));
+    assert_eq!(tried(&net, &[5, 4], &[0, 0]), by(13, 1, 1));
+    assert_eq!(tried(&net, &[5, 5], &[0, 1]), by(13, 1, 3));
     // A member without an arc there counts as unbounded.
     let net = two(5, &[arc(0, 1, 0, 0, 3), arc(1, 0, 1, 0, OPEN)]);
     assert_eq!(tried(&net, &[5, 3], &[1, 0]), Ok(vec![4, 3]));
-    assert_eq!(tried(&net, &[5, 4], &[1, 0]), no(13, 1));
+    assert_eq!(tried(&net, &[5, 4], &[1, 0]), by(13, 1, 1));
     assert_eq!(tried(&net, &[5, 4], &[1, 1]), Ok(vec![3, 4]));
 }
 
@@ -95,21 +103,22 @@ fn number_13_count_above_the_least_inhibitor() {
 fn number_14_the_new_count_above_a_million() {
     let net = two(OPEN, &[arc(0, 1, 0, 1, OPEN), arc(1, 1, 1, 0, OPEN)]);
     assert_eq!(tried(&net, &[9, 999_998], &[0, 0]), Ok(vec![9, 1_000_000]));
-    assert_eq!(tried(&net, &[9, 999_999], &[0, 0]), no(14, 1));
+    assert_eq!(tried(&net, &[9, 999_999], &[0, 0]), by(14, 1, 1));
     // A member alone past the limit is no fault where another takes it back.
-    assert_eq!(tried(&net, &[9, 1_000_000], &[0]), no(14, 1));
+    assert_eq!(tried(&net, &[9, 1_000_000], &[0]), by(14, 1, 1));
     assert_eq!(tried(&net, &[9, 1_000_000], &[0, 1]), Ok(vec![9, 1_000_000]));
-    assert_eq!(tried(&net, &[9, 1_000_000], &[0, 1, 0]), no(14, 1));
+    assert_eq!(tried(&net, &[9, 1_000_000], &[0, 1, 0]), by(14, 1, 1));
+    assert_eq!(tried(&net, &[9, 1_000_000], &[0, 0, 1, 0, 0]), by(14, 1, 3));
 }
 
 #[test]
 fn sums_reach_64_million() {
     let million = 1_000_000;
     let net = two(OPEN, &[arc(0, 0, million, 0, OPEN), arc(1, 1, 0, million, OPEN)]);
-    assert_eq!(tried(&net, &[million, million], &[0; 64]), no(11, 0));
-    assert_eq!(tried(&net, &[million, million], &[1; 64]), no(14, 1));
+    assert_eq!(tried(&net, &[million, million], &[0; 64]), by(11, 0, 63_000_000));
+    assert_eq!(tried(&net, &[million, million], &[1; 64]), by(14, 1, 64_000_000));
     let bounded = two(million, &[arc(1, 1, 0, million, OPEN)]);
-    assert_eq!(tried(&bounded, &[million, million], &[1; 64]), no(12, 1));
+    assert_eq!(tried(&bounded, &[million, million], &[1; 64]), by(12, 1, 64_000_000));
 }
 
 #[test]
@@ -133,7 +142,7 @@ fn across_things_the_net_then_the_marking_then_4_then_6() {
     assert_eq!(tried(&net, &[5, 5], &[]), no(4, 0));
     assert_eq!(tried(&net, &[5, 5], &[7; 65]), no(4, 0));
     assert_eq!(tried(&net, &[5, 5], &[0, 7]), no(6, 0));
-    assert_eq!(tried(&net, &[5, 5], &[0, 1]), no(11, 0));
+    assert_eq!(tried(&net, &[5, 5], &[0, 1]), by(11, 0, 4));
     assert_eq!(tried(&net, &[5, 5], &[1, 1]), Ok(vec![5, 5]));
 }
 
@@ -148,10 +157,10 @@ fn over_the_sums_11_over_all_pairs_then_12_13_and_14() {
     ];
     let net = PlainNet::plain(4, &[(OPEN, 0), (5, 0), (5, 0), (OPEN, 0)], &arcs).sheet();
     let counts = [million, 5, 2, 1];
-    assert_eq!(tried(&net, &counts, &[0, 1, 2, 2, 3, 3]), no(11, 3));
-    assert_eq!(tried(&net, &counts, &[3, 2, 1, 2, 0]), no(12, 2));
-    assert_eq!(tried(&net, &counts, &[0, 1, 3]), no(13, 1));
-    assert_eq!(tried(&net, &counts, &[0, 3]), no(14, 0));
+    assert_eq!(tried(&net, &counts, &[0, 1, 2, 2, 3, 3]), by(11, 3, 1));
+    assert_eq!(tried(&net, &counts, &[3, 2, 1, 2, 0]), by(12, 2, 3));
+    assert_eq!(tried(&net, &counts, &[0, 1, 3]), by(13, 1, 1));
+    assert_eq!(tried(&net, &counts, &[0, 3]), by(14, 0, 1));
     assert_eq!(tried(&net, &counts, &[3]), Ok(vec![million, 5, 2, 0]));
 }
 
@@ -166,9 +175,9 @@ fn one_and_complement(capacity: u32, pre: u32, inhibitor: u32) -> (Vec<u8>, Vec<
 fn three_at_once_pass_in_the_net_of_section_6_3_and_two_in_its_complement() {
     let (net, complement) = one_and_complement(5, 1, 4);
     assert_eq!(tried(&net, &[3], &[0; 3]), Ok(vec![0]));
-    assert_eq!(tried(&net, &[3], &[0; 4]), no(11, 0));
+    assert_eq!(tried(&net, &[3], &[0; 4]), by(11, 0, 1));
     assert_eq!(tried(&complement, &[3, 2], &[0; 2]), Ok(vec![1, 4]));
-    assert_eq!(tried(&complement, &[3, 2], &[0; 3]), no(11, 1));
+    assert_eq!(tried(&complement, &[3, 2], &[0; 3]), by(11, 1, 1));
 }
 
 #[test]
@@ -176,7 +185,7 @@ fn an_inhibitor_alone_passes_twice_in_the_net_and_once_in_its_complement() {
     let (net, complement) = one_and_complement(1, 0, 0);
     assert_eq!(tried(&net, &[0], &[0, 0]), Ok(vec![0]));
     assert_eq!(tried(&complement, &[0, 1], &[0]), Ok(vec![0, 1]));
-    assert_eq!(tried(&complement, &[0, 1], &[0, 0]), no(11, 1));
+    assert_eq!(tried(&complement, &[0, 1], &[0, 0]), by(11, 1, 1));
 }
 
 #[test]
@@ -185,7 +194,7 @@ fn a_step_passes_where_no_order_of_its_members_does() {
     assert_eq!(tried(&net, &[0, 0], &[0, 1]), Ok(vec![3, 0]));
     for (order, after) in [([0, 1], 1), ([1, 0], 2)] {
         let mut counts = [0, 0];
-        assert_eq!(run(&net, &movements(&order), &mut counts), (1, refused(13, MOVEMENTS, 0)));
+        assert_eq!(run(&net, &movements(&order), &mut counts), (1, short(13, MOVEMENTS, 0, after.into())));
         assert_eq!(counts, [after, 0]);
     }
 }
@@ -194,9 +203,9 @@ fn a_step_passes_where_no_order_of_its_members_does() {
 fn an_order_passes_where_the_step_of_its_members_does_not() {
     let net = two(1, &[arc(0, 0, 1, 0, OPEN), arc(1, 0, 0, 1, OPEN)]);
     assert_eq!(run(&net, &movements(&[0, 1]), &mut [1, 0]), (2, ACCEPTED));
-    assert_eq!(tried(&net, &[1, 0], &[0, 1]), no(12, 0));
+    assert_eq!(tried(&net, &[1, 0], &[0, 1]), by(12, 0, 1));
     assert_eq!(run(&net, &movements(&[1, 0]), &mut [0, 0]), (2, ACCEPTED));
-    assert_eq!(tried(&net, &[0, 0], &[1, 0]), no(11, 0));
+    assert_eq!(tried(&net, &[0, 0], &[1, 0]), by(11, 0, 1));
 }
 
 /// A small net of any style.

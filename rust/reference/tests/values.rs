@@ -50,7 +50,7 @@ fn a_net_without_transitions_reads_and_complements() {
 fn running_starts_from_the_counts_found() {
     let mut marking = [1, 7];
     let ran = run(&example().sheet(), &example_movements(), &mut marking);
-    assert_eq!(ran, (1, refused(11, MOVEMENTS, 0)));
+    assert_eq!(ran, (1, short(11, MOVEMENTS, 0, 1)));
     assert_eq!(marking, [0, 8]);
 }
 

@@ -1,4 +1,4 @@
-//! "Every answer carries the number, which thing was at fault and a position."
+//! "Every answer carries the number, which thing was at fault and a position", and an amount.
 
 /// What a call answers.
 #[derive(Clone, Copy, Debug, PartialEq, Eq)]
@@ -9,6 +9,8 @@ pub struct Answer {
     pub thing: u8,
     /// An offset, a pair or 0, as the table says.
     pub position: u64,
+    /// How many tokens are lacking (11), or above the bound (12, 13, 14), at the named pair; else 0.
+    pub amount: u64,
 }
 
 pub const NET: u8 = 0;
@@ -25,10 +27,15 @@ pub const UNBOUNDED: u32 = u32::MAX;
 
 impl Answer {
     /// "0 | accepted | 0"
-    pub const ACCEPTED: Answer = Answer { number: 0, thing: 0, position: 0 };
+    pub const ACCEPTED: Answer = Answer { number: 0, thing: 0, position: 0, amount: 0 };
 
-    /// A refusal by its number.
+    /// A refusal by its number, with no amount.
     pub fn refused(number: u32, thing: u8, position: usize) -> Answer {
-        Answer { number, thing, position: position as u64 }
+        Answer { number, thing, position: position as u64, amount: 0 }
+    }
+
+    /// The same refusal by an amount.
+    pub fn by(self, amount: u32) -> Answer {
+        Answer { amount: amount.into(), ..self }
     }
 }

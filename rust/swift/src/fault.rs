@@ -98,7 +98,7 @@ fn of_arc(sheet: &[u8], offset: usize, pairs: usize, modes: usize, least: usize)
     Ok(256 * mode + pair)
 }
 
-/// Why a mode of the net is not enabled: "6, 11 over all pairs, 12, 13, 14".
+/// Why a mode of the net is not enabled: "6, 11 over all pairs, 12, 13, 14", each by its amount.
 pub fn of_movement(layout: &Layout, marking: &[u32; 256], mode: usize) -> Answer {
     if mode >= layout.modes {
         return Answer::refused(6, MOVEMENTS, 0);
@@ -106,15 +106,19 @@ pub fn of_movement(layout: &Layout, marking: &[u32; 256], mode: usize) -> Answer
     let own = layout.arcs_of(mode);
     let count = |arc: Arc| marking[arc.pair()];
     let capacity = |arc: Arc| layout.capacity(arc.pair());
-    let broken: [&dyn Fn(Arc) -> bool; 4] = [
-        &|arc| arc.pre > count(arc),
-        &|arc| count(arc) + arc.post > capacity(arc),
-        &|arc| count(arc) > arc.inhibitor,
-        &|arc| count(arc) - arc.pre + arc.post > LARGEST,
+    // What is compared, and the most that it may be.
+    let compared: [&dyn Fn(Arc) -> (u32, u32); 4] = [
+        &|arc| (arc.pre, count(arc)),
+        &|arc| (count(arc) + arc.post, capacity(arc)),
+        &|arc| (count(arc), arc.inhibitor),
+        &|arc| (count(arc) - arc.pre + arc.post, LARGEST),
     ];
-    for (number, broken) in (11..).zip(broken) {
-        if let Some(arc) = own.iter().map(Arc::of).find(|&arc| broken(arc)) {
-            return Answer::refused(number, MOVEMENTS, arc.pair());
+    for (number, compared) in (11..).zip(compared) {
+        for arc in own.iter().map(Arc::of) {
+            let (compared, most) = compared(arc);
+            if compared > most {
+                return Answer::refused(number, MOVEMENTS, arc.pair()).by(compared - most);
+            }
         }
     }
     unreachable!("a refused movement has a fault")

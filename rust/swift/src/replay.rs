@@ -53,11 +53,9 @@ fn lines(layout: &Layout, weights: &[i32; 256], list: &[[u8; 2]]) -> Vec<u8> {
     if let Some(refused) = list.get(accepted) {
         at = page.word(at, Word::of(b"refused "));
         let mode = i64::from(u16::from_be_bytes(*refused));
-        at = line(
-            &mut page,
-            at,
-            &[accepted as i64 + 1, mode, i64::from(answer.number), answer.position as i64],
-        );
+        let Answer { number, position, amount, .. } = answer;
+        let fields = [accepted as i64 + 1, mode, number.into(), position as i64, amount as i64];
+        at = line(&mut page, at, &fields);
     }
     at = page.word(at, Word::of(b"end "));
     at = line(&mut page, at, &[accepted as i64, figure]);

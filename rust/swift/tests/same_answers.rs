@@ -10,15 +10,15 @@ use reference::build::{PlainNet, movements, sheet, weights};
 
 const STYLES: [Style; 3] = [Style::Small, Style::Edges, Style::Lively];
 
-/// An answer as number, thing and position.
-type Plain = (u32, u8, u64);
+/// An answer as number, thing, position and amount.
+type Plain = (u32, u8, u64, u64);
 
 fn of_swift(answer: swift::Answer) -> Plain {
-    (answer.number, answer.thing, answer.position)
+    (answer.number, answer.thing, answer.position, answer.amount)
 }
 
 fn of_reference(answer: reference::Answer) -> Plain {
-    (answer.number, answer.thing, answer.position)
+    (answer.number, answer.thing, answer.position, answer.amount)
 }
 
 /// A net from tiny to the largest, with the style of its numbers.

@@ -133,19 +133,22 @@ impl Sums {
     }
 }
 
-/// Why a step is not enabled: "11, 12, 13, 14 over the sums", each at its lowest pair.
+/// Why a step is not enabled: "11, 12, 13, 14 over the sums", each at its lowest pair, by its amount there.
 #[cold]
 fn fault(layout: &Layout, sums: &Sums, marking: &[u32]) -> Answer {
-    let broken: [fn(&Sum, u32, u32) -> bool; 4] = [
-        |sum, count, _| sum.pre > count,
-        |sum, count, capacity| count + sum.post > capacity,
-        |sum, count, _| count > sum.inhibitor,
-        |sum, count, _| count - sum.pre + sum.post > LARGEST,
+    // What is compared, and the most that it may be.
+    let compared: [fn(&Sum, u32, u32) -> (u32, u32); 4] = [
+        |sum, count, _| (sum.pre, count),
+        |sum, count, capacity| (count + sum.post, capacity),
+        |sum, count, _| (count, sum.inhibitor),
+        |sum, count, _| (count - sum.pre + sum.post, LARGEST),
     ];
-    for (number, broken) in (11..).zip(broken) {
-        let at = |pair: &usize| broken(&sums.at[*pair], marking[*pair], layout.capacity(*pair));
-        if let Some(pair) = (0..layout.pairs).find(at) {
-            return Answer::refused(number, ARGUMENT, pair);
+    for (number, compared) in (11..).zip(compared) {
+        for pair in 0..layout.pairs {
+            let (compared, most) = compared(&sums.at[pair], marking[pair], layout.capacity(pair));
+            if compared > most {
+                return Answer::refused(number, ARGUMENT, pair).by(compared - most);
+            }
         }
     }
     unreachable!("a refused step has a fault")

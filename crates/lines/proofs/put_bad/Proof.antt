@@ -10,8 +10,11 @@ unfolding line badLine
 returns c =
     let last = c .before .before in
     let second = last .before .before .before .before in
-    let first = second .before .before .before .before .before in
-    rw (← second .before .thing-of .ensures) (first .write-bytes .ensures and second .next-decimal .ensures and last .last-refusal .ensures)
+    let first = second .before .before .before .before in
+    let word = first .before .before .before .before .before in
+    let told = word .before .before .before .line-of .ensures in
+    rw (← first .before .thing-of .ensures, ← told .0, ← told .1)
+    (word .write-bytes .ensures and first .next-decimal .ensures and second .next-decimal2 .ensures and last .last-decimal .ensures)
 
 pub put-bad-spec : {M : Type 1} → statement M
-put-bad-spec = tie.close (tie.spec (λ c. search needs) (λ c κs. search needs) (λ c κs. search needs) (λ c κs. search needs) (λ c κs. search needs) (λ c. search needs) returns)
+put-bad-spec = tie.close (tie.spec (λ c κs. search needs) (λ c. search needs) (λ c κs. search needs) (λ c κs. search needs) (λ c κs. search needs) (λ c κs. search needs) (λ c κs. search needs) (λ c. search needs) returns)

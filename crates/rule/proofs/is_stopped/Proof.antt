@@ -1,5 +1,7 @@
 -- Each arm compares what its reason compares.
 use borrow.Author.Needs.{needs}
+use native.Mathlib.Omega.{arith}
+use Rattle.rule.proofs.FourTests.{above-small}
 use Rattle.rule.proofs.is_stopped.Statement.{statement}
 use Rattle.rule.proofs.is_stopped.Tie as tie
 
@@ -10,7 +12,7 @@ returns-2 : tie.Need-returns-2
 returns-2 c = rw (c .before .before .enum-told2 .given .1, ← c .before .with-post .ensures) (c .above-bound .ensures)
 
 returns-3 : tie.Need-returns-3
-returns-3 c = rw (c .before .enum-told3 .given .1) (c .above-bound2 .ensures)
+returns-3 c = rw (c .before .before .enum-told3 .given .1) (above-small _ _ (omega arith))
 
 returns-4 : tie.Need-returns-4
 returns-4 c = rw (c .before .enum-told4 .given .1, c .moved .ensures)
@@ -24,7 +26,6 @@ is-stopped-spec =
     (λ c. search needs)
     (λ c κs. search needs)
     (λ c. search needs)
-    (λ c κs. search needs)
     (λ c. search needs)
     (λ c κs. search needs)
     returns

@@ -12,9 +12,14 @@ pub const WEIGHTS: u8 = 1;
 pub const MOVEMENTS: u8 = 2;
 pub const ARGUMENT: u8 = 3;
 
-/// A refusal: number, thing, position.
+/// A refusal: number, thing, position. Its amount is 0.
 pub fn refused(number: u32, thing: u8, position: u64) -> Answer {
-    Answer { number, thing, position }
+    Answer { number, thing, position, amount: 0 }
+}
+
+/// A refusal by 11 to 14, at a pair and by an amount.
+pub fn short(number: u32, thing: u8, pair: u64, amount: u64) -> Answer {
+    Answer { number, thing, position: pair, amount }
 }
 
 /// "Own example: two places, aboard and ashore; one transition of one mode."

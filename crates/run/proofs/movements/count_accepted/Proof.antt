@@ -2,9 +2,10 @@
 use borrow.Author.Needs.{needs}
 use borrow.Author.Tests.{not-true, not-false}
 use Prim.Native.Nat.{_≤_, _-_}
+use native.Mathlib.Omega.{arith}
 use mathlib.Core.Path.{sym, _∙_}
 use Rattle.sheets.specs.Decoded.{netOf}
-use Rattle.run.proofs.Running.{Along, along-none, along-more, along-stops, along-ends}
+use Rattle.run.proofs.Running.{accepts-as, Along, along-none, along-more, along-stops, along-ends}
 use Rattle.run.proofs.movements.count_accepted.Statement.{statement}
 use Rattle.run.proofs.movements.count_accepted.Tie as tie
 
@@ -28,7 +29,8 @@ returns : tie.Need-returns Inv-loop μ-loop
 returns c =
     let done = c .before .before .before in
     let read = done .before .before in
-    along-stops (read .before .before .loop .inv .1) (read .before .loop-test .taken) (read .mode-at .ensures) (done .step .ensures) (not-true _ (c .if1 .taken))
+    accepts-as (omega arith)
+    (along-stops (read .before .before .loop .inv .1) (read .before .loop-test .taken) (read .mode-at .ensures) (done .step .ensures) (not-true _ (c .if1 .taken)))
 
 loop-again : tie.Need-loop-again Inv-loop μ-loop
 loop-again c =

@@ -1,41 +1,40 @@
 -- The numbers of the modes below t.
 use borrow.Author.Needs.{needs}
 use Prim.Native.Nat.{_≤_, _-_}
-use mathlib.Core.Path.{_≡_, sym, _∙_}
-use lib.ListN.{length}
+use mathlib.Core.Path.{sym, _∙_}
 use native.Mathlib.Omega.{arith}
 use Rattle.sheets.specs.Decoded.{netOf}
 use Rattle.opened.proofs.Shapes.{sizes}
-use Rattle.run.proofs.ByNumbers.{NumbersBelow, numbers-none, numbers-next, numbers-all}
+use Rattle.run.specs.Parts.{NumbersBelow}
+use Rattle.run.proofs.ByNumbers.{numbers-none, numbers-all}
 use Rattle.run.proofs.numbers.write_numbers.Statement.{statement}
 use Rattle.run.proofs.numbers.write_numbers.Tie as tie
 
 abbrev Inv-loop : tie.InvT-loop
-Inv-loop s net starts numbers₀ modes t₀ numbers t = (t ≤ modes) × (length numbers ≡ 2048) × NumbersBelow (netOf s) numbers t
+Inv-loop s net starts numbers₀ modes t₀ numbers t = (t ≤ modes) × NumbersBelow (netOf s) numbers t
 
 abbrev μ-loop : tie.MeasureT-loop
 μ-loop s net starts numbers₀ modes t₀ numbers t = modes - t
 
 loop-holds : tie.Need-loop-holds Inv-loop μ-loop
-loop-holds c = let long = c .before .before .pre .1 .1 in (search needs, long, numbers-none _ _ long)
+loop-holds c = (search needs, numbers-none _ _ (c .before .before .pre .1 .1))
 
 write-mode-requires : tie.Need-write-mode-requires Inv-loop μ-loop
 write-mode-requires c κs =
     let segment = c .before .arcs-of .ensures in
-    (c .before .before .before .before .before .before .pre .0, (segment .own, c .before .before .before .loop .inv .2 _ (segment .starts)))
+    (c .before .before .before .before .before .before .pre .0, (segment .own, rw (segment .mode) (c .before .before .before .loop .inv .1)))
 
 loop-again : tie.Need-loop-again Inv-loop μ-loop
 loop-again c =
-    let written = c .before .before .write-mode .ensures in
-    (search needs, written .long, numbers-next _ _ _ _ (c .before .before .before .before .arcs-of .ensures .ends) written)
+    (search needs, rw (c .before .before .before .before .arcs-of .ensures .mode) at (c .before .before .write-mode .ensures))
 
 same-length : tie.Need-same-length Inv-loop μ-loop
-same-length c = c .before .loop .inv .1 ∙ sym (c .before .before .before .before .pre .1 .1)
+same-length c = c .before .loop .inv .1 .long ∙ sym (c .before .before .before .before .pre .1 .1)
 
 returns : tie.Need-returns Inv-loop μ-loop
 returns c =
     let z = sizes (c .before .before .before .before .pre .0) in
-    numbers-all _ _ (z .wellFormed) (c .before .loop .t) (omega (arith, z .modes)) (omega (arith, z .arcs, z .arcsWithin)) (c .before .loop .inv .2)
+    numbers-all _ _ (z .wellFormed) (c .before .loop .t) (omega (arith, z .modes)) (omega (arith, z .arcs, z .arcsWithin)) (c .before .loop .inv .1)
 
 pub write-numbers-spec : {M : Type 1} → statement M
 write-numbers-spec =

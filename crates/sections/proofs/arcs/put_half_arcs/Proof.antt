@@ -10,11 +10,11 @@ use Rattle.sections.proofs.arcs.put_half_arcs.Statement.{statement}
 use Rattle.sections.proofs.arcs.put_half_arcs.Tie as tie
 
 abbrev Inv-loop : tie.InvT-loop
-Inv-loop s net below half start count out₀ at arcs next₀ i₀ out next i =
-    (i ≤ count) × Puts out₀ at (joined i (halfBytes (netOf s) half start)) out next
+Inv-loop s net below half arcs out₀ at count next₀ i₀ out next i =
+    (i ≤ count) × Puts out₀ at (joined i (halfBytes (netOf s) half (arcs .start))) out next
 
 abbrev μ-loop : tie.MeasureT-loop
-μ-loop s net below half start count out₀ at arcs next₀ i₀ out next i = count - i
+μ-loop s net below half arcs out₀ at count next₀ i₀ out next i = count - i
 
 loop-holds : tie.Need-loop-holds Inv-loop μ-loop
 loop-holds c = (search needs, puts-none _)

@@ -1,4 +1,4 @@
--- The test at one pair, over the sums there.
+-- The test at one pair, over the sums there, and by how much it stops.
 use borrow.Author.Needs.{needs}
 use mathlib.Core.Path.{ap}
 use native.Mathlib.Omega.{arith}
@@ -15,11 +15,11 @@ capacity-requires c κs =
     let start = c .before .before .before .before in
     (start .pre .0, omega (arith, ap (λ x. x .0) (c .before .sum-at .ensures .pair)))
 
-mul-t13 : tie.Need-mul-t13
-mul-t13 c = omega (arith, sizes (c .before .before .before .before .before .pre .0) .pairsWithin)
+mul-t14 : tie.Need-mul-t14
+mul-t14 c = omega (arith, sizes (c .before .before .before .before .before .pre .0) .pairsWithin)
 
-shared-slice-read-t15 : tie.Need-shared-slice-read-t15
-shared-slice-read-t15 c =
+shared-slice-read-t16 : tie.Need-shared-slice-read-t16
+shared-slice-read-t16 c =
     let start = c .before .before .before .before .before .before in
     omega (arith, sizes (start .pre .0) .pairs, start .pre .1 .0 .oneEach)
 
@@ -28,11 +28,16 @@ is-stopped-requires c κs =
     let start = c .before .before .before .before .before .before in
     counted (start .pre .0) (start .pre .1 .0) (start .pre .1 .1 .0) (start .pre .1 .1 .1) (c .before .before .before .sum-at .ensures)
 
+stopped-by-requires : tie.Need-stopped-by-requires
+stopped-by-requires c κs =
+    let start = c .before .before .before .before .before .before .before .before in
+    counted (start .pre .0) (start .pre .1 .0) (start .pre .1 .1 .0) (start .pre .1 .1 .1) (c .before .before .before .before .before .sum-at .ensures)
+
 returns : tie.Need-returns
 returns c =
-    let test = c .before .before in
-    stop-found _ _ _ (test .before .before .before .before .sum-at .ensures) (test .before .before .capacity .ensures) _ (test .is-stopped .ensures) (c .before .if1 .taken)
-    (c .refused .ensures)
+    let test = c .before .before .before in
+    stop-found _ _ _ (test .before .before .before .before .sum-at .ensures) (test .before .before .capacity .ensures) _ (test .is-stopped .ensures) (c .before .before .if1 .taken)
+    (c .before .stopped-by .ensures) (c .refused .ensures)
 
 returns-2 : tie.Need-returns-2
 returns-2 c =
@@ -45,9 +50,10 @@ pair-stop-spec =
     (tie.spec
     sum-at-requires
     capacity-requires
-    mul-t13
-    shared-slice-read-t15
+    mul-t14
+    shared-slice-read-t16
     is-stopped-requires
+    stopped-by-requires
     (λ c κs. search needs)
     returns
     returns-2)

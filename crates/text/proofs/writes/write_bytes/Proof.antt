@@ -23,7 +23,7 @@ loop-holds c = (search needs, refl, paste-zero _ (c .args .at) (now (c .args .by
 loop-again : tie.Need-loop-again Inv-loop μ-loop
 loop-again c =
     let l = c .before .before .loop in
-    (search needs, search needs, one-copied _ _ _ _ (l .i) (c .before .before .before .pre) (c .before .loop-test .taken) (l .inv .2))
+    (search needs, search needs, one-copied _ _ _ _ (l .i) (c .before .before .before .pre) (c .before .loop-test .taken) (omega arith) (l .inv .2))
 
 returns : tie.Need-returns Inv-loop μ-loop
 returns c =

@@ -1,0 +1,13 @@
+-- A number, then the end of the line.
+use borrow.Author.Needs.{needs}
+use Rattle.text.proofs.Writing.{_and_}
+use Rattle.lines.proofs.words.last_decimal.Statement.{statement}
+use Rattle.lines.proofs.words.last_decimal.Tie as tie
+
+returns : tie.Need-returns
+returns c =
+    let last = c .before .before in
+    last .before .before .before .before .next-decimal .ensures and last .write-byte .ensures
+
+pub last-decimal-spec : {M : Type 1} → statement M
+last-decimal-spec = tie.close (tie.spec (λ c κs. search needs) (λ c κs. search needs) (λ c. search needs) returns)
