@@ -13,7 +13,8 @@ use Rattle.model.proofs.First.{below-or}
 use Rattle.model.proofs.Nets.{Rising, rises-all}
 use Rattle.model.proofs.ByArcs.{Listing, segment-lists}
 use Rattle.opened.specs.declared.starts.Segment.{Segment}
-use Rattle.opened.specs.Starts.{ModesBelow, FirstFrom, ModeArcs, SegmentOf}
+use Rattle.opened.specs.declared.starts.Span.{Span}
+use Rattle.opened.specs.Starts.{ModesBelow, FirstBetween, Narrower, FirstFrom, ModeArcs, SegmentOf}
 
 -- i is the next number below i + 1, the others are below i
 below-next : (i j : ℕ) → j < i + 1 → (j < i) ⊎ (j ≡ i)
@@ -34,21 +35,49 @@ module _ (arcs : List NetArc) where
   pub below-up : (t k : ℕ) → ModesBelow arcs t k → ModesBelow arcs (t + 1) k
   below-up t k below = record { each = λ j l. omega (arith, below .each j l) }
 
+  -- arcs rise, so what is at least t stays so
+  from-there : Rising arcs → (t k : ℕ) → t ≤ arcNo arcs k .mode .0 → (j : ℕ) → k ≤ j → j < length arcs → t ≤ arcNo arcs j .mode .0
+  from-there rising t k l j b i =
+      ⊎-elim (λ (q : k ≡ j). rw (← q) l) (λ (g : k < j). omega (arith, mode-rises (arcNo arcs k) (arcNo arcs j) (rises-all arcs rising k j g i)))
+      (eq-or-lt-of-le b)
+
   -- a search that stops at k, and one that comes to the end
   pub first-stops : Rising arcs → (t k : ℕ) → k < length arcs → ModesBelow arcs t k → t ≤ arcNo arcs k .mode .0 → FirstFrom arcs t k
-  first-stops rising t k h below l =
-      record {
-        inside = omega arith;
-        before = below;
-        after =
-            λ j b i.
-            ⊎-elim (λ (q : k ≡ j). rw (← q) l)
-            (λ (g : k < j). omega (arith, mode-rises (arcNo arcs k) (arcNo arcs j) (rises-all arcs rising k j g i)))
-            (eq-or-lt-of-le b);
-      }
+  first-stops rising t k h below l = record { inside = omega arith; before = below; after = from-there rising t k l }
 
   pub first-ends : (t k : ℕ) → k ≡ length arcs → ModesBelow arcs t k → FirstFrom arcs t k
   first-ends t k e below = record { inside = omega arith; before = below; after = λ j b i. absurd (omega arith) }
+
+  -- the middle arc of a span says in which half of it the first arc from t on stands
+  module _ (rising : Rising arcs) (t : ℕ) (span : Span) (between : FirstBetween arcs t span) (middle : ℕ) (l : span .low ≤ middle) (h : middle < span .high) where
+    pub upper-half : arcNo arcs middle .mode .0 < t → Narrower arcs t span (record { low = middle + 1; high = span .high })
+    upper-half below =
+        record {
+          between = record {
+            inside = (omega arith, between .inside .1);
+            before = record {
+              each =
+                  λ j b.
+                  ⊎-elim
+                  (λ (g : j < middle).
+                  omega (arith, mode-rises (arcNo arcs j) (arcNo arcs middle) (rises-all arcs rising j middle g (omega (arith, between .inside .1)))))
+                  (λ (q : j ≡ middle). rw q below) (below-next middle j b);
+            };
+            after = between .after;
+          };
+          narrower = omega arith;
+        }
+
+    pub lower-half : t ≤ arcNo arcs middle .mode .0 → Narrower arcs t span (record { low = span .low; high = middle })
+    lower-half from-t =
+        record {
+          between = record {
+            inside = (l, omega (arith, between .inside .1));
+            before = between .before;
+            after = from-there rising t middle from-t;
+          };
+          narrower = omega arith;
+        }
 
   module _ (t : Mode) (start end : ℕ) (starts : FirstFrom arcs (t .0) start) (ends : FirstFrom arcs (t .0 + 1) end) where
     pub in-turn : start ≤ end
@@ -80,6 +109,14 @@ segment-of arcs t start end starts ends =
 
 pub segment-own : {arcs : List NetArc} {t : Mode} {segment : Segment} → SegmentOf arcs t segment → ModeArcs arcs t (segment .start) (segment .count)
 segment-own is = rw (is .mode) at (is .own)
+
+-- the span of all arcs, and one that is down to a single place
+pub first-of-all : (arcs : List NetArc) (t : ℕ) → FirstBetween arcs t (record { low = 0; high = length arcs })
+first-of-all arcs t = record { inside = (omega arith, omega arith); before = below-none arcs t; after = λ j h l. absurd (omega arith) }
+
+pub first-found : (arcs : List NetArc) (t : ℕ) (span : Span) → FirstBetween arcs t span → span .high ≤ span .low → FirstFrom arcs t (span .low)
+first-found arcs t span between h =
+    record { inside = omega (arith, between .inside); before = between .before; after = λ j b i. between .after j (omega arith) i }
 
 pub first-arc : (arcs : List NetArc) → FirstFrom arcs 0 0
 first-arc arcs = record { inside = omega arith; before = below-none arcs 0; after = λ j h l. omega arith }

@@ -1,12 +1,13 @@
 -- Where the arcs of each mode stand among a net's arcs, which rise by mode.
 -- A reader of the promises may skip this file.
-use Prim.Native.Nat.{ℕ, _+_, _≤_, _<_}
+use Prim.Native.Nat.{ℕ, _+_, _-_, _≤_, _<_}
 use mathlib.Core.Path.{_≡_}
 use mathlib.Core.List.{List}
 use lib.ListN.{length, getD}
 use Rattle.model.specs.declared.Mode.{Mode}
 use Rattle.model.specs.Nets.{NetArc, arcNo}
 use Rattle.opened.specs.declared.starts.Segment.{Segment}
+use Rattle.opened.specs.declared.starts.Span.{Span}
 
 -- the first k arcs have modes below t
 pub record ModesBelow (arcs : List NetArc) (t k : ℕ) : Type 0 where
@@ -17,6 +18,16 @@ pub record FirstFrom (arcs : List NetArc) (t k : ℕ) : Type 0 where
   pub inside : k ≤ length arcs
   pub before : ModesBelow arcs t k
   pub after : (j : ℕ) → k ≤ j → j < length arcs → t ≤ arcNo arcs j .mode .0
+
+-- a span in which that arc stands
+pub record FirstBetween (arcs : List NetArc) (t : ℕ) (span : Span) : Type 0 where
+  pub inside : (span .low ≤ span .high) × (span .high ≤ length arcs)
+  pub before : ModesBelow arcs t (span .low)
+  pub after : (j : ℕ) → span .high ≤ j → j < length arcs → t ≤ arcNo arcs j .mode .0
+
+pub record Narrower (arcs : List NetArc) (t : ℕ) (span part : Span) : Type 0 where
+  pub between : FirstBetween arcs t part
+  pub narrower : part .high - part .low < span .high - span .low
 
 -- a table with such an entry for each t from 0 to 256
 pub record StartsAre (arcs : List NetArc) (starts : List ℕ) : Type 0 where

@@ -5,7 +5,7 @@ use model::Mode;
 ghost use Prim.Native.Nat.{_+_, _≤_, _<_};
 ghost use Rattle.sheets.specs.Decoded.{netOf};
 ghost use Rattle.opened.specs.Shape.{Open};
-ghost use Rattle.opened.specs.Starts.{ModesBelow, FirstFrom, StartsAre, SegmentOf};
+ghost use Rattle.opened.specs.Starts.{ModesBelow, FirstBetween, Narrower, FirstFrom, StartsAre, SegmentOf};
 
 // The arcs of a mode: `count` of them, in the order of the sheet.
 pub struct Segment {
@@ -66,6 +66,47 @@ pub fn arcs_of(s: &[u8], net: NetShape, starts: &[u16; 257], mode: Mode) -> Segm
     }
 }
 
+// Where the first arc whose mode is at least some `t` stands: not before `low`, and not after `high`.
+struct Span {
+    low: usize,
+    high: usize,
+}
+
+// The half of it in which that arc stands.
+fn halve(s: &[u8], net: NetShape, t: usize, span: Span) -> Span
+    requires { ⌜ Open (now s) net ⌝ }
+    requires { ⌜ FirstBetween (netOf (now s) .arcs) t span ⌝ }
+    requires { ⌜ span .low < span .high ⌝ }
+    ensures { λ r. ⌜ Narrower (netOf (now (s .entry)) .arcs) t span r ⌝ }
+{
+    let middle = span.low + (span.high - span.low) / 2;
+    if arc_mode(s, net, middle) < t {
+        return Span {
+            low: middle + 1,
+            high: span.high,
+        };
+    }
+    Span {
+        low: span.low,
+        high: middle,
+    }
+}
+
+// The first arc whose mode is at least `t`, by halves: arcs rise by mode.
+fn search_first(s: &[u8], net: NetShape, t: usize) -> usize
+    requires { ⌜ Open (now s) net ⌝ }
+    ensures { λ r. ⌜ FirstFrom (netOf (now (s .entry)) .arcs) t r ⌝ }
+{
+    let mut span = Span {
+        low: 0,
+        high: net.arcs,
+    };
+    while span.low < span.high {
+        span = halve(s, net, t, span);
+    }
+    span.low
+}
+
 // The arcs of a mode, looked for in the sheet: where one mode is all that a call asks of.
 pub fn find_arcs(s: &[u8], net: NetShape, mode: Mode) -> Segment
     requires { ⌜ Open (now s) net ⌝ }
@@ -73,7 +114,7 @@ pub fn find_arcs(s: &[u8], net: NetShape, mode: Mode) -> Segment
     ensures { λ r. ⌜ SegmentOf (netOf (now (s .entry)) .arcs) mode r ⌝ }
 {
     let t = mode.0 as usize;
-    let start = first_from(s, net, t, 0);
+    let start = search_first(s, net, t);
     let end = first_from(s, net, t + 1, start);
     Segment {
         mode,

@@ -2,23 +2,23 @@
 use borrow.Author.Needs.{needs}
 use native.Mathlib.Omega.{arith}
 use Rattle.opened.proofs.Shapes.{sizes}
-use Rattle.opened.proofs.Segments.{below-none, below-up, in-turn, segment-of}
+use Rattle.opened.proofs.Segments.{below-up, in-turn, segment-of}
 use Rattle.opened.proofs.starts.find_arcs.Statement.{statement}
 use Rattle.opened.proofs.starts.find_arcs.Tie as tie
 
-first-from-requires-2 : tie.Need-first-from-requires-2
-first-from-requires-2 c κs =
+first-from-requires : tie.Need-first-from-requires
+first-from-requires c κs =
     let pre = c .before .before .before .pre in
-    let first = c .first-from .ensures in
+    let first = c .search-first .ensures in
     (pre .0, (omega (arith, sizes (pre .0)), below-up _ _ _ (first .before)))
 
 sub-t7 : tie.Need-sub-t7
-sub-t7 c = in-turn _ (c .before .before .before .before .args .mode) _ _ (c .before .first-from .ensures) (c .first-from2 .ensures)
+sub-t7 c = in-turn _ (c .before .before .before .before .args .mode) _ _ (c .before .search-first .ensures) (c .first-from .ensures)
 
 returns : tie.Need-returns
-returns c = segment-of _ _ _ _ (c .before .first-from .ensures) (c .first-from2 .ensures)
+returns c = segment-of _ _ _ _ (c .before .search-first .ensures) (c .first-from .ensures)
 
 pub find-arcs-spec : {M : Type 1} → statement M
 find-arcs-spec =
     tie.close
-    (tie.spec (λ c. search needs) (λ c κs. (c .before .before .pre .0, (omega arith, below-none _ _))) (λ c. search needs) first-from-requires-2 sub-t7 returns)
+    (tie.spec (λ c. search needs) (λ c κs. search needs) (λ c. search needs) first-from-requires sub-t7 returns)
