@@ -1,14 +1,10 @@
 -- The promise about an exclusion: each part of the chain is passed.
-use Prim.Native.Nat.{ℕ}
-use mathlib.Core.Path.{_≡_}
-use mathlib.Core.List.{List}
-use mathlib.Core.Option.{none}
 use Rattle.model.proofs.First.{left-none, right-none, none-then}
 use Rattle.model.proofs.Markings.{marking-test}
 use Rattle.model.proofs.Exclusion.{claim-accepted}
 use Rattle.sheets.specs.Decoded.{netOf, weightsOf}
 use Rattle.exclude.specs.Calls.{excludeRefusal}
-use Rattle.exclude.specs.Promises.{Excluded, ExcludedExactly}
+use Rattle.exclude.specs.Promises.{ExcludedExactly}
 
 pub excluded-exactly : ExcludedExactly
 unfolding excludeRefusal

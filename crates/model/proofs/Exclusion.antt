@@ -14,7 +14,7 @@ use Rattle.model.specs.Nets.{PNet, modes, modeNo}
 use Rattle.model.specs.Figures.{figure, change, changes}
 use Rattle.model.specs.Promises.{Leads, stays, moves}
 use Rattle.model.specs.Exclusion.{equal, unbalancedAt, sameFigure, claimRefusal, Balanced, ClaimAccepted, FigureConstant, OutOfReach}
-use Rattle.model.proofs.Decisions.{Decided, by-equal, by-other, by-not}
+use Rattle.model.proofs.Decisions.{Decided, by-equal, by-other}
 use Rattle.model.proofs.First.{left-none, right-none, none-then, first-each, first-all}
 use Rattle.model.proofs.Firing.{accepted-there}
 use Rattle.model.proofs.Figures.{figure-leads}

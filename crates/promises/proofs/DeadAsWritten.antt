@@ -1,6 +1,6 @@
 -- Dead modes of a net in its complement: what the model proves, over the sheets.
 use Prim.Native.Nat.{ℕ, _<_}
-use mathlib.Core.Path.{_≡_, refl, sym, _∙_, ap}
+use mathlib.Core.Path.{_≡_, refl, _∙_, ap}
 use mathlib.Core.Bool.{Bool, true, false}
 use mathlib.Core.List.{List}
 use mathlib.Core.Option.{Option, none, some}
@@ -13,14 +13,13 @@ use Rattle.model.specs.declared.Refusal.{Refusal}
 use Rattle.model.specs.Refusals.{answer, number}
 use Rattle.model.specs.Nets.{modes}
 use Rattle.model.specs.Firing.{modeRefusal}
-use Rattle.model.specs.Dead.{isDead, firstDead}
+use Rattle.model.specs.Dead.{isDead}
 use Rattle.model.proofs.First.{right-none, none-then, only-if-none}
 use Rattle.model.proofs.DeadComplement.{dead-in-complement}
 use Rattle.sheets.specs.Whole.{wholeNet}
 use Rattle.sheets.specs.Decoded.{netOf}
 use Rattle.fire.specs.Calls.{testRefusal}
 use Rattle.dead.specs.IsDead.{told, deadness, deadRefusal, deadnessOf}
-use Rattle.dead.specs.FirstDead.{named}
 use Rattle.dead.specs.FirstDead as first
 use Rattle.complement.specs.Complemented.{complementingRefusal}
 use Rattle.promises.specs.DemandThree.{asWritten}

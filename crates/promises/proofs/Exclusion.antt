@@ -1,10 +1,6 @@
 -- What the model proves of a claim, over accepted sheets.
-use Prim.Native.Nat.{ℕ}
 use mathlib.Core.Path.{_≡_, sym, _∙_, ap}
-use mathlib.Core.List.{List}
 use mathlib.Core.Option.{none}
-use Rattle.model.specs.Nets.{PNet}
-use Rattle.model.specs.Promises.{Leads}
 use Rattle.model.specs.Refusals.{number}
 use Rattle.model.proofs.First.{left-none, right-none, none-then}
 use Rattle.model.proofs.Markings.{marking-test}
@@ -13,7 +9,7 @@ use Rattle.sheets.specs.Decoded.{netOf, weightsOf, movementsOf}
 use Rattle.run.specs.Calls.{certifyRefusal}
 use Rattle.run.proofs.Running.{leads-keep}
 use Rattle.run.proofs.Promises.{certified}
-use Rattle.weigh.specs.Calls.{figured, figureRefusal}
+use Rattle.weigh.specs.Calls.{figureRefusal}
 use Rattle.exclude.specs.Calls.{excludeRefusal}
 use Rattle.exclude.proofs.Promises.{excluded-exactly}
 use Rattle.promises.specs.Exclusion.{NoListLeads, NoSheetCertifies, FigureCallConstant}

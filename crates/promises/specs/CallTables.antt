@@ -11,7 +11,6 @@ use Rattle.model.specs.declared.Mode.{Mode}
 use Rattle.model.specs.Refusals.{carriesBy, carries}
 use Rattle.model.specs.RefusalTables.{Table, row, _then_, each, Reads, oneEachTable, markingTable, missingTable, modeTable}
 use Rattle.model.specs.Numbers.{ℕ∞, fin, ∞, Above, aboveBy, leastOfAll, limit}
-use Rattle.model.specs.Rows.{Entry}
 use Rattle.model.specs.Nets.{NetArc, PNet, total, pairs, modes, modeNo, K, count, arcNo, row as modeRow}
 use Rattle.model.specs.Firing.{fired}
 use Rattle.model.specs.Complement.{complement}

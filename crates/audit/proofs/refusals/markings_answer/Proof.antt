@@ -1,6 +1,5 @@
 -- 17 for the marking, then 17 for the complement's.
 use borrow.Author.Needs.{needs}
-use mathlib.Core.Path.{refl}
 use Rattle.model.proofs.Refusals.{answer-passes, answer-fails, answer-last-passes, answer-last-fails}
 use Rattle.opened.proofs.Shapes.{sizes}
 use Rattle.audit.proofs.OneEach.{same-length, other-length}

@@ -1,6 +1,6 @@
 -- The figures are equal exactly when their bits are.
 use borrow.Author.Needs.{needs}
-use mathlib.Core.Path.{sym, _∙_, ap}
+use mathlib.Core.Path.{_∙_, ap}
 use Rattle.model.specs.Exclusion.{sameFigure}
 use Rattle.model.specs.Figures.{figure}
 use Rattle.model.proofs.Refusals.{answer-last-fails, answer-last-passes}

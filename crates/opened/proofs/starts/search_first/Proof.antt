@@ -1,7 +1,5 @@
 -- The span holds the first arc from t on, and narrows down to it.
-use borrow.Author.Needs.{needs}
 use Prim.Native.Nat.{_-_}
-use native.Mathlib.Omega.{arith}
 use Rattle.sheets.specs.Decoded.{netOf}
 use Rattle.opened.specs.Starts.{FirstBetween}
 use Rattle.opened.proofs.Shapes.{sizes}
