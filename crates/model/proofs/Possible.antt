@@ -46,7 +46,7 @@ lives e k h =
 
 -- at the complement of such a pair both numbers are within K
 pub lives-beside : (k : ℕ) (e : Entry) → Lives e (fin k) → (complementPre k e ≤ k) × (complementPost false k e ≤ k)
-lives-beside k e h = go (e .inhibitor) (h .low)
+lives-beside k e h = omega (arith, go (e .inhibitor) (h .low))
   where
     go : (i : ℕ∞) → e .pre ≤∞ i → (max (e .post) (reserve k i) ≤ k) × (max (e .post) (reserve k i) + e .pre - e .post ≤ k)
     go (fin i) low = rw reserve-is (omega (arith, h .room))
