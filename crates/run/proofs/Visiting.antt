@@ -91,7 +91,7 @@ tries-at o tries marking h = record { opened = o; marking = marking; own = tries
 abbrev pub visitedTo : PNet → List Mode → ℕ → ℕ
 visitedTo net ts k = total (map (modeArcs net) (take k ts))
 
-one-more : (f : Mode → ℕ) (ts : List Mode) (k : ℕ) (d : Mode) → k < length ts → total (map f (take (suc k) ts)) ≡ total (map f (take k ts)) + f (getD ts k d)
+pub one-more : (f : Mode → ℕ) (ts : List Mode) (k : ℕ) (d : Mode) → k < length ts → total (map f (take (suc k) ts)) ≡ total (map f (take k ts)) + f (getD ts k d)
 one-more f [] k d h = absurd (not-suc-le-zero h)
 one-more f (t ∷ ts) zero d h = omega arith
 one-more f (t ∷ ts) (suc k) d h = omega (arith, one-more f ts k d (le-of-suc-le-suc h))
