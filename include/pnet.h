@@ -27,9 +27,9 @@
 extern "C" {
 #endif
 
-/* The version of these structs and calls is a name: every object that includes this header refers to pnet_abi_2, which answers 2.
+/* The version of these structs and calls is a name: every object that includes this header refers to pnet_abi_3, which answers 3.
  * One that was compiled with another version's header does not link, and the linker names what it lacks. */
-uint64_t pnet_abi_2(void);
+uint64_t pnet_abi_3(void);
 
 #if defined(__has_attribute)
 #if __has_attribute(retain)
@@ -39,7 +39,7 @@ uint64_t pnet_abi_2(void);
 #ifndef PNET_KEPT
 #define PNET_KEPT __attribute__((used))
 #endif
-PNET_KEPT static uint64_t (*const pnet_abi)(void) = pnet_abi_2;
+PNET_KEPT static uint64_t (*const pnet_abi)(void) = pnet_abi_3;
 #undef PNET_KEPT
 
 /* Pairs and modes are both numbered from 0 across the whole net, place by place and transition by transition. The two are distinct
@@ -116,10 +116,18 @@ struct pnet_answer {
     uint64_t amount;
 };
 
-/* Bytes or movements. Where the call is refused the value is 0, but in pnet_run. */
+/* Bytes, 0 where the call is refused. */
 struct pnet_counted {
     struct pnet_answer answer;
     uint64_t value;
+};
+
+/* How many movements a run accepted, and how many arcs it visited: each movement tried counts the arcs of its mode once, the refused one
+ * too, and a mode that is not there counts 0. Both are 0 where the run is refused before its first movement. */
+struct pnet_ran {
+    struct pnet_answer answer;
+    uint64_t accepted;
+    uint64_t arcs;
 };
 
 /* Kilograms, 0 where the call is refused. */
@@ -199,12 +207,12 @@ struct pnet_answer pnet_test_step(const uint8_t *net, size_t net_length, const u
 struct pnet_answer pnet_fire_step(const uint8_t *net, size_t net_length, uint32_t *marking, size_t counts,
                                   const struct pnet_mode *modes, size_t modes_count);
 
-/* Runs the movements from the counts found in the marking, up to the first that is refused. The value is how many were accepted,
- * also where the answer is a refusal, and the marking is what those gave.
+/* Runs the movements from the counts found in the marking, up to the first that is refused. `accepted` is how many were accepted and `arcs`
+ * how many arcs were visited, also where a movement is refused; the marking is what the accepted ones gave.
  * Refuses: the net; the movements; the marking: 17, then pair by pair 5 and 9 (PNET_ARGUMENT); a movement: 6, 11, 12, 13, 14
  * (PNET_MOVEMENTS). */
-struct pnet_counted pnet_run(const uint8_t *net, size_t net_length, const uint8_t *movements, size_t movements_length,
-                             uint32_t *marking, size_t counts);
+struct pnet_ran pnet_run(const uint8_t *net, size_t net_length, const uint8_t *movements, size_t movements_length, uint32_t *marking,
+                         size_t counts);
 
 /* Whether the movements run whole from the net's first marking and end at the claim. Writes nothing.
  * Refuses: the net; the movements; 17 for the claim (PNET_ARGUMENT); a movement: 6, 11, 12, 13, 14 (PNET_MOVEMENTS); 18 at the

@@ -90,9 +90,9 @@ int main(int argc, char **argv)
         printf("mode %u: %+" PRId64 " kg, figure %" PRId64 " kg\n", mode.number, change.value, figure.value);
     }
 
-    struct pnet_counted run = pnet_run(net.bytes, net.length, movements.bytes, movements.length, start, pairs);
-    printf("run: %" PRIu64 " accepted, answer %" PRIu64 "; the marking is %s\n", run.value, run.answer.number,
-           memcmp(start, marking, pairs * sizeof *marking) ? "another" : "the same");
+    struct pnet_ran run = pnet_run(net.bytes, net.length, movements.bytes, movements.length, start, pairs);
+    printf("run: %" PRIu64 " accepted, %" PRIu64 " arcs visited, answer %" PRIu64 "; the marking is %s\n", run.accepted, run.arcs,
+           run.answer.number, memcmp(start, marking, pairs * sizeof *marking) ? "another" : "the same");
     struct pnet_answer certified =
         pnet_certify(net.bytes, net.length, movements.bytes, movements.length, marking, pairs);
     printf("certificate: answer %" PRIu64 "\n", certified.number);

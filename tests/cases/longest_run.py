@@ -46,20 +46,22 @@ def refusal(marking, mode):
 
 
 def run(marking):
-    """How many movements were accepted, the answer's number, pair and amount."""
+    """How many movements were accepted, how many arcs visited, the answer's number, pair and amount."""
+    visited = 0
     for k in range(MOVEMENTS):
         mode = movement(k)
+        visited += len(list(arcs(mode)))
         number, pair, amount = refusal(marking, mode)
         if number:
-            return k, number, pair, amount
+            return k, visited, number, pair, amount
         for p, pre, post, i in arcs(mode):
             marking[p] += post - pre
-    return MOVEMENTS, 0, 0, 0
+    return MOVEMENTS, visited, 0, 0, 0
 
 
 def check(markings):
     """The three markings of limits.txt."""
     marking = [first(p) for p in range(PAIRS)]
     assert markings["longest_start"] == marking
-    assert run(marking) == (MOVEMENTS, 0, 0, 0) and markings["longest_end"] == marking
-    assert run(marking) == (3, 12, 178, 1) and markings["longest_end_again"] == marking
+    assert run(marking) == (MOVEMENTS, 65_536, 0, 0, 0) and markings["longest_end"] == marking
+    assert run(marking) == (3, 32, 12, 178, 1) and markings["longest_end_again"] == marking

@@ -10,8 +10,8 @@ A list has, each with its lines below it, indented; `#` starts a comment, which 
     weights, movements, marking NAME: numbers
     case NAME           `call fire, net P1, marking 3 1, mode 0`, of a step `modes 0 1` or `modes 65 times 0`, of an audit `beside 3 1 2`, the complement's
                         marking; what it answers, `accepted` or
-                        `refused by 13, thing 3, at 0, amount 1` (a number that is not said is 0), with what it yields, `value 91`, `yes`, `no`, `mode 1 pair 1` or
-                        `pair 6 excess -1`;
+                        `refused by 13, thing 3, at 0, amount 1` (a number that is not said is 0), with what it yields, `value 91`, `yes`, `no`, `mode 1 pair 1`,
+                        `pair 6 excess -1` or of a run `ran 3 arcs 8`: how many were accepted and how many arcs visited;
                         `leaves 2 1`, the marking after (else it is as before); `writes NAME`, the sheet in the bytes lent, of which it has `room` (else
                         nothing is written)
     both NET, COMPLEMENT   a row is a marking, `|` and the counts of its complement pairs, a mode, and `to` the marking after, or the refusals: `13 at 0 amount 1 | 11 at 2 amount 1`.
@@ -42,13 +42,13 @@ CALLS = {
     "read_net": (16, "net", ""),
     "read_weights": (17, "weights", ""),
     "read_movements": (18, "movements", ""),
-    "run": (19, "net", "movements"),
-    "complement": (20, "net", ""),
+    "complement": (19, "net", ""),
     "figure": (32, "net", "weights"),
     "change": (33, "net", "weights"),
     "is_dead": (48, "net", ""),
     "first_dead": (49, "net", ""),
     "audit": (50, "net", "beside"),
+    "run": (64, "net", "movements"),
 }
 
 sheets = dict(limits.SHEETS, refit=(top / "examples/refit/net.sheet").read_bytes())
@@ -109,14 +109,14 @@ def add(name, call, arguments, told, after, written):
 
 def answer_of(call, line):
     """What is told, as src/told.rt puts it."""
-    found = re.fullmatch(r"(?:accepted|refused by (\d+)(?:, thing (\d+))?(?:, at (\d+))?(?:, amount (\d+))?)(?:, (value -?\d+|yes|no|mode \d+ pair \d+|pair \d+ excess -?\d+))?", line)
+    found = re.fullmatch(r"(?:accepted|refused by (\d+)(?:, thing (\d+))?(?:, at (\d+))?(?:, amount (\d+))?)(?:, (value -?\d+|yes|no|mode \d+ pair \d+|pair \d+ excess -?\d+|ran \d+ arcs \d+))?", line)
     assert found, line
     word, *rest = (found[5] or "no").split()
     told = [int(number or 0) for number in found.groups()[:4]]
     if word == "value":
         told += [rest[0].startswith("-"), *divmod(abs(int(rest[0])), 2**32)]
-    elif word == "mode":
-        told += [1, int(rest[0]), int(rest[2])]
+    elif word in ("mode", "ran"):
+        told += [word == "mode", int(rest[0]), int(rest[2])]
     elif word == "pair":
         high, low = divmod(abs(int(rest[2])), 2**32)
         told += [1 + rest[2].startswith("-"), int(rest[0]) * 65536 + high, low]

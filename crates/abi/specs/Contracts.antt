@@ -8,7 +8,7 @@ use Rattle.nets.specs.Nets.{netRefusal}
 use Rattle.lists.specs.Weights.{weightsRefusal}
 use Rattle.lists.specs.Movements.{movementsRefusal}
 use Rattle.fire.specs.Calls.{beginRefusal, begun, testRefusal, firedBy}
-use Rattle.run.specs.Calls.{ranOf, runOf, certifyRefusal}
+use Rattle.run.specs.Calls.{ranOf, runOf, visitedBy, certifyRefusal}
 use Rattle.step.specs.Calls.{testStepRefusal, steppedBy}
 use Rattle.weigh.specs.Calls as weigh
 use Rattle.exclude.specs.Calls.{excludeRefusal}
@@ -20,6 +20,7 @@ use Rattle.audit.specs.Audits as audit
 use Rattle.statement.specs.Replay.{stated, statedIn}
 use Rattle.answers.specs.declared.Answered.{Answered}
 use Rattle.answers.specs.declared.Counted.{Counted}
+use Rattle.answers.specs.declared.Tallied.{Tallied}
 use Rattle.answers.specs.declared.Weighed.{Weighed}
 use Rattle.answers.specs.declared.Decided.{Decided}
 use Rattle.answers.specs.declared.Named.{Named}
@@ -55,8 +56,8 @@ module _ (net : List ℕ) where
   abbrev pub FireStepAllows : List ℕ → List ℕ → Answered × List ℕ → Type 0
   FireStepAllows marking modes o = (o .0 ≡ answered (answer (testStepRefusal net marking modes))) × (o .1 ≡ steppedBy net marking modes)
 
-  abbrev pub RunAllows : List ℕ → List ℕ → Counted × List ℕ → Type 0
-  RunAllows movements marking o = (o .0 ≡ ran (ranOf (runOf net movements marking))) × (o .1 ≡ runOf net movements marking .marking)
+  abbrev pub RunAllows : List ℕ → List ℕ → Tallied × List ℕ → Type 0
+  RunAllows movements marking o = (o .0 ≡ ran (ranOf (runOf net movements marking) (visitedBy net movements marking))) × (o .1 ≡ runOf net movements marking .marking)
 
   abbrev pub CertifyAllows : List ℕ → List ℕ → Answered → Type 0
   CertifyAllows movements claim told = told ≡ answered (answer (certifyRefusal net movements claim))

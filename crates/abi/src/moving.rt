@@ -1,6 +1,6 @@
 // Movements over a lent marking.
 use answers::Answered;
-use answers::Counted;
+use answers::Tallied;
 use answers::tell;
 use fire::begin;
 use fire::fire;
@@ -49,14 +49,15 @@ pub extern "C" fn pnet_fire_step(net: &[u8], marking: &mut [u32], modes: &[u16])
 }
 
 #[no_mangle]
-pub extern "C" fn pnet_run(net: &[u8], movements: &[u8], marking: &mut [u32]) -> Counted
+pub extern "C" fn pnet_run(net: &[u8], movements: &[u8], marking: &mut [u32]) -> Tallied
     ensures { λ r. ⌜ RunAllows (now (net .entry)) (now (movements .entry)) (now (marking .entry)) (r, now (marking .exit)) ⌝ }
 {
     let outcome = run(net, movements, marking);
     let answer = outcome.answer;
-    Counted {
+    Tallied {
         answer: tell(answer),
-        value: outcome.accepted as u64,
+        accepted: outcome.accepted as u64,
+        arcs: outcome.visited as u64,
     }
 }
 

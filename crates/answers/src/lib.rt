@@ -35,11 +35,19 @@ pub struct Answered {
     pub amount: u64,
 }
 
-// How many bytes or movements.
+// How many bytes.
 #[repr(C)]
 pub struct Counted {
     pub answer: Answered,
     pub value: u64,
+}
+
+// How many movements were accepted, and how many arcs were visited.
+#[repr(C)]
+pub struct Tallied {
+    pub answer: Answered,
+    pub accepted: u64,
+    pub arcs: u64,
 }
 
 // Kilograms.

@@ -10,6 +10,7 @@ use crate::told::told_count;
 use crate::told::told_decision;
 use crate::told::told_kilograms;
 use crate::told::told_name;
+use crate::told::told_run;
 use abi::complementing::pnet_complement;
 use abi::dying::pnet_first_dead;
 use abi::dying::pnet_is_dead;
@@ -40,19 +41,11 @@ fn answer(call: u32, mode: Mode, first: &[u8], second: &[u8], marking: &mut [u32
     }
 }
 
-fn count(
-    call: u32,
-    pairs: usize,
-    first: &[u8],
-    second: &[u8],
-    marking: &mut [u32],
-    out: &mut [u8],
-) -> Counted {
+fn count(call: u32, pairs: usize, first: &[u8], out: &mut [u8]) -> Counted {
     match call {
         16 => pnet_read_net(first),
         17 => pnet_read_weights(first, pairs),
         18 => pnet_read_movements(first),
-        19 => pnet_run(first, second, marking),
         _ => pnet_complement(first, out),
     }
 }
@@ -83,9 +76,10 @@ fn tell(
     let mode = Mode((number % 65536) as u16);
     match call / 16 {
         0 => told_alone(answer(call, mode, first, second, marking)),
-        1 => told_count(count(call, number as usize, first, second, marking, out)),
+        1 => told_count(count(call, number as usize, first, out)),
         2 => told_kilograms(weigh(call, mode, first, second, marking)),
-        _ => look(call, mode, first, second, marking),
+        3 => look(call, mode, first, second, marking),
+        _ => told_run(pnet_run(first, second, marking)),
     }
 }
 

@@ -1,10 +1,11 @@
 // What a call tells C, in one form: document 01's number, thing and position, document 02's amount, then what the call yields: a number as its sign (1 where it is negative), its upper and
-// its lower 32 bits; yes as 1; a mode and its pair after a 1; a pair and its excess after a 1, or a 2 where that is negative, the pair's number above the upper bits.
+// its lower 32 bits; the movements and the arcs of a run after a 0; yes as 1; a mode and its pair after a 1; a pair and its excess after a 1, or a 2 where that is negative, the pair's number above the upper bits.
 use answers::Answered;
 use answers::Audited;
 use answers::Counted;
 use answers::Decided;
 use answers::Named;
+use answers::Tallied;
 use answers::Weighed;
 
 pub(crate) struct Told {
@@ -31,6 +32,17 @@ pub(crate) fn told_count(counted: Counted) -> Told {
         sign: 0,
         high: (value / 4_294_967_296) as u32,
         low: (value % 4_294_967_296) as u32,
+    }
+}
+
+// A run has at most 8,192 movements, and visits at most 16,777,216 arcs.
+pub(crate) fn told_run(tallied: Tallied) -> Told {
+    let answer = tallied.answer;
+    Told {
+        answer,
+        sign: 0,
+        high: (tallied.accepted % 4_294_967_296) as u32,
+        low: (tallied.arcs % 4_294_967_296) as u32,
     }
 }
 

@@ -39,3 +39,4 @@ pub mod Orders
 pub mod ApartInBoth
 pub mod OutOfStep
 pub mod OutOfStepMoves
+pub mod Visits

@@ -13,7 +13,7 @@ use Rattle.fire.specs.Contracts.{TestAllows, FireAllows}
 use Rattle.step.specs.Contracts.{TestStepAllows, FireStepAllows}
 use Rattle.run.specs.Contracts.{RunAllows, CertifyAllows}
 use Rattle.answers.specs.declared.Answered.{Answered}
-use Rattle.answers.specs.declared.Counted.{Counted}
+use Rattle.answers.specs.declared.Tallied.{Tallied}
 use Rattle.abi.specs.Contracts as c
 use Rattle.statement.specs.Example as sheets
 use Rattle.promises.specs.OwnExample as own
@@ -77,7 +77,7 @@ for-c =
           (λ i p a. ((_, p .1), (refl, a .1), ap (λ (r : Answered). r .amount) (a .0)));
       run =
           told-varies (λ (i : List ℕ × List ℕ × List ℕ). c.RunAllows (i .0) (i .1) (i .2)) (λ o. o .0 .answer .amount) run-varies
-          (λ i p a. ((_, p .1), (refl, a .1), ap (λ (r : Counted). r .answer .amount) (a .0)));
+          (λ i p a. ((_, p .1), (refl, a .1), ap (λ (r : Tallied). r .answer .amount) (a .0)));
       certify =
           told-varies (λ (i : List ℕ × List ℕ × List ℕ). c.CertifyAllows (i .0) (i .1) (i .2)) (λ o. o .amount) certify-varies
           (λ i p a. (_, refl, ap (λ (r : Answered). r .amount) a));

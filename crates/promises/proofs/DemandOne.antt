@@ -95,7 +95,7 @@ demand-one-for-c =
           ∙ output-kept (complementingRefusal net (length out)) (length (complementSheet net)) (complementSheet net) out
           (subst (λ c. c .answer .number ≢ 0) (allows .0) refused);
       statement = λ input out o allows refused. allows .1 ∙ text-kept input out (subst (λ c. c .answer .number ≢ 0) (allows .0) refused);
-      run = λ net movements marking o allows refused. run-leads net movements marking (ap (λ c. c .value) (allows .0)) (allows .1);
+      run = λ net movements marking o allows refused. run-leads net movements marking (ap (λ c. c .accepted) (allows .0)) (allows .1);
       runNone = λ net movements marking o allows e.
-          stays-is (rw e at (run-leads net movements marking (ap (λ c. c .value) (allows .0)) (allows .1)));
+          stays-is (rw e at (run-leads net movements marking (ap (λ c. c .accepted) (allows .0)) (allows .1)));
     }

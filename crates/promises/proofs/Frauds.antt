@@ -6,6 +6,7 @@ use Rattle.promises.proofs.ConstantAmounts.{constant-amounts}
 use Rattle.promises.proofs.WritesNothing.{writes-nothing}
 use Rattle.promises.proofs.CopiesNet.{copies-net}
 use Rattle.promises.proofs.RunFrauds.{run-frauds}
+use Rattle.promises.proofs.ArcsVisited.{visit-frauds}
 use Rattle.promises.proofs.StepFrauds.{first-member-alone}
 use Rattle.promises.proofs.AuditFrauds.{always-in-step}
 use Rattle.promises.proofs.Exclusion.{exclusion-frauds}
@@ -19,6 +20,7 @@ frauds =
       firing = writes-nothing;
       copying = copies-net;
       running = run-frauds;
+      visiting = visit-frauds;
       stepping = first-member-alone;
       auditing = always-in-step;
       excluding = exclusion-frauds;

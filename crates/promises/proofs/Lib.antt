@@ -16,6 +16,7 @@ pub mod Accepting
 pub mod WritesNothing
 pub mod CopiesNet
 pub mod RunFrauds
+pub mod ArcsVisited
 pub mod StepFrauds
 pub mod AuditFrauds
 pub mod Exclusion

@@ -1,6 +1,6 @@
 -- Document 01's own example: its sheet is read back, and the rest is computed from the net.
 use Prim.Native.Nat.{ℕ, _≤_}
-use mathlib.Core.Path.{_≡_, refl, _∙_, ap}
+use mathlib.Core.Path.{_≡_, refl, _∙_, ap, ap₂}
 use mathlib.Core.Bool.{false}
 use mathlib.Core.List.{List, [], _∷_}
 use mathlib.Core.Logic.{inr}
@@ -19,6 +19,7 @@ use Rattle.model.specs.First.{_▸_, first}
 use Rattle.model.specs.Nets.{modeNo, entryAt, pairNo}
 use Rattle.model.specs.Refusals.{answer, number, carried, wrong}
 use Rattle.model.specs.Runs.{Outcome, runFrom, run, elsewhere, endsAt, certificateRefusal}
+use Rattle.model.specs.Visits.{arcsAmong, modeArcs, visited}
 use Rattle.model.specs.Figures.{sum, figure, change}
 use Rattle.model.specs.Exclusion.{sameFigure, claimRefusal}
 use Rattle.model.specs.Dead.{deadPair, isDead, firstDead}
@@ -47,7 +48,7 @@ use Rattle.written.proofs.SheetLength.{sheet-size}
 use Rattle.fire.specs.Calls.{beginRefusal, testRefusal}
 use Rattle.run.specs.declared.Ran.{Ran}
 use Rattle.run.specs.Contracts.{RunAllows}
-use Rattle.run.specs.Calls.{ranOf, beforeRun, runOf, certifyRefusal}
+use Rattle.run.specs.Calls.{ranOf, beforeRun, runOf, visitedBy, certifyRefusal}
 use Rattle.step.specs.Calls.{stepModes, testStepRefusal}
 use Rattle.weigh.specs.Calls as weigh
 use Rattle.weigh.specs.Calls.{figured, figureRefusal, changeRefusal}
@@ -172,6 +173,14 @@ pub run-is : runOf own.net sheets.movements (3 ∷ 0 ∷ []) ≡ stops
 unfolding runOf
 run-is = rw (before-run sheets.movements movements-read, read-back .same) runs
 
+visits : visited example (movementsOf sheets.movements) (3 ∷ 0 ∷ []) ≡ 8
+unfolding visited modeArcs arcsAmong runFrom movementsOf table u16At u32At modeRefusal rowRefusal ruleRefusal first _▸_ entryAt fired
+visits = refl
+
+pub visits-eight : visitedBy own.net sheets.movements (3 ∷ 0 ∷ []) ≡ 8
+unfolding visitedBy
+visits-eight = rw (before-run sheets.movements movements-read, read-back .same) visits
+
 certificate : certificateRefusal example (movementsOf own.three) (0 ∷ 3 ∷ []) ≡ none
 unfolding certificateRefusal endsAt elsewhere runFrom movementsOf table u16At u32At modeRefusal rowRefusal ruleRefusal first _▸_ entryAt fired
 certificate = refl
@@ -277,9 +286,10 @@ left-aboard = refl
 
 run-allows : (o : Ran × List ℕ) → RunAllows own.net sheets.movements (3 ∷ 0 ∷ []) o → RunsTo o
 run-allows o a =
-    let told : o .0 ≡ ranOf stops = a .0 ∙ ap ranOf run-is in
+    let told : o .0 ≡ ranOf stops 8 = a .0 ∙ ap₂ ranOf run-is visits-eight in
     record {
       accepted = ap (λ r. r .accepted) told;
+      visited = ap (λ r. r .visited) told;
       refused = ap (λ r. carried (r .answer)) told;
       marking = a .1 ∙ ap (λ r. r .marking) run-is;
     }

@@ -17,6 +17,7 @@ use Rattle.model.proofs.Exclusion.{claim-accepted, figure-constant, out-of-reac
 use Rattle.model.proofs.CorrespondingSteps.{steps-back, steps-forth, step-examples}
 use Rattle.model.proofs.Orders.{orders, interleavings}
 use Rattle.model.proofs.ApartInBoth.{orders-in-both, order-examples}
+use Rattle.model.proofs.Visits.{movements-tried, visits-bounded, visits-examples}
 use Rattle.model.proofs.OutOfStep.{audit-finds, audit-examples}
 use Rattle.model.proofs.OutOfStepMoves.{audit-along, mark-shows}
 use Rattle.sheets.proofs.Accepted.{well-formed}
@@ -42,6 +43,7 @@ use Rattle.promises.proofs.DeadAsWritten.{dead-as-written}
 use Rattle.promises.proofs.TwoOrders.{two-orders}
 use Rattle.promises.proofs.Audits.{audits}
 use Rattle.promises.proofs.FigureOverRun.{figure-over-run}
+use Rattle.promises.proofs.ArcsVisited.{arcs-visited}
 use Rattle.promises.proofs.LiveModes.{live-modes}
 use Rattle.promises.proofs.Exclusion.{no-list-leads, no-sheet-certifies, figure-call-constant}
 use Rattle.promises.proofs.CallTables.{call-tables}
@@ -85,6 +87,9 @@ promises =
       ordersInBoth = orders-in-both;
       interleavings = interleavings;
       orderExamples = order-examples;
+      movementsTried = movements-tried;
+      visitsBounded = visits-bounded;
+      visitsExamples = visits-examples;
       auditFinds = audit-finds;
       auditAlong = audit-along;
       markShows = mark-shows;
@@ -106,6 +111,7 @@ promises =
       runsLeave = runs-leave;
       runsKeep = runs-keep;
       certified = certified;
+      arcsVisited = arcs-visited;
       figureIsSum = figure-is-sum;
       changeIsSum = change-is-sum;
       figureFired = figure-fired;

@@ -25,6 +25,7 @@ use Rattle.statement.specs.declared.Stated.the-variants.{NoRoom}
 use Rattle.statement.specs.Contracts.{StatementAllows}
 use Rattle.answers.specs.declared.Answered.{Answered}
 use Rattle.answers.specs.declared.Counted.{Counted}
+use Rattle.answers.specs.declared.Tallied.{Tallied}
 use Rattle.abi.specs.Contracts as forC
 
 -- refused: any number but 0
@@ -51,6 +52,6 @@ pub record DemandOneForC : Type 0 where
   pub fireStep : (net marking modes : List ℕ) (o : Answered × List ℕ) → forC.FireStepAllows net marking modes o → o .0 .number ≢ 0 → o .1 ≡ marking
   pub complement : (net out : List ℕ) (o : Counted × List ℕ) → forC.ComplementAllows net out o → o .0 .answer .number ≢ 0 → o .1 ≡ out
   pub statement : (input out : List ℕ) (o : Counted × List ℕ) → forC.StatementAllows input out o → o .0 .answer .number ≢ 0 → o .1 ≡ out
-  pub run : (net movements marking : List ℕ) (o : Counted × List ℕ) → forC.RunAllows net movements marking o → o .0 .answer .number ≢ 0
-      → Leads (netOf net) (take (o .0 .value) (movementsOf movements)) marking (o .1)
-  pub runNone : (net movements marking : List ℕ) (o : Counted × List ℕ) → forC.RunAllows net movements marking o → o .0 .value ≡ 0 → o .1 ≡ marking
+  pub run : (net movements marking : List ℕ) (o : Tallied × List ℕ) → forC.RunAllows net movements marking o → o .0 .answer .number ≢ 0
+      → Leads (netOf net) (take (o .0 .accepted) (movementsOf movements)) marking (o .1)
+  pub runNone : (net movements marking : List ℕ) (o : Tallied × List ℕ) → forC.RunAllows net movements marking o → o .0 .accepted ≡ 0 → o .1 ≡ marking

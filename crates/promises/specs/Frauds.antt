@@ -1,7 +1,7 @@
 -- "These frauds are shown to break it." Each is excluded by the contract that the call's source states.
 use Prim.Native.Nat.{ℕ, _+_, _≤_, _<_}
 use mathlib.Core.Path.{_≡_}
-use mathlib.Core.List.{List, [], _∷_}
+use mathlib.Core.List.{List, [], _∷_, map}
 use mathlib.Core.Logic.{_↔_, _≢_}
 use mathlib.Core.Option.{none}
 use lib.ListN.{length, take, drop, getD}
@@ -10,12 +10,13 @@ use Rattle.model.specs.declared.Thing.the-variants.{Movements}
 use Rattle.model.specs.declared.Answer.{Answer}
 use Rattle.model.specs.Refusals.{number}
 use Rattle.model.specs.Numbers.{fin}
-use Rattle.model.specs.Nets.{PNet, pairs, modeNo, K, row}
+use Rattle.model.specs.Nets.{PNet, total, pairs, modeNo, K, row}
 use Rattle.model.specs.Firing.{modeRefusal, fired}
 use Rattle.model.specs.Steps.{together}
 use Rattle.model.specs.Complement.{Corresponds}
 use Rattle.model.specs.Audit.{OutOfStep}
 use Rattle.model.specs.Promises.{Leads}
+use Rattle.model.specs.Visits.{modeArcs}
 use Rattle.sheets.specs.Decoded.{netOf, movementsOf}
 use Rattle.fire.specs.Contracts.{FireAllows}
 use Rattle.run.specs.declared.Ran.{Ran}
@@ -32,7 +33,8 @@ use Rattle.audit.specs.declared.Found.{Found}
 use Rattle.audit.specs.declared.Found.the-variants.{Nothing}
 use Rattle.audit.specs.Audits as audits
 use Rattle.audit.specs.Contracts.{AuditAllows}
-use Rattle.promises.specs.ConstantAnswers.{ConstantAnswers}
+use Rattle.abi.specs.Contracts as c
+use Rattle.promises.specs.ConstantAnswers.{NotConstant, ConstantAnswers}
 use Rattle.promises.specs.ConstantAnswersForC.{ConstantAnswersForC}
 use Rattle.promises.specs.ConstantAmounts.{ConstantAmounts}
 
@@ -83,6 +85,14 @@ pub record RunFrauds : Type 0 where
       → taken (netOf net) (later net movements marking) p ≢ given (netOf net) (later net movements marking) p
       → (o : Ran × List ℕ) → RunAllows net movements marking o → o .1 ≢ afterFirst net movements marking
 
+-- A run that reports a constant count of arcs, or one that leaves out the movement at which it stops, which has some (document 02, P14).
+pub record VisitFrauds : Type 0 where
+  pub constant : NotConstant (λ (i : List ℕ × List ℕ × List ℕ). RunAllows (i .0) (i .1) (i .2)) (λ o. o .0 .visited)
+  pub constantForC : NotConstant (λ (i : List ℕ × List ℕ × List ℕ). c.RunAllows (i .0) (i .1) (i .2)) (λ o. o .0 .arcs)
+  pub refusedLeftOut : (net movements marking : List ℕ) (o : Ran × List ℕ) → RunAllows net movements marking o → beforeRun net movements marking ≡ none
+      → runOf net movements marking .refusal ≢ none → 0 < modeArcs (netOf net) (getD (movementsOf movements) (o .0 .accepted) (modeNo 0))
+      → o .0 .visited ≢ total (map (modeArcs (netOf net)) (take (o .0 .accepted) (movementsOf movements)))
+
 -- A step that fires only its first member: those after it take another number from some pair than they give.
 abbrev pub FirstMemberAlone : Type 0
 FirstMemberAlone = (net marking : List ℕ) (first : ℕ) (later : List ℕ) (p : ℕ) → p < pairs (netOf net)
@@ -107,6 +117,7 @@ pub record Frauds : Type 0 where
   pub firing : WritesNothing
   pub copying : CopiesNet
   pub running : RunFrauds
+  pub visiting : VisitFrauds
   pub stepping : FirstMemberAlone
   pub auditing : AlwaysInStep
   pub excluding : ExclusionFrauds

@@ -7,6 +7,7 @@ pub mod DeadAsWritten
 pub mod TwoOrders
 pub mod Audits
 pub mod FigureOverRun
+pub mod ArcsVisited
 pub mod LiveModes
 pub mod Exclusion
 pub mod Uniqueness

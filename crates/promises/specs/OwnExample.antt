@@ -62,6 +62,7 @@ room = replicate 91 0
 
 pub record RunsTo (o : Ran × List ℕ) : Type 0 where
   pub accepted : o .0 .accepted ≡ 3
+  pub visited : o .0 .visited ≡ 8
   pub refused : carried (o .0 .answer) ≡ carriesBy 11 2 0 1
   pub marking : o .1 ≡ 0 ∷ 3 ∷ []
 
@@ -73,7 +74,7 @@ pub record OwnExample : Type 0 where
   -- none is left aboard: one token is lacking; and two for five at once of three
   pub test : (told : Answer) → TestAllows net (0 ∷ 3 ∷ []) (modeNo 0) told → carried told ≡ carriesBy 11 3 0 1
   pub testStep : (told : Answer) → TestStepAllows net (3 ∷ 0 ∷ []) five told → carried told ≡ carriesBy 11 3 0 2
-  -- "refused 4 0 11 0 1", "end 3 0"
+  -- "refused 4 0 11 0 1", "end 3 0"; four movements tried, of two arcs each
   pub run : (o : Ran × List ℕ) → RunAllows net movements (3 ∷ 0 ∷ []) o → RunsTo o
   pub certify : (told : Answer) → CertifyAllows net three (0 ∷ 3 ∷ []) told → number told ≡ 0
   -- "start 750"

@@ -6,6 +6,7 @@ use Rattle.model.specs.DemandThree.{Demand3}
 use Rattle.model.specs.DeadComplement.{Never16, DeadInComplement}
 use Rattle.model.specs.Steps as step
 use Rattle.model.specs.Orders.{Orders, OrdersInBoth, Interleavings, OrderExamples}
+use Rattle.model.specs.Visits as visits
 use Rattle.model.specs.Audit as audit
 use Rattle.model.specs.Exclusion as claim
 use Rattle.sheets.specs.Accepted.{AcceptedNet, AcceptedMovements, AcceptedWeights}
@@ -28,6 +29,7 @@ use Rattle.promises.specs.DeadAsWritten.{DeadAsWritten}
 use Rattle.promises.specs.TwoOrders.{TwoOrders}
 use Rattle.promises.specs.Audits.{Audits}
 use Rattle.promises.specs.FigureOverRun.{FigureOverRun}
+use Rattle.promises.specs.ArcsVisited.{ArcsVisited}
 use Rattle.promises.specs.LiveModes.{LiveModes}
 use Rattle.promises.specs.Exclusion.{NoListLeads, NoSheetCertifies, FigureCallConstant}
 use Rattle.promises.specs.CallTables.{CallTables}
@@ -70,6 +72,9 @@ pub record Promises : Type 0 where
   pub ordersInBoth : OrdersInBoth
   pub interleavings : Interleavings
   pub orderExamples : OrderExamples
+  pub movementsTried : visits.MovementsTried
+  pub visitsBounded : visits.VisitsBounded
+  pub visitsExamples : visits.VisitsExamples
   pub auditFinds : audit.AuditFinds
   pub auditAlong : audit.AuditAlong
   pub markShows : audit.MarkShows
@@ -93,6 +98,7 @@ pub record Promises : Type 0 where
   pub runsLeave : RunsLeave
   pub runsKeep : RunsKeep
   pub certified : Certified
+  pub arcsVisited : ArcsVisited
   pub figureIsSum : FigureIsSum
   pub changeIsSum : ChangeIsSum
   pub figureFired : FigureFired

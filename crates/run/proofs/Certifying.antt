@@ -14,8 +14,8 @@ use Rattle.model.proofs.Refusals.{answer-stops, answer-goes-on}
 use Rattle.run.specs.declared.Ran.{Ran}
 use Rattle.run.specs.Parts.{Reports}
 
-module _ (net : PNet) (ts : List Mode) (claim : List ℕ) {m : List ℕ} {told : Ran} {left : List ℕ} (begins : m ≡ net .start)
-    (reports : Reports (run net ts m) told left) where
+module _ (net : PNet) (ts : List Mode) (claim : List ℕ) {m : List ℕ} {arcs : ℕ} {told : Ran} {left : List ℕ} (begins : m ≡ net .start)
+    (reports : Reports (run net ts m) arcs told left) where
   told-is : told .answer ≡ answer (run net ts (net .start) .refusal)
   told-is = ap (λ x. x .answer) (reports .tells) ∙ ap (λ m. answer (run net ts m .refusal)) begins
 

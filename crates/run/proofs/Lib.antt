@@ -4,3 +4,4 @@ pub mod Certifying
 pub mod Promises
 pub mod Reporting
 pub mod Running
+pub mod Visiting

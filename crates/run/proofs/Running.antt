@@ -1,5 +1,5 @@
 -- A run on its way: what is left from here is the whole.
-use Prim.Native.Nat.{ℕ, _+_, _≤_, _<_}
+use Prim.Native.Nat.{ℕ, _+_, _*_, _≤_, _<_}
 use mathlib.Core.Path.{_≡_, refl, sym, _∙_, ap}
 use mathlib.Core.List.{List}
 use mathlib.Core.Bool.{Bool, true, false}
@@ -18,6 +18,7 @@ use Rattle.model.specs.Nets.{PNet, modeNo}
 use Rattle.model.specs.Markings.{Marking}
 use Rattle.model.specs.Firing.{modeRefusal, fired, absent}
 use Rattle.model.specs.Runs.{Outcome, runFrom, run}
+use Rattle.model.specs.Visits.{visited}
 use Rattle.model.proofs.Markings.{marking-kept}
 use Rattle.model.specs.Promises.{Leads, stays, moves}
 use Rattle.model.specs.Refusals.{answer}
@@ -28,13 +29,16 @@ use Rattle.opened.specs.Shape.{Open}
 use Rattle.sheets.specs.Decoded.{netOf}
 use Rattle.sheets.specs.Listed.{modeAt, modesFrom}
 use Rattle.sheets.proofs.Lists.{modes-from-length, modes-from-at}
+use Rattle.opened.specs.declared.starts.Segment.{Segment}
 use Rattle.run.specs.declared.Ran.{Ran}
+use Rattle.run.specs.declared.movements.Progress.{Progress}
 use Rattle.firing.specs.Leaving.{written, Makes}
 use Rattle.firing.specs.AtMode.{refusalOf}
 use Rattle.rule.proofs.FourTests.{clash}
 use Rattle.firing.proofs.Leaving.{makes-not, makes-after}
 use Rattle.fire.proofs.Opened.{mode-refusal}
-use Rattle.run.specs.Parts.{Accepts, Reports}
+use Rattle.run.specs.Parts.{Tries, Accepts, Reports}
+use Rattle.run.proofs.Visiting.{tries-own, visitedTo, visits-more, visits-stop, visits-end}
 
 abbrev ended : ℕ → List ℕ → Outcome
 ended k m = record { accepted = k; refusal = none; marking = m }
@@ -69,52 +73,67 @@ module _ {s : List ℕ} {net : NetShape} (o : Open s net) (t : Mode) {m new : Li
       let there : absent Movements (net .modes) t ≡ none = simp (lt-leb (net .modes) (t .0) h) in
       rw (← mode-refusal o) (makes-after (absent Movements (net .modes) t) _ there makes)
 
-abbrev pub told : ℕ → Answer → Ran
-told k a = record { accepted = k; answer = a }
-
--- the same number, told otherwise
-pub accepts-as : {o : Outcome} {k told : ℕ} {left : List ℕ} → told ≡ k → Accepts o k left → Accepts o told left
-accepts-as e a = record { accepted = e ∙ a .accepted; leaves = a .leaves }
-
--- k of the count movements that stand in s from `start` on have led from m₀ to m
-pub record Along (net : PNet) (s : List ℕ) (start count : ℕ) (m₀ : List ℕ) (k : ℕ) (m : List ℕ) : Type 0 where
+-- k of the count movements that stand in s from `start` on have led from m₀ to m, and visited v arcs
+pub record Along (net : PNet) (s : List ℕ) (start count : ℕ) (m₀ : List ℕ) (k v : ℕ) (m : List ℕ) : Type 0 where
   pub marking : Marking net m
   pub rest : runFrom net k (drop k (modesFrom s start count)) m ≡ run net (modesFrom s start count) m₀
+  pub visits : v ≡ visitedTo net (modesFrom s start count) k
+  pub few : v ≤ k * 2048
+
+abbrev progress : ℕ → ℕ → Progress
+progress k v = record { accepted = k; visited = v }
 
 module _ {net : PNet} {s : List ℕ} {start count : ℕ} {m₀ : List ℕ} where
-  pub along-none : Marking net m₀ → Along net s start count m₀ 0 m₀
-  along-none h = record { marking = h; rest = refl }
+  pub along-none : Marking net m₀ → Along net s start count m₀ 0 0 m₀
+  along-none h = record { marking = h; rest = refl; visits = refl; few = omega arith }
 
-  pub along-ends : {k : ℕ} {m : List ℕ} → Along net s start count m₀ k m → count ≤ k → Accepts (run net (modesFrom s start count) m₀) k m
-  along-ends {k} {m} along h =
-      let e : ended k m ≡ run net (modesFrom s start count) m₀ = sym (run-ends net _ k m (rw modes-from-length h)) ∙ along .rest in
-      record { accepted = ap (λ o. o .accepted) e; leaves = ap (λ o. o .marking) e }
+  pub along-ends : {k v : ℕ} {m : List ℕ} → Along net s start count m₀ k v m → count ≤ k → Accepts net (modesFrom s start count) m₀ (progress k v) m
+  along-ends {k} {v} {m} along h =
+      let past : length (modesFrom s start count) ≤ k = rw modes-from-length h in
+      let e : ended k m ≡ run net (modesFrom s start count) m₀ = sym (run-ends net _ k m past) ∙ along .rest in
+      let accepted : k ≡ run net (modesFrom s start count) m₀ .accepted = ap (λ o. o .accepted) e in
+      record { accepted = accepted; visits = along .visits ∙ visits-end net _ m₀ k past accepted; leaves = ap (λ o. o .marking) e }
 
-  module _ {k : ℕ} {m : List ℕ} {t : Mode} {made : Bool} {left : List ℕ} (along : Along net s start count m₀ k m) (h : k < count) (q : t ≡ modeAt s start k)
-      (move : Makes (modeRefusal Movements net t m) (fired net t m) m made left) where
+  module _ {k v : ℕ} {m : List ℕ} {t : Mode} {arcs : Segment} {made : Bool} {left : List ℕ} (along : Along net s start count m₀ k v m) (h : k < count)
+      (q : t ≡ modeAt s start k) (tries : Tries net t arcs) (move : Makes (modeRefusal Movements net (arcs .mode) m) (fired net (arcs .mode) m) m made left) where
     there : k < length (modesFrom s start count)
     there = rw modes-from-length h
 
-    this : getD (modesFrom s start count) k (modeNo 0) ≡ t
-    this = modes-from-at s start count (modeNo 0) k h ∙ sym q
+    this : getD (modesFrom s start count) k (modeNo 0) ≡ arcs .mode
+    this = modes-from-at s start count (modeNo 0) k h ∙ sym q ∙ sym (tries .mode)
 
-    pub along-more : made ≡ true → Along net s start count m₀ (k + 1) left
-    along-more e =
-        let n : modeRefusal Movements net t m ≡ none = move .decides .0 e in
-        let l : left ≡ fired net t m = move .leaves ∙ ap (λ o. written o (fired net t m) m) n in
+    tried : v + arcs .count ≡ visitedTo net (modesFrom s start count) (k + 1)
+    tried = visits-more net _ k there this (tries-own tries) (along .visits)
+
+    pub along-more : {v′ : ℕ} → v′ ≡ v + arcs .count → made ≡ true → Along net s start count m₀ (k + 1) v′ left
+    along-more a e =
+        let n : modeRefusal Movements net (arcs .mode) m ≡ none = move .decides .0 e in
+        let l : left ≡ fired net (arcs .mode) m = move .leaves ∙ ap (λ o. written o (fired net (arcs .mode) m) m) n in
         record {
-          marking = rw l (marking-kept Movements net t m (along .marking) n);
-          rest = rw l (sym (run-on net _ k m t there this n) ∙ along .rest);
+          marking = rw l (marking-kept Movements net (arcs .mode) m (along .marking) n);
+          rest = rw l (sym (run-on net _ k m (arcs .mode) there this n) ∙ along .rest);
+          visits = a ∙ tried;
+          few = omega (arith, along .few, tries .few);
         }
 
-    stops : (o : Option Refusal) → modeRefusal Movements net t m ≡ o → ¬ (o ≡ none) → Accepts (run net (modesFrom s start count) m₀) k left
-    stops none n f = absurd (f refl)
-    stops (some r) n f =
-        let o : stopped k r m ≡ run net (modesFrom s start count) m₀ = sym (run-stops net _ k m t there this r n) ∙ along .rest in
-        record { accepted = ap (λ o. o .accepted) o; leaves = move .leaves ∙ ap (λ o. written o (fired net t m) m) n ∙ ap (λ o. o .marking) o }
+    stops : {done : Progress} → done .accepted ≡ k → done .visited ≡ v + arcs .count
+        → (o : Option Refusal) → modeRefusal Movements net (arcs .mode) m ≡ o → ¬ (o ≡ none) → Accepts net (modesFrom s start count) m₀ done left
+    stops c a none n f = absurd (f refl)
+    stops c a (some r) n f =
+        let o : stopped k r m ≡ run net (modesFrom s start count) m₀ = sym (run-stops net _ k m (arcs .mode) there this r n) ∙ along .rest in
+        let accepted : k ≡ run net (modesFrom s start count) m₀ .accepted = ap (λ o. o .accepted) o in
+        record {
+          accepted = c ∙ accepted;
+          visits = a ∙ tried ∙ visits-stop net _ m₀ k accepted;
+          leaves = move .leaves ∙ ap (λ o. written o (fired net (arcs .mode) m) m) n ∙ ap (λ o. o .marking) o;
+        }
 
-    pub along-stops : made ≡ false → Accepts (run net (modesFrom s start count) m₀) k left
-    along-stops e = stops _ refl (λ n. clash (sym (move .decides .1 n) ∙ e))
+    pub along-stops : {done : Progress} → done .accepted ≡ k → done .visited ≡ v + arcs .count → made ≡ false
+        → Accepts net (modesFrom s start count) m₀ done left
+    along-stops c a e = stops c a _ refl (λ n. clash (sym (move .decides .1 n) ∙ e))
+
+abbrev pub told : ℕ → ℕ → Answer → Ran
+told k v a = record { accepted = k; visited = v; answer = a }
 
 -- a run keeps a marking one
 pub leads-keep : {net : PNet} {ts : List Mode} {m m′ : List ℕ} → Leads net ts m m′ → Marking net m → Marking net m′
@@ -122,20 +141,30 @@ leads-keep stays h = h
 leads-keep {net} (moves {t = t} {m = m} e l) h = leads-keep l (marking-kept Movements net t m h e)
 
 -- what a run tells, once it is known how many movements it accepts: the first that is refused is refused by the marking left
-module _ (net : PNet) (s : List ℕ) (start count : ℕ) (m₀ : List ℕ) {k : ℕ} {m : List ℕ} (is : Accepts (run net (modesFrom s start count) m₀) k m) where
+module _ (net : PNet) (s : List ℕ) (start count : ℕ) (m₀ : List ℕ) {done : Progress} {m : List ℕ} (is : Accepts net (modesFrom s start count) m₀ done m) where
+  abbrev ts : List Mode
+  ts = modesFrom s start count
+
   pub marking-left : Marking net m₀ → Marking net m
-  marking-left h = rw (is .leaves) (leads-keep (runs net (modesFrom s start count) m₀ .leads) h)
+  marking-left h = rw (is .leaves) (leads-keep (runs net ts m₀ .leads) h)
 
-  pub reports-refused : {t : Mode} {a : Answer} → k < count → t ≡ modeAt s start k → a ≡ answer (modeRefusal Movements net t m)
-      → Reports (run net (modesFrom s start count) m₀) (told k a) m
+  reports : {a : Answer} → a ≡ answer (run net ts m₀ .refusal) → Reports (run net ts m₀) (visited net ts m₀) (told (done .accepted) (done .visited) a) m
+  reports {a} e =
+      record {
+        tells = ap (λ k. told k (done .visited) a) (is .accepted) ∙ ap (λ v. told (run net ts m₀ .accepted) v a) (is .visits) ∙ ap (told (run net ts m₀ .accepted) (visited net ts m₀)) e;
+        leaves = is .leaves;
+      }
+
+  pub reports-refused : {t : Mode} {a : Answer} → done .accepted < count → t ≡ modeAt s start (done .accepted) → a ≡ answer (modeRefusal Movements net t m)
+      → Reports (run net ts m₀) (visited net ts m₀) (told (done .accepted) (done .visited) a) m
   reports-refused {t} {a} h q e =
-      let there : k < length (modesFrom s start count) = rw modes-from-length h in
-      let this : getD (modesFrom s start count) k (modeNo 0) ≡ t = modes-from-at s start count (modeNo 0) k h ∙ sym q in
-      let refusal = rw (← is .accepted, ← is .leaves, this) at (runs net (modesFrom s start count) m₀ .refused (rw (← is .accepted) there)) in
-      record { tells = ap (λ k. told k a) (is .accepted) ∙ ap (told _) (e ∙ ap answer (sym refusal)); leaves = is .leaves }
+      let there : done .accepted < length ts = rw modes-from-length h in
+      let this : getD ts (done .accepted) (modeNo 0) ≡ t = modes-from-at s start count (modeNo 0) (done .accepted) h ∙ sym q in
+      let refusal = rw (← is .accepted, ← is .leaves, this) at (runs net ts m₀ .refused (rw (← is .accepted) there)) in
+      reports (e ∙ ap answer (sym refusal))
 
-  pub reports-whole : count ≤ k → Reports (run net (modesFrom s start count) m₀) (told k Accepted) m
+  pub reports-whole : count ≤ done .accepted → Reports (run net ts m₀) (visited net ts m₀) (told (done .accepted) (done .visited) Accepted) m
   reports-whole h =
-      let all = runs net (modesFrom s start count) m₀ in
-      let whole : run net (modesFrom s start count) m₀ .accepted ≡ length (modesFrom s start count) = omega (arith, all .part, is .accepted, modes-from-length s start count) in
-      record { tells = ap (λ k. told k Accepted) (is .accepted) ∙ ap (told _) (ap answer (sym (all .whole .1 whole))); leaves = is .leaves }
+      let all = runs net ts m₀ in
+      let whole : run net ts m₀ .accepted ≡ length ts = omega (arith, all .part, is .accepted, modes-from-length s start count) in
+      reports (ap answer (sym (all .whole .1 whole)))

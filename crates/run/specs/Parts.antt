@@ -5,17 +5,21 @@ use mathlib.Core.Path.{_≡_}
 use mathlib.Core.List.{List}
 use mathlib.Core.Option.{Option}
 use lib.ListN.{length, getD}
+use Rattle.model.specs.declared.Mode.{Mode}
 use Rattle.model.specs.declared.Refusal.{Refusal}
-use Rattle.model.specs.Nets.{PNet, arcNo}
+use Rattle.model.specs.Nets.{PNet, modes, arcNo}
 use Rattle.model.specs.Firing.{roomAt}
-use Rattle.model.specs.Runs.{Outcome, goOn}
+use Rattle.model.specs.Runs.{Outcome, goOn, run}
+use Rattle.model.specs.Visits.{modeArcs, visited}
 use Rattle.model.specs.PassBelow.{passBelow}
 use Rattle.opened.specs.declared.shape.NetShape.{NetShape}
 use Rattle.sheets.specs.Decoded.{netOf}
 use Rattle.opened.specs.Shape.{Open}
-use Rattle.opened.specs.Starts.{StartsAre}
+use Rattle.opened.specs.declared.starts.Segment.{Segment}
+use Rattle.opened.specs.Starts.{StartsAre, ModeArcs}
 use Rattle.run.specs.declared.Ran.{Ran}
-use Rattle.run.specs.Calls.{ranOf}
+use Rattle.run.specs.declared.movements.Progress.{Progress}
+use Rattle.run.specs.Calls.{unlessRefused, ranOf}
 
 -- the number of the k-th arc of a net, below which its counts pass; a table of 2048 with those of the arcs whose mode is below t, and one with all
 unfoldable pub numberOf : PNet → ℕ → ℕ
@@ -29,21 +33,33 @@ pub record NumbersAre (net : PNet) (numbers : List ℕ) : Type 0 where
   pub long : length (net .arcs) ≤ length numbers
   pub each : (k : ℕ) → k < length (net .arcs) → getD numbers k 0 ≡ numberOf net k
 
--- an open net with both tables of a run, that of numbers empty where there is none
-pub record Tables (s : List ℕ) (net : NetShape) (starts numbers : List ℕ) : Type 0 where
+-- an open net with the table of numbers, empty where there is none; and with both tables of a run
+pub record Numbered (s : List ℕ) (net : NetShape) (numbers : List ℕ) : Type 0 where
   pub opened : Open s net
-  pub startsAre : StartsAre (netOf s .arcs) starts
   pub numbersAre : 0 < length numbers → NumbersAre (netOf s) numbers
 
--- a run with this outcome: how many movements it accepts, or what it tells, and what it leaves in the marking
-pub record Accepts (o : Outcome) (k : ℕ) (left : List ℕ) : Type 0 where
-  pub accepted : k ≡ o .accepted
-  pub leaves : left ≡ o .marking
+pub record Tables (s : List ℕ) (net : NetShape) (starts numbers : List ℕ) : Type 0 where
+  pub numbered : Numbered s net numbers
+  pub startsAre : StartsAre (netOf s .arcs) starts
 
-pub record Reports (o : Outcome) (told : Ran) (left : List ℕ) : Type 0 where
-  pub tells : told ≡ ranOf o
+-- what a movement of mode t visits: as many arcs as the mode counts, and where it is there they are the mode's
+pub record Tries (net : PNet) (t : Mode) (arcs : Segment) : Type 0 where
+  pub mode : arcs .mode ≡ t
+  pub visits : arcs .count ≡ modeArcs net t
+  pub few : arcs .count ≤ 2048
+  pub segment : t .0 < modes net → ModeArcs (net .arcs) t (arcs .start) (arcs .count)
+
+-- a run of the movements ts from m: how many it accepts, how many arcs it visits, and what it leaves in the marking
+pub record Accepts (net : PNet) (ts : List Mode) (m : List ℕ) (done : Progress) (left : List ℕ) : Type 0 where
+  pub accepted : done .accepted ≡ run net ts m .accepted
+  pub visits : done .visited ≡ visited net ts m
+  pub leaves : left ≡ run net ts m .marking
+
+-- a run with this outcome and so many arcs visited: what it tells, and what it leaves in the marking
+pub record Reports (o : Outcome) (arcs : ℕ) (told : Ran) (left : List ℕ) : Type 0 where
+  pub tells : told ≡ ranOf o arcs
   pub leaves : left ≡ o .marking
 
 -- a run that is refused by o before its first movement, or has the outcome `next`
-pub record Begins (o : Option Refusal) (m : List ℕ) (next : Outcome) (told : Ran) (left : List ℕ) : Type 0 where
-  pub reports : Reports (goOn o 0 m next) told left
+pub record Begins (o : Option Refusal) (m : List ℕ) (next : Outcome) (arcs : ℕ) (told : Ran) (left : List ℕ) : Type 0 where
+  pub reports : Reports (goOn o 0 m next) (unlessRefused o arcs) told left

@@ -13,6 +13,7 @@ ghost use Rattle.model.specs.First.{_▸_};
 ghost use Rattle.model.specs.Refusals.{answer};
 ghost use Rattle.model.specs.Markings.{markingRefusal};
 ghost use Rattle.model.specs.Runs.{run as modelRun, certificateRefusal};
+ghost use Rattle.model.specs.Visits.{visited};
 ghost use Rattle.sheets.specs.Whole.{wholeMovements};
 ghost use Rattle.sheets.specs.Decoded.{netOf, movementsOf};
 ghost use Rattle.opened.specs.Shape.{Open};
@@ -23,20 +24,22 @@ mod certificate;
 pub mod movements;
 pub mod numbers;
 
-// How many movements of a run were accepted, and the answer to the first that was not.
+// How many movements of a run were accepted, how many arcs it visited, and the answer to the first movement that was not accepted.
 pub struct Ran {
     pub accepted: usize,
+    pub visited: usize,
     pub answer: Answer,
 }
 
 fn run_open(s: &[u8], net: NetShape, movements: &[u8], marking: &mut [u32]) -> Ran
     requires { ⌜ Open (now s) net ⌝ }
-    ensures { λ r. ⌜ Begins (wholeMovements (now (movements .entry)) ▸ markingRefusal (netOf (now (s .entry))) (now (marking .entry))) (now (marking .entry)) (modelRun (netOf (now (s .entry))) (movementsOf (now (movements .entry))) (now (marking .entry))) r (now (marking .exit)) ⌝ }
+    ensures { λ r. ⌜ Begins (wholeMovements (now (movements .entry)) ▸ markingRefusal (netOf (now (s .entry))) (now (marking .entry))) (now (marking .entry)) (modelRun (netOf (now (s .entry))) (movementsOf (now (movements .entry))) (now (marking .entry))) (visited (netOf (now (s .entry))) (movementsOf (now (movements .entry))) (now (marking .entry))) r (now (marking .exit)) ⌝ }
 {
     let sheet = whole_movements(movements);
     if let Answer::Refused(_) = sheet {
         return Ran {
             accepted: 0,
+            visited: 0,
             answer: sheet,
         };
     }
@@ -44,6 +47,7 @@ fn run_open(s: &[u8], net: NetShape, movements: &[u8], marking: &mut [u32]) -> R
     if let Answer::Refused(_) = answer {
         return Ran {
             accepted: 0,
+            visited: 0,
             answer,
         };
     }
@@ -58,6 +62,7 @@ pub fn run(net: &[u8], movements: &[u8], marking: &mut [u32]) -> Ran
     match opened {
         Opened::Refused(refusal) => Ran {
             accepted: 0,
+            visited: 0,
             answer: Answer::Refused(refusal),
         },
         Opened::Open(shape) => run_open(net, shape, movements, marking),

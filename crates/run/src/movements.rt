@@ -12,47 +12,66 @@ use model::Thing;
 use opened::listed::mode_at;
 use opened::listed::movements_at;
 use opened::shape::NetShape;
+use opened::starts::Segment;
 use opened::starts::arcs_of;
 use opened::starts::starts;
 ghost use mathlib.Core.Path.{_≡_};
 ghost use mathlib.Core.Option.{none};
+ghost use Prim.Native.Nat.{_≤_};
 ghost use Rattle.model.specs.declared.Thing.the-variants.{Movements};
 ghost use Rattle.model.specs.Refusals.{answer};
 ghost use Rattle.model.specs.Markings.{Marking};
 ghost use Rattle.model.specs.Firing.{modeRefusal, fired};
 ghost use Rattle.model.specs.Runs.{run};
+ghost use Rattle.model.specs.Visits.{visited};
 ghost use Rattle.sheets.specs.Decoded.{netOf, movementsOf};
-ghost use Rattle.lists.specs.Movements.{movementsRefusal};
+ghost use Rattle.lists.specs.Movements.{mostMovements, movementsRefusal};
 ghost use Rattle.opened.specs.Shape.{Open};
 ghost use Rattle.opened.specs.Starts.{StartsAre};
 ghost use Rattle.sheets.specs.Listed.{modesFrom, ModesStand};
 ghost use Rattle.firing.specs.Leaving.{Makes};
-ghost use Rattle.run.specs.Parts.{Tables, Accepts, Reports};
+ghost use Rattle.run.specs.Parts.{Numbered, Tables, Tries, Accepts, Reports};
 
-// One movement: whether it was accepted. Tested by the numbers of its mode's arcs; by all four tests where that table is empty, since only a run may hold it on the stack.
-fn step(
-    s: &[u8],
-    net: NetShape,
-    starts: &[u16; 257],
-    numbers: &[u32],
-    mode: Mode,
-    marking: &mut [u32],
-) -> bool
-    requires { ⌜ Tables (now s) net (now starts) (now numbers) ⌝ }
-    requires { ⌜ Marking (netOf (now s)) (now marking) ⌝ }
-    ensures { λ r. ⌜ Makes (modeRefusal Movements (netOf (now (s .entry))) mode (now (marking .entry))) (fired (netOf (now (s .entry))) mode (now (marking .entry))) (now (marking .entry)) r (now (marking .exit)) ⌝ }
+// The arcs of a movement's mode, which it visits: none where the mode is not there.
+fn tried_arcs(s: &[u8], net: NetShape, starts: &[u16; 257], mode: Mode) -> Segment
+    requires { ⌜ Open (now s) net ⌝ }
+    requires { ⌜ StartsAre (netOf (now s) .arcs) (now starts) ⌝ }
+    ensures { λ r. ⌜ Tries (netOf (now (s .entry))) mode r ⌝ }
 {
     if net.modes <= mode.0 as usize {
+        return Segment {
+            mode,
+            start: 0,
+            count: 0,
+        };
+    }
+    arcs_of(s, net, starts, mode)
+}
+
+// One movement: whether it was accepted. Tested by the numbers of its mode's arcs; by all four tests where that table is empty, since only a run may hold it on the stack.
+fn step(s: &[u8], net: NetShape, numbers: &[u32], arcs: Segment, marking: &mut [u32]) -> bool
+    requires { ⌜ Numbered (now s) net (now numbers) ⌝ }
+    requires { ⌜ Tries (netOf (now s)) (arcs .mode) arcs ⌝ }
+    requires { ⌜ Marking (netOf (now s)) (now marking) ⌝ }
+    ensures { λ r. ⌜ Makes (modeRefusal Movements (netOf (now (s .entry))) (arcs .mode) (now (marking .entry))) (fired (netOf (now (s .entry))) (arcs .mode) (now (marking .entry))) (now (marking .entry)) r (now (marking .exit)) ⌝ }
+{
+    if net.modes <= arcs.mode.0 as usize {
         return false;
     }
-    let arcs = arcs_of(s, net, starts, mode);
     if numbers.len() == 0 {
         return fire_free(s, net, arcs, marking);
     }
     fire_within(s, net, numbers, arcs, marking)
 }
 
+// How far a run has come: the movements accepted, and the arcs visited, those of a refused movement too.
+struct Progress {
+    accepted: usize,
+    visited: usize,
+}
+
 // How many movements are accepted, up to the first that is refused: which refusal it is, is looked for once, after the loop.
+// The sum of at most 8,192 movements of at most 2,048 arcs does not wrap.
 fn count_accepted(
     s: &[u8],
     net: NetShape,
@@ -62,27 +81,30 @@ fn count_accepted(
     start: usize,
     count: usize,
     marking: &mut [u32],
-) -> usize
+) -> Progress
     requires { ⌜ Tables (now s) net (now starts) (now numbers) ⌝ }
     requires { ⌜ ModesStand (now movements) start count ⌝ }
+    requires { ⌜ count ≤ mostMovements ⌝ }
     requires { ⌜ Marking (netOf (now s)) (now marking) ⌝ }
-    ensures { λ r. ⌜ Accepts (run (netOf (now (s .entry))) (modesFrom (now (movements .entry)) start count) (now (marking .entry))) r (now (marking .exit)) ⌝ }
+    ensures { λ r. ⌜ Accepts (netOf (now (s .entry))) (modesFrom (now (movements .entry)) start count) (now (marking .entry)) r (now (marking .exit)) ⌝ }
 {
     let mut k = 0;
+    let mut visited = 0;
     while k < count {
-        if !step(
-            s,
-            net,
-            starts,
-            numbers,
-            mode_at(movements, start, k),
-            marking,
-        ) {
-            return k;
+        let arcs = tried_arcs(s, net, starts, mode_at(movements, start, k));
+        visited += arcs.count;
+        if !step(s, net, numbers, arcs, marking) {
+            return Progress {
+                accepted: k,
+                visited,
+            };
         }
         k += 1;
     }
-    k
+    Progress {
+        accepted: k,
+        visited,
+    }
 }
 
 // Why a movement is refused.
@@ -113,19 +135,24 @@ pub fn run_modes(
 ) -> Ran
     requires { ⌜ Tables (now s) net (now starts) (now numbers) ⌝ }
     requires { ⌜ ModesStand (now movements) start count ⌝ }
+    requires { ⌜ count ≤ mostMovements ⌝ }
     requires { ⌜ Marking (netOf (now s)) (now marking) ⌝ }
-    ensures { λ r. ⌜ Reports (run (netOf (now (s .entry))) (modesFrom (now (movements .entry)) start count) (now (marking .entry))) r (now (marking .exit)) ⌝ }
+    ensures { λ r. ⌜ Reports (run (netOf (now (s .entry))) (modesFrom (now (movements .entry)) start count) (now (marking .entry))) (visited (netOf (now (s .entry))) (modesFrom (now (movements .entry)) start count) (now (marking .entry))) r (now (marking .exit)) ⌝ }
 {
-    let k = count_accepted(s, net, starts, numbers, movements, start, count, marking);
+    let done = count_accepted(s, net, starts, numbers, movements, start, count, marking);
+    let k = done.accepted;
+    let visited = done.visited;
     if k < count {
         let answer = refusal_of(s, net, starts, mode_at(movements, start, k), marking);
         return Ran {
             accepted: k,
+            visited,
             answer,
         };
     }
     Ran {
         accepted: k,
+        visited,
         answer: Answer::Accepted,
     }
 }
@@ -142,7 +169,7 @@ pub(crate) fn run_listed(
     requires { ⌜ Tables (now s) net (now starts) (now numbers) ⌝ }
     requires { ⌜ movementsRefusal (now movements) ≡ none ⌝ }
     requires { ⌜ Marking (netOf (now s)) (now marking) ⌝ }
-    ensures { λ r. ⌜ Reports (run (netOf (now (s .entry))) (movementsOf (now (movements .entry))) (now (marking .entry))) r (now (marking .exit)) ⌝ }
+    ensures { λ r. ⌜ Reports (run (netOf (now (s .entry))) (movementsOf (now (movements .entry))) (now (marking .entry))) (visited (netOf (now (s .entry))) (movementsOf (now (movements .entry))) (now (marking .entry))) r (now (marking .exit)) ⌝ }
 {
     let count = movement_count(movements);
     run_modes(
@@ -162,7 +189,7 @@ pub(crate) fn run_sheet(s: &[u8], net: NetShape, movements: &[u8], marking: &mut
     requires { ⌜ Open (now s) net ⌝ }
     requires { ⌜ movementsRefusal (now movements) ≡ none ⌝ }
     requires { ⌜ Marking (netOf (now s)) (now marking) ⌝ }
-    ensures { λ r. ⌜ Reports (run (netOf (now (s .entry))) (movementsOf (now (movements .entry))) (now (marking .entry))) r (now (marking .exit)) ⌝ }
+    ensures { λ r. ⌜ Reports (run (netOf (now (s .entry))) (movementsOf (now (movements .entry))) (now (marking .entry))) (visited (netOf (now (s .entry))) (movementsOf (now (movements .entry))) (now (marking .entry))) r (now (marking .exit)) ⌝ }
 {
     let starts = starts(s, net);
     let mut numbers = [0u32; 2048];

@@ -48,6 +48,8 @@ pub struct Inputs {
     pub members: Vec<Mode>,
     /// 8,192 movements, all of them accepted.
     pub movements: Vec<u8>,
+    /// How many arcs they visit.
+    pub visited: u64,
     /// Where they start.
     pub marking: Vec<u32>,
     /// Where they end.
@@ -78,7 +80,9 @@ impl Inputs {
         let (sheet, movements, weights) = (net.sheet(), movements(&list), weights(&kilograms));
         let marking: Vec<u32> = net.pairs.iter().map(|pair| pair.1).collect();
         let mut claim = marking.clone();
-        assert_eq!(swift::run(&sheet, &movements, &mut claim), (list.len() as u64, swift::Answer::ACCEPTED));
+        let (accepted, visited) = (list.len() as u64, (arcs * list.len()) as u64);
+        let ran = swift::Ran { accepted, arcs: visited, answer: swift::Answer::ACCEPTED };
+        assert_eq!(swift::run(&sheet, &movements, &mut claim), ran);
         Inputs {
             pairs,
             last: modes as u16 - 1,
@@ -94,6 +98,7 @@ impl Inputs {
             weightless: reference::build::weights(&vec![0; pairs]),
             weights,
             movements,
+            visited,
         }
     }
 

@@ -45,11 +45,19 @@ pub const READ: Work =
 pub const RUN: Work = Work {
     name: "run",
     by: [
-        Some(|i, l| pnet::run(&i.net, &i.movements, &mut l.marking).result.is_ok()),
-        Some(|i, l| twopass::run(&i.net, &i.movements, &mut l.marking).1.number == 0),
-        Some(|i, l| swift::run(&i.net, &i.movements, &mut l.marking).1.number == 0),
+        Some(|i, l| {
+            let ran = pnet::run(&i.net, &i.movements, &mut l.marking);
+            ran.result.is_ok() && ran.arcs as u64 == i.visited
+        }),
+        Some(|i, l| whole(twopass::run(&i.net, &i.movements, &mut l.marking), i)),
+        Some(|i, l| whole(swift::run(&i.net, &i.movements, &mut l.marking), i)),
     ],
 };
+
+/// Whether the list ran whole, with every arc visited.
+fn whole(ran: swift::Ran, inputs: &Inputs) -> bool {
+    ran.answer.number == 0 && ran.arcs == inputs.visited
+}
 
 pub const COMPLEMENT: Work = beside(
     "complement",

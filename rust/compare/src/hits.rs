@@ -101,7 +101,7 @@ pub struct Hits {
     runs: usize,
     whole: usize,
     longest: usize,
-    /// Values that are no numbers: yes, no, a mode named, none named; what a search for a marking found; what a text is of; by which of a net and its complement a step is accepted; that a complement refuses by more than its net; what a dead mode is there; what an audit found, and whose 17 it was; what a search for all markings in reach says of a claim.
+    /// Values that are no numbers: yes, no, a mode named, none named; what a search for a marking found; what a text is of; by which of a net and its complement a step is accepted; that a complement refuses by more than its net; what a dead mode is there; what an audit found, and whose 17 it was; what a search for all markings in reach says of a claim; which arcs a run visits.
     values: BTreeMap<&'static str, usize>,
     /// Refusals by an amount above 1, by their number.
     by_more: BTreeMap<u64, usize>,
@@ -171,6 +171,10 @@ impl Hits {
             "excluded, and out of reach",
             "reached, and not excluded",
             "out of reach, and not excluded",
+            "arcs at their bound",
+            "a mode without arcs ran",
+            "a missing mode, and no arc visited",
+            "a refused movement, and its arcs visited",
         ] {
             if self.values.get(value).copied().unwrap_or(0) < ENOUGH {
                 wants.push(format!("the value '{value}' came up too rarely"));

@@ -18,6 +18,7 @@ mod hits;
 mod limits;
 mod same;
 mod truncation;
+mod visits;
 
 use std::process::ExitCode;
 use std::time::Instant;

@@ -4,8 +4,8 @@ use std::fmt::Debug;
 
 use pnet::{Mode, Refusal};
 
-use crate::guarded;
 use crate::hits::{Call, Hits};
+use crate::{guarded, visits};
 
 /// Number, thing, position and amount.
 pub type Plain = (u64, u64, u64, u64);
@@ -139,17 +139,17 @@ impl Same {
         let (mut ours, mut theirs) = (marking.to_vec(), marking.to_vec());
         let ran = guarded::run(net, movements, &mut ours);
         let answer = told(&ran.result);
-        let (accepted, reference) = reference::run(net, movements, &mut theirs);
-        let engine = (ran.accepted as u64, answer, &ours);
-        self.hold(
-            Call::Run,
-            answer,
-            engine,
-            (accepted, plain(reference), &theirs),
-            &[&net, &movements, &marking],
-        );
+        let reference = reference::run(net, movements, &mut theirs);
+        let engine = (ran.accepted as u64, ran.arcs as u64, answer, &ours);
+        let reference = (reference.accepted, reference.arcs, plain(reference.answer), &theirs);
+        self.hold(Call::Run, answer, engine, reference, &[&net, &movements, &marking]);
         if movements.len() > 5 {
             self.hits.ran(ran.accepted, ran.result.is_ok());
+        }
+        // A run that is refused by other numbers has tried no movement.
+        let stopped = matches!(answer, (6 | 11..=14, 2, ..));
+        if stopped || ran.result.is_ok() {
+            visits::bounded(&mut self.hits, net, movements, &ran, stopped);
         }
         (ran.accepted, answer, ours)
     }

@@ -107,6 +107,9 @@ pub fn fire_step(net: &[u8], marking: &mut [u32], modes: &[Mode]) -> Result<(), 
 pub struct Ran {
     /// How many movements were accepted.
     pub accepted: usize,
+    /// How many arcs were visited: each movement that was tried counts its mode's arcs once, a refused one too, and a mode that is not there
+    /// counts none. It is 0 where the run stopped before its first movement.
+    pub arcs: usize,
     /// Why it stopped before its end, or before its first movement.
     pub result: Result<(), Refusal>,
 }
@@ -126,7 +129,8 @@ pub fn run(net: &[u8], movements: &[u8], marking: &mut [u32]) -> Ran {
         )
     };
     Ran {
-        accepted: ran.value as usize,
+        accepted: ran.value.accepted as usize,
+        arcs: ran.value.arcs as usize,
         result: ran.answer.result(Sheets { net, movements, ..Sheets::default() }),
     }
 }

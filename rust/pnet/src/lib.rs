@@ -31,7 +31,7 @@
 //!
 //! let movements = [0, 0, 0, 9, 1, 0, 0, 0, 0, 0, 0, 0, 0];
 //! let ran = pnet::run(&net, &movements, &mut marking);
-//! assert_eq!(ran.accepted, 3);
+//! assert_eq!((ran.accepted, ran.arcs), (3, 8)); // four were tried, of two arcs each
 //! assert_eq!(marking, [0, 3]);
 //! let refusal = ran.result.unwrap_err();
 //! assert_eq!((refusal.fault(), refusal.pair(), refusal.amount()), (Fault::Lacking, Some(Pair(0)), 1));

@@ -22,6 +22,13 @@ pub struct With<V> {
     pub value: V,
 }
 
+/// How many movements a run accepted, and how many arcs it visited.
+#[repr(C)]
+pub struct Visited {
+    pub accepted: u64,
+    pub arcs: u64,
+}
+
 /// A mode and a pair, where there is one.
 #[repr(C)]
 pub struct Named {
@@ -39,7 +46,7 @@ pub struct Audited {
 }
 
 unsafe extern "C" {
-    fn pnet_abi_2() -> u64;
+    fn pnet_abi_3() -> u64;
     pub fn pnet_size(net: *const u8, net_length: usize) -> With<Size>;
     pub fn pnet_read_net(bytes: *const u8, length: usize) -> With<u64>;
     pub fn pnet_read_weights(bytes: *const u8, length: usize, pairs: usize) -> With<u64>;
@@ -82,7 +89,7 @@ unsafe extern "C" {
         movements_length: usize,
         marking: *mut u32,
         counts: usize,
-    ) -> With<u64>;
+    ) -> With<Visited>;
     pub fn pnet_certify(
         net: *const u8,
         net_length: usize,
@@ -142,7 +149,7 @@ impl Answer {
     /// Things are 0 to 3, and a wrong length is at a byte of its sheet or just after it: the contract of each call.
     pub fn result(self, given: Sheets) -> Result<(), Refusal> {
         // The structs above are those of one version: an archive of another does not link.
-        black_box(pnet_abi_2 as unsafe extern "C" fn() -> u64);
+        black_box(pnet_abi_3 as unsafe extern "C" fn() -> u64);
         if self.number == 0 {
             return Ok(());
         }

@@ -74,6 +74,20 @@ fn the_size_of_a_net() {
 }
 
 #[test]
+fn the_arcs_that_a_run_visits() {
+    let visited = |list: &[u16], counts: &[u32]| {
+        let ran = run(&example(), &movements(list), &mut counts.to_vec());
+        (ran.accepted, ran.arcs, ran.result.map_err(|refusal| refusal.number()))
+    };
+    assert_eq!(visited(&[], &[3, 0]), (0, 0, Ok(())));
+    assert_eq!(visited(&[0, 0], &[3, 0]), (2, 4, Ok(())));
+    // A refused movement counts, and one that is not there has no arcs.
+    assert_eq!(visited(&[0, 0, 0, 0, 0], &[3, 0]), (3, 8, Err(11)));
+    assert_eq!(visited(&[0, 1, 0], &[3, 0]), (1, 2, Err(6)));
+    assert_eq!(visited(&[0], &[6, 0]), (0, 0, Err(9)));
+}
+
+#[test]
 fn of_a_net() {
     let pairs = [(5, 3), (OPEN, 0)];
     says(

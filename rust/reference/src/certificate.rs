@@ -17,7 +17,7 @@ fn try_certify(net: &[u8], movements: &[u8], claim: &[u32]) -> Result<(), Answer
     let movements = whole_movements(movements)?;
     one_for_each_pair(&net, claim)?;
     let mut marking = net.first.clone();
-    let (_, answer) = run_from(&net, &movements, &mut marking);
+    let answer = run_from(&net, &movements, &mut marking).answer;
     if answer != Answer::ACCEPTED {
         return Err(answer);
     }

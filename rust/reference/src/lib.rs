@@ -46,7 +46,7 @@ pub use kinds::{Mode, Pair};
 pub use movement_sheet::read_movements;
 pub use net_sheet::read_net;
 pub use replay::replay;
-pub use run::run;
+pub use run::{Ran, run};
 pub use size::{Size, size};
 pub use step::{fire_step, test_step};
 pub use weight_sheet::read_weights;

@@ -35,10 +35,15 @@ impl Net {
         (0..).map(Mode).take(self.mode_count())
     }
 
+    /// A mode's arcs; a mode that is not there has none.
+    pub fn arcs_of(&self, mode: Mode) -> impl Iterator<Item = &Arc> {
+        self.arcs.iter().filter(move |arc| arc.mode == mode)
+    }
+
     /// Pre, Post and I of a mode at every pair, in the order of the pairs.
     pub fn flows(&self, mode: Mode) -> Vec<Flow> {
         let mut flows = vec![BLANK; self.pair_count()];
-        for arc in self.arcs.iter().filter(|arc| arc.mode == mode) {
+        for arc in self.arcs_of(mode) {
             flows[arc.pair.index()] = arc.flow;
         }
         flows

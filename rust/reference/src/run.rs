@@ -1,5 +1,5 @@
 //! "Running stops at the first refused movement, returns how many were accepted, and leaves the
-//! marking that those gave."
+//! marking that those gave." "Report how many arcs a run visits."
 
 use crate::answer::{Answer, Thing};
 use crate::firing::next_marking;
@@ -9,11 +9,22 @@ use crate::movement_sheet::whole_movements;
 use crate::net::Net;
 use crate::net_sheet::whole_net;
 
-/// Runs a list of movements from the counts found in the marking: how many were accepted, and the answer.
-pub fn run(net: &[u8], movements: &[u8], marking: &mut [u32]) -> (u64, Answer) {
+/// How a run went.
+#[derive(Clone, Copy, Debug, PartialEq, Eq)]
+pub struct Ran {
+    /// How many movements were accepted.
+    pub accepted: u64,
+    /// "Each tried movement counts its mode's arcs once, a refused one included, and a missing mode counts 0."
+    pub arcs: u64,
+    /// Accepted where every movement was.
+    pub answer: Answer,
+}
+
+/// Runs a list of movements from the counts found in the marking; refused before its first, it tries none.
+pub fn run(net: &[u8], movements: &[u8], marking: &mut [u32]) -> Ran {
     match arguments(net, movements, marking) {
         Ok((net, movements)) => run_from(&net, &movements, marking),
-        Err(answer) => (0, answer),
+        Err(answer) => Ran { accepted: 0, arcs: 0, answer },
     }
 }
 
@@ -26,14 +37,15 @@ fn arguments(net: &[u8], movements: &[u8], marking: &[u32]) -> Result<(Net, Vec<
 }
 
 /// "2 movements, also one that a run or certificate refuses."
-pub fn run_from(net: &Net, movements: &[Mode], marking: &mut [u32]) -> (u64, Answer) {
-    let mut accepted = 0;
+pub fn run_from(net: &Net, movements: &[Mode], marking: &mut [u32]) -> Ran {
+    let mut ran = Ran { accepted: 0, arcs: 0, answer: Answer::ACCEPTED };
     for &mode in movements {
+        ran.arcs += net.arcs_of(mode).count() as u64;
         match next_marking(net, marking, mode, Thing::Movements) {
             Ok(next) => marking.copy_from_slice(&next),
-            Err(answer) => return (accepted, answer),
+            Err(answer) => return Ran { answer, ..ran },
         }
-        accepted += 1;
+        ran.accepted += 1;
     }
-    (accepted, Answer::ACCEPTED)
+    ran
 }

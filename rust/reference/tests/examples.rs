@@ -3,7 +3,9 @@
 mod support;
 
 use reference::build::{OPEN, PlainNet, arc, movements, weights};
-use reference::{begin, certify, complement, figure, read_movements, read_net, read_weights, replay, run};
+use reference::{
+    Ran, begin, certify, complement, figure, read_movements, read_net, read_weights, replay, run,
+};
 use support::*;
 
 #[test]
@@ -59,8 +61,9 @@ fn the_simple_inhibitor_example_of_source_000_complements_as_figure_6_6() {
 #[test]
 fn running_the_example_stops_at_the_fourth_movement() {
     let mut marking = [3, 0];
-    let (accepted, answer) = run(&example().sheet(), &example_movements(), &mut marking);
-    assert_eq!((accepted, answer), (3, short(11, MOVEMENTS, 0, 1)));
+    let ran = run(&example().sheet(), &example_movements(), &mut marking);
+    // Four movements were tried, each of two arcs.
+    assert_eq!(ran, Ran { accepted: 3, arcs: 8, answer: short(11, MOVEMENTS, 0, 1) });
     assert_eq!(marking, [0, 3]);
 }
 

@@ -133,7 +133,7 @@ fn across_things_net_movements_marking_then_the_mode() {
     let net = example().sheet();
     let list = movements(&[9]);
     let (bad_net, bad_list) = (&net[1..], &list[1..]);
-    let answer = |net: &[u8], list: &[u8], counts: &[u32]| run(net, list, &mut counts.to_vec());
+    let answer = |net: &[u8], list: &[u8], counts: &[u32]| ran_to(net, list, &mut counts.to_vec());
     assert_eq!(answer(bad_net, bad_list, &[]), (0, refused(1, NET, 0)));
     assert_eq!(answer(&followed(&net, &[0]), bad_list, &[]), (0, refused(3, NET, 65)));
     assert_eq!(answer(&net, bad_list, &[]), (0, refused(1, MOVEMENTS, 0)));
@@ -193,8 +193,8 @@ fn a_certificate_net_movements_17_the_run_18() {
 fn a_movement_that_is_not_there_is_met_when_the_run_reaches_it() {
     let net = example().sheet();
     let mut marking = [1, 0];
-    assert_eq!(run(&net, &movements(&[0, 0, 9]), &mut marking), (1, short(11, MOVEMENTS, 0, 1)));
-    assert_eq!(run(&net, &movements(&[9, 0]), &mut marking), (0, refused(6, MOVEMENTS, 0)));
+    assert_eq!(ran_to(&net, &movements(&[0, 0, 9]), &mut marking), (1, short(11, MOVEMENTS, 0, 1)));
+    assert_eq!(ran_to(&net, &movements(&[9, 0]), &mut marking), (0, refused(6, MOVEMENTS, 0)));
     assert_eq!(marking, [0, 1]);
 }
 

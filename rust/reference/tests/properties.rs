@@ -37,7 +37,7 @@ fn a_run_is_its_movements_fired_one_by_one() {
         let (list, sheet) = (list(&mut random, &net, 12), net.sheet());
         let start = marking(&mut random, style, &net);
         let mut ran = start.clone();
-        let (accepted, answer) = run(&sheet, &movements(&list), &mut ran);
+        let (accepted, answer) = ran_to(&sheet, &movements(&list), &mut ran);
         let mut fired = start;
         for &mode in &list[..accepted as usize] {
             assert_eq!(test(&sheet, &fired, mode), ACCEPTED);
@@ -62,7 +62,7 @@ fn a_certificate_is_accepted_exactly_at_the_end_of_a_whole_run() {
         let (list, sheet) = (movements(&list(&mut random, &net, 6)), net.sheet());
         let mut end = vec![0; net.pairs.len()];
         begin(&sheet, &mut end);
-        let (_, answer) = run(&sheet, &list, &mut end);
+        let (_, answer) = ran_to(&sheet, &list, &mut end);
         assert_eq!(certify(&sheet, &list, &end), answer);
         let pair = random.below(end.len());
         end[pair] ^= 1;
@@ -101,7 +101,7 @@ fn replay_prints_what_the_run_and_the_figure_give() {
         let mut counts = vec![0; net.pairs.len()];
         begin(&sheet, &mut counts);
         let start = format!("start {}\n", figure(&sheet, &w, &counts).unwrap());
-        let (accepted, answer) = run(&sheet, &movements(&list), &mut counts);
+        let (accepted, answer) = ran_to(&sheet, &movements(&list), &mut counts);
         let end = format!("end {} {}\n", accepted, figure(&sheet, &w, &counts).unwrap());
         assert!(text.starts_with(&start) && text.ends_with(&end));
         let refusals = usize::from(answer != ACCEPTED);

@@ -118,7 +118,7 @@ fn number_3_bytes_after_a_sheet_that_is_an_argument() {
     assert_eq!(begin(&long_net, &mut counts), net_answer);
     assert_eq!(test(&long_net, &counts, 0), net_answer);
     assert_eq!(fire(&long_net, &mut counts, 0), net_answer);
-    assert_eq!(run(&long_net, &m, &mut counts), (0, net_answer));
+    assert_eq!(ran_to(&long_net, &m, &mut counts), (0, net_answer));
     assert_eq!(certify(&long_net, &m, &counts), net_answer);
     assert_eq!(figure(&long_net, &w, &counts), Err(net_answer));
     assert_eq!(change(&long_net, &w, 0), Err(net_answer));
@@ -128,7 +128,7 @@ fn number_3_bytes_after_a_sheet_that_is_an_argument() {
     assert_eq!(complement(&long_net, &mut [0; 100]), Err(net_answer));
     assert_eq!(figure(&net, &long_w, &counts), Err(refused(3, WEIGHTS, 15)));
     assert_eq!(change(&net, &long_w, 0), Err(refused(3, WEIGHTS, 15)));
-    assert_eq!(run(&net, &long_m, &mut counts), (0, refused(3, MOVEMENTS, 13)));
+    assert_eq!(ran_to(&net, &long_m, &mut counts), (0, refused(3, MOVEMENTS, 13)));
     assert_eq!(certify(&net, &long_m, &counts), refused(3, MOVEMENTS, 13));
     assert_eq!(counts, [3, 0]);
 }
@@ -198,7 +198,7 @@ fn number_5_a_count_outside_its_range_in_a_marking() {
         let answer = refused(5, ARGUMENT, 1);
         assert_eq!(test(&net, &counts, 0), answer);
         assert_eq!(fire(&net, &mut counts, 0), answer);
-        assert_eq!(run(&net, &movements(&[]), &mut counts), (0, answer));
+        assert_eq!(ran_to(&net, &movements(&[]), &mut counts), (0, answer));
         assert_eq!(figure(&net, &w, &counts), Err(answer));
         assert_eq!(counts, [3, count]);
         assert_eq!(test(&net, &[count, 0], 0), refused(5, ARGUMENT, 0));
@@ -228,7 +228,7 @@ fn number_6_a_movement_or_an_argument_without_its_mode() {
         assert_eq!(certify(&net, &movements(&[0, mode]), &counts), refused(6, MOVEMENTS, 0));
     }
     assert_eq!(counts, [3, 0]);
-    assert_eq!(run(&net, &movements(&[0, 1]), &mut counts), (1, refused(6, MOVEMENTS, 0)));
+    assert_eq!(ran_to(&net, &movements(&[0, 1]), &mut counts), (1, refused(6, MOVEMENTS, 0)));
     assert_eq!(counts, [2, 1]);
 }
 
@@ -273,7 +273,7 @@ fn number_9_a_count_above_a_finite_capacity() {
     let mut counts = [6, 0];
     assert_eq!(test(&net, &counts, 0), answer);
     assert_eq!(fire(&net, &mut counts, 0), answer);
-    assert_eq!(run(&net, &movements(&[0]), &mut counts), (0, answer));
+    assert_eq!(ran_to(&net, &movements(&[0]), &mut counts), (0, answer));
     assert_eq!(figure(&net, &w, &counts), Err(answer));
     assert_eq!(counts, [6, 0]);
     let second = PlainNet::plain(1, &[(OPEN, 0), (2, 0)], &[]).sheet();
@@ -342,7 +342,7 @@ fn all_name(net: &[u8], number: u32, pair: u64, amount: u64) {
     assert_eq!(test(net, &counts, 0), short(number, ARGUMENT, pair, amount));
     assert_eq!(fire(net, &mut counts, 0), short(number, ARGUMENT, pair, amount));
     assert_eq!(fire_step(net, &mut counts, &[0]), short(number, ARGUMENT, pair, amount));
-    assert_eq!(run(net, &movements(&[0]), &mut counts), (0, short(number, MOVEMENTS, pair, amount)));
+    assert_eq!(ran_to(net, &movements(&[0]), &mut counts), (0, short(number, MOVEMENTS, pair, amount)));
     assert_eq!(certify(net, &movements(&[0]), &counts), short(number, MOVEMENTS, pair, amount));
     assert_eq!(counts, [2; 3]);
 }
@@ -413,7 +413,7 @@ fn number_17_a_marking_or_claim_not_one_for_each_pair() {
         assert_eq!(begin(&net, &mut counts), answer);
         assert_eq!(test(&net, &counts, 0), answer);
         assert_eq!(fire(&net, &mut counts, 0), answer);
-        assert_eq!(run(&net, &movements(&[0]), &mut counts), (0, answer));
+        assert_eq!(ran_to(&net, &movements(&[0]), &mut counts), (0, answer));
         assert_eq!(certify(&net, &movements(&[0]), &counts), answer);
         assert_eq!(figure(&net, &w, &counts), Err(answer));
         assert_eq!(counts, vec![9; length]);

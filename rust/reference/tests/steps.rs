@@ -194,7 +194,7 @@ fn a_step_passes_where_no_order_of_its_members_does() {
     assert_eq!(tried(&net, &[0, 0], &[0, 1]), Ok(vec![3, 0]));
     for (order, after) in [([0, 1], 1), ([1, 0], 2)] {
         let mut counts = [0, 0];
-        assert_eq!(run(&net, &movements(&order), &mut counts), (1, short(13, MOVEMENTS, 0, after.into())));
+        assert_eq!(ran_to(&net, &movements(&order), &mut counts), (1, short(13, MOVEMENTS, 0, after.into())));
         assert_eq!(counts, [after, 0]);
     }
 }
@@ -202,9 +202,9 @@ fn a_step_passes_where_no_order_of_its_members_does() {
 #[test]
 fn an_order_passes_where_the_step_of_its_members_does_not() {
     let net = two(1, &[arc(0, 0, 1, 0, OPEN), arc(1, 0, 0, 1, OPEN)]);
-    assert_eq!(run(&net, &movements(&[0, 1]), &mut [1, 0]), (2, ACCEPTED));
+    assert_eq!(ran_to(&net, &movements(&[0, 1]), &mut [1, 0]), (2, ACCEPTED));
     assert_eq!(tried(&net, &[1, 0], &[0, 1]), by(12, 0, 1));
-    assert_eq!(run(&net, &movements(&[1, 0]), &mut [0, 0]), (2, ACCEPTED));
+    assert_eq!(ran_to(&net, &movements(&[1, 0]), &mut [0, 0]), (2, ACCEPTED));
     assert_eq!(tried(&net, &[0, 0], &[1, 0]), by(11, 0, 1));
 }
 

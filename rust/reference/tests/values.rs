@@ -19,7 +19,7 @@ fn pairs_and_modes_are_numbered_across_the_whole_net() {
     let net =
         PlainNet { colours: vec![2, 3], modes: vec![3, 2], pairs: vec![(OPEN, 0); 5], arcs: arcs.to_vec() };
     let mut marking = [0; 5];
-    let all = run(&net.sheet(), &movements(&[0, 1, 2, 3, 4]), &mut marking);
+    let all = ran_to(&net.sheet(), &movements(&[0, 1, 2, 3, 4]), &mut marking);
     assert_eq!((all, marking), ((5, ACCEPTED), [3, 2, 0, 0, 1]));
     assert_eq!(test(&net.sheet(), &marking, 5), refused(6, ARGUMENT, 0));
     assert_eq!(size(&net.sheet()), Ok(Size { pairs: 5, modes: 5, arcs: 3 }));
@@ -39,8 +39,8 @@ fn a_mode_without_arcs_is_always_enabled_and_changes_nothing() {
 fn a_net_without_transitions_reads_and_complements() {
     let net = PlainNet::plain(0, &[(5, 2)], &[]).sheet();
     assert_eq!(read_net(&net), (ACCEPTED, net.len()));
-    assert_eq!(run(&net, &movements(&[]), &mut [2]), (0, ACCEPTED));
-    assert_eq!(run(&net, &movements(&[0]), &mut [2]), (0, refused(6, MOVEMENTS, 0)));
+    assert_eq!(ran_to(&net, &movements(&[]), &mut [2]), (0, ACCEPTED));
+    assert_eq!(ran_to(&net, &movements(&[0]), &mut [2]), (0, refused(6, MOVEMENTS, 0)));
     assert_eq!(complement_of(&net), PlainNet::plain(0, &[(OPEN, 2), (OPEN, 3)], &[]).sheet());
     assert_eq!(first_dead(&net), Ok(None));
     assert_eq!(size(&net), Ok(Size { pairs: 1, modes: 0, arcs: 0 }));
@@ -49,7 +49,7 @@ fn a_net_without_transitions_reads_and_complements() {
 #[test]
 fn running_starts_from_the_counts_found() {
     let mut marking = [1, 7];
-    let ran = run(&example().sheet(), &example_movements(), &mut marking);
+    let ran = ran_to(&example().sheet(), &example_movements(), &mut marking);
     assert_eq!(ran, (1, short(11, MOVEMENTS, 0, 1)));
     assert_eq!(marking, [0, 8]);
 }

@@ -41,8 +41,33 @@ pub fn capacities(layout: &Layout) -> [u32; 256] {
     capacities
 }
 
-/// Runs the list until a movement is refused: how many were accepted. The marking is what those gave.
-pub fn run_list(layout: &Layout, list: &[[u8; 2]], marking: &mut [u32; 256]) -> usize {
+/// How many arcs each mode has, 0 where there is no mode.
+pub fn arc_counts(layout: &Layout) -> [u16; 256] {
+    // Arcs rise by mode: the last one that a mode writes is its end.
+    let mut counts = [0; 256];
+    for (end, bytes) in (1..).zip(layout.arcs) {
+        counts[Arc::of(bytes).mode() & 255] = end;
+    }
+    let mut arcs = 0;
+    for count in &mut counts {
+        let end = arcs.max(*count);
+        *count = end - arcs;
+        arcs = end;
+    }
+    counts
+}
+
+/// How far a list ran.
+#[derive(Clone, Copy, Debug, PartialEq, Eq)]
+pub struct Reach {
+    /// How many movements were accepted.
+    pub accepted: usize,
+    /// "Each tried movement counts its mode's arcs once, a refused one included, and a missing mode counts 0."
+    pub arcs: usize,
+}
+
+/// Runs the list until a movement is refused. The marking is what those before it gave.
+pub fn run_list(layout: &Layout, list: &[[u8; 2]], marking: &mut [u32; 256]) -> Reach {
     run_in(form(layout, list.len()), layout, list, marking)
 }
 
@@ -57,7 +82,7 @@ enum Form {
     Steps,
 }
 
-fn run_in(form: Form, layout: &Layout, list: &[[u8; 2]], marking: &mut [u32; 256]) -> usize {
+fn run_in(form: Form, layout: &Layout, list: &[[u8; 2]], marking: &mut [u32; 256]) -> Reach {
     match form {
         Form::Arcs => arcs::run_list(layout, list, marking),
         Form::Rows => rows::run_list(layout, list, marking),
@@ -80,14 +105,14 @@ fn form(layout: &Layout, movements: usize) -> Form {
 
 #[cfg(test)]
 mod tests {
-    use super::{Form, form, run_in};
+    use super::{Form, Reach, form, run_in};
     use crate::generator::{Random, Style, list, net};
     use crate::layout::whole_net;
     use crate::list::whole_list;
     use reference::build::movements;
 
-    /// What running in a form gives: how many were accepted, and the marking.
-    fn ran(form: Form, sheet: &[u8], list: &[u8], first: &[u32; 256]) -> (usize, [u32; 256]) {
+    /// What running in a form gives: how far, and the marking.
+    fn ran(form: Form, sheet: &[u8], list: &[u8], first: &[u32; 256]) -> (Reach, [u32; 256]) {
         let (Ok(layout), Ok(list)) = (whole_net(sheet), whole_list(list)) else {
             panic!("both are accepted")
         };
@@ -112,7 +137,7 @@ mod tests {
             let plain = ran(Form::Arcs, &sheet, &list, &first);
             assert!(ran(Form::Rows, &sheet, &list, &first) == plain, "{net:?}");
             assert!(ran(Form::Steps, &sheet, &list, &first) == plain, "{net:?}");
-            refused += usize::from(plain.0 < length);
+            refused += usize::from(plain.0.accepted < length);
         }
         assert!(refused > 500);
     }

@@ -30,12 +30,12 @@ pub use complement::complement;
 pub use exclude::exclude;
 pub use layout::{read_net, size};
 pub use replay::replay;
-pub use run::run;
+pub use run::{Ran, run};
 
 /// Sheets as they are read here, for a program that runs them by another method.
 pub mod sheets {
     pub use crate::fault::of_movement as refused_movement;
-    pub use crate::kernel::capacities;
+    pub use crate::kernel::{Reach, capacities};
     pub use crate::layout::{Arc, Layout, whole_net};
     pub use crate::run::{arguments, check_marking};
 }

@@ -1,6 +1,7 @@
 //! The text that the program `replay` prints.
 
 use crate::answer::Answer;
+use crate::kernel::Reach;
 use crate::layout::{Arc, Layout, net_at, pair_of};
 use crate::list::whole_list;
 use crate::run::run_from;
@@ -33,7 +34,7 @@ fn lines(layout: &Layout, weights: &[i32; 256], list: &[[u8; 2]]) -> Vec<u8> {
         *count = pair_of(bytes).1;
         figure += i64::from(weight) * i64::from(*count);
     }
-    let (accepted, answer) = run_from(layout, list, &mut marking);
+    let (Reach { accepted, .. }, answer) = run_from(layout, list, &mut marking);
     let (mut text, mut page) = (Vec::with_capacity(32 * (accepted + 4)), Page::new());
     let at = page.word(0, Word::of(b"start "));
     let mut high = High::new();

@@ -1,6 +1,6 @@
 //! A mode's rules at all pairs, four side by side: for nets of few pairs or many arcs.
 
-use crate::kernel::{Rule, capacities};
+use crate::kernel::{Reach, Rule, arc_counts, capacities};
 use crate::layout::{Arc, Layout};
 
 /// Four numbers side by side.
@@ -78,8 +78,8 @@ fn blocks_of(layout: &Layout, width: usize) -> Vec<Block> {
     blocks
 }
 
-/// Runs the list until a movement is refused: how many were accepted. The marking is what those gave.
-pub fn run_list(layout: &Layout, list: &[[u8; 2]], marking: &mut [u32; 256]) -> usize {
+/// Runs the list until a movement is refused. The marking is what those before it gave.
+pub fn run_list(layout: &Layout, list: &[[u8; 2]], marking: &mut [u32; 256]) -> Reach {
     let counts = marking.as_chunks_mut().0;
     match layout.pairs.div_ceil(4) {
         1 => narrow::<1>(layout, list, counts),
@@ -93,16 +93,18 @@ pub fn run_list(layout: &Layout, list: &[[u8; 2]], marking: &mut [u32; 256]) -> 
 }
 
 /// Rows of a width known beforehand: the counts stay in registers.
-fn narrow<const WIDTH: usize>(layout: &Layout, list: &[[u8; 2]], marking: &mut [[u32; 4]]) -> usize {
-    let blocks = blocks_of(layout, WIDTH);
+fn narrow<const WIDTH: usize>(layout: &Layout, list: &[[u8; 2]], marking: &mut [[u32; 4]]) -> Reach {
+    let (blocks, arc_counts) = (blocks_of(layout, WIDTH), arc_counts(layout));
     let rows = blocks.as_chunks::<WIDTH>().0;
     let mut counts = [Four([0; 4]); WIDTH];
     for (four, given) in counts.iter_mut().zip(&*marking) {
         *four = Four(*given);
     }
-    let mut accepted = 0;
+    let mut reach = Reach { accepted: 0, arcs: 0 };
     for movement in list {
-        let Some(row) = rows.get(usize::from(u16::from_be_bytes(*movement))) else { break };
+        let mode = usize::from(u16::from_be_bytes(*movement));
+        let Some(row) = rows.get(mode) else { break };
+        reach.arcs += usize::from(arc_counts[mode & 255]);
         let mut faults = Four([0; 4]);
         for at in 0..WIDTH {
             counts[at] = row[at].fired(counts[at], &mut faults);
@@ -113,21 +115,24 @@ fn narrow<const WIDTH: usize>(layout: &Layout, list: &[[u8; 2]], marking: &mut [
             }
             break;
         }
-        accepted += 1;
+        reach.accepted += 1;
     }
     for (four, given) in counts.iter().zip(marking) {
         *given = four.0;
     }
-    accepted
+    reach
 }
 
 /// Rows of any width.
-fn wide(layout: &Layout, list: &[[u8; 2]], counts: &mut [[u32; 4]]) -> usize {
+fn wide(layout: &Layout, list: &[[u8; 2]], counts: &mut [[u32; 4]]) -> Reach {
     let width = counts.len();
-    let blocks = blocks_of(layout, width);
+    let (blocks, arc_counts) = (blocks_of(layout, width), arc_counts(layout));
+    let mut arcs = 0;
     for (accepted, movement) in list.iter().enumerate() {
-        let from = width * usize::from(u16::from_be_bytes(*movement));
-        let Some(row) = blocks.get(from..from + width) else { return accepted };
+        let mode = usize::from(u16::from_be_bytes(*movement));
+        let from = width * mode;
+        let Some(row) = blocks.get(from..from + width) else { return Reach { accepted, arcs } };
+        arcs += usize::from(arc_counts[mode & 255]);
         let mut faults = Four([0; 4]);
         for (block, four) in row.iter().zip(&mut *counts) {
             *four = block.fired(Four(*four), &mut faults).0;
@@ -136,8 +141,8 @@ fn wide(layout: &Layout, list: &[[u8; 2]], counts: &mut [[u32; 4]]) -> usize {
             for (block, four) in row.iter().zip(counts) {
                 *four = block.unfired(Four(*four)).0;
             }
-            return accepted;
+            return Reach { accepted, arcs };
         }
     }
-    list.len()
+    Reach { accepted: list.len(), arcs }
 }

@@ -1,6 +1,6 @@
 //! A mode's arcs as steps, one after another: for nets of many pairs and few arcs.
 
-use crate::kernel::{Rule, capacities};
+use crate::kernel::{Reach, Rule, arc_counts, capacities};
 use crate::layout::{Arc, Layout};
 
 /// What an arc does to its pair.
@@ -18,6 +18,8 @@ struct Steps {
     steps: Vec<[Step; TOGETHER]>,
     /// Where each mode's steps begin and end.
     spans: [(u16, u16); 256],
+    /// How many of them are no fillers.
+    arc_counts: [u16; 256],
 }
 
 /// Steps that fill a mode's last four: they change nothing and are always enabled.
@@ -40,21 +42,17 @@ impl Step {
 
 /// Each mode's steps begin at a four of their own, and are put at their places one after another.
 fn steps_of(layout: &Layout) -> Steps {
-    let capacities = capacities(layout);
-    let mut ends = [0; 256];
-    for (end, bytes) in (1..).zip(layout.arcs) {
-        ends[Arc::of(bytes).mode() & 255] = end;
-    }
+    let (capacities, arc_counts) = (capacities(layout), arc_counts(layout));
     // How far each mode's steps stand behind its arcs.
     let mut behind = [0; 256];
     let mut spans = [(0, 0); 256];
     let (mut arcs, mut fours) = (0u16, 0u16);
     for mode in 0..layout.modes & 511 {
-        let end = arcs.max(ends[mode & 255]);
-        let to = fours + (end - arcs).div_ceil(TOGETHER as u16);
+        let count = arc_counts[mode & 255];
+        let to = fours + count.div_ceil(TOGETHER as u16);
         spans[mode & 255] = (fours, to);
         behind[mode & 255] = TOGETHER as u16 * fours - arcs;
-        (arcs, fours) = (end, to);
+        (arcs, fours) = (arcs + count, to);
     }
     let mut steps = vec![FILLERS; usize::from(fours)];
     let places = steps.as_flattened_mut();
@@ -62,26 +60,28 @@ fn steps_of(layout: &Layout) -> Steps {
         let arc = Arc::of(bytes);
         places[at + usize::from(behind[arc.mode() & 255])] = Step::of(arc, &capacities);
     }
-    Steps { steps, spans }
+    Steps { steps, spans, arc_counts }
 }
 
-/// Runs the list until a movement is refused: how many were accepted. The marking is what those gave.
-pub fn run_list(layout: &Layout, list: &[[u8; 2]], marking: &mut [u32; 256]) -> usize {
-    let Steps { steps, spans } = steps_of(layout);
+/// Runs the list until a movement is refused. The marking is what those before it gave.
+pub fn run_list(layout: &Layout, list: &[[u8; 2]], marking: &mut [u32; 256]) -> Reach {
+    let Steps { steps, spans, arc_counts } = steps_of(layout);
     let modes = layout.modes as u16;
+    let mut arcs = 0;
     for (accepted, movement) in list.iter().enumerate() {
         let mode = u16::from_be_bytes(*movement);
         if mode >= modes {
-            return accepted;
+            return Reach { accepted, arcs };
         }
+        arcs += usize::from(arc_counts[usize::from(mode as u8)]);
         let (from, to) = spans[usize::from(mode as u8)];
         let own = &steps[usize::from(from)..usize::from(to)];
         if !take(own, marking) {
             undo(own, marking);
-            return accepted;
+            return Reach { accepted, arcs };
         }
     }
-    list.len()
+    Reach { accepted: list.len(), arcs }
 }
 
 /// Takes every step, and says whether all of them were enabled.

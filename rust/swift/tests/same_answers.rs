@@ -63,15 +63,11 @@ fn same_read(bytes: &[u8], seen: &mut BTreeSet<u32>) {
 
 fn same_run(net: &[u8], list: &[u8], counts: &[u32], seen: &mut BTreeSet<u32>) {
     let (mut swiftly, mut plainly) = (counts.to_vec(), counts.to_vec());
-    let (accepted, swift) = swift::run(net, list, &mut swiftly);
-    let (plain_accepted, plain) = reference::run(net, list, &mut plainly);
-    assert_eq!(
-        (accepted, of_swift(swift)),
-        (plain_accepted, of_reference(plain)),
-        "{net:?} {list:?} {counts:?}"
-    );
+    let (ran, plain) = (swift::run(net, list, &mut swiftly), reference::run(net, list, &mut plainly));
+    assert_eq!(of_swift(ran.answer), of_reference(plain.answer), "{net:?} {list:?} {counts:?}");
+    assert_eq!((ran.accepted, ran.arcs), (plain.accepted, plain.arcs), "{net:?} {list:?} {counts:?}");
     assert_eq!(swiftly, plainly, "{net:?} {list:?} {counts:?}");
-    seen.insert(swift.number);
+    seen.insert(ran.answer.number);
 }
 
 fn same_complement(net: &[u8], room: usize, seen: &mut BTreeSet<u32>) {

@@ -1,14 +1,14 @@
 //! A run by the engine's own method, as well as Rust can say it: a mode's arcs are decoded when the net is
 //! read, and each movement tests them all in one pass before a second pass writes their pairs, and no other.
-//! Nothing is half written, so nothing is ever taken back. A step is tested and written so by its sums. The
-//! sheets are read by `swift`.
+//! Nothing is half written, so nothing is ever taken back. The arcs visited are counted as their span is looked
+//! up. A step is tested and written so by its sums. The sheets are read by `swift`.
 
 mod step;
 
 pub use step::fire_step;
 
-use swift::sheets::{Arc, Layout, arguments, capacities, refused_movement};
-use swift::{Answer, LARGEST};
+use swift::sheets::{Arc, Layout, Reach, arguments, capacities, refused_movement};
+use swift::{Answer, LARGEST, Ran};
 
 /// What an arc asks of the count at its pair, and what it adds to it.
 #[derive(Clone, Copy)]
@@ -63,40 +63,42 @@ fn visits_of(layout: &Layout) -> Visits {
     Visits { arcs, spans }
 }
 
-/// Runs a list of movements from the counts found in the marking: how many were accepted, and the answer.
-pub fn run(net: &[u8], movements: &[u8], marking: &mut [u32]) -> (u64, Answer) {
+/// Runs a list of movements from the counts found in the marking.
+pub fn run(net: &[u8], movements: &[u8], marking: &mut [u32]) -> Ran {
     let (layout, list) = match arguments(net, movements, marking) {
         Ok(arguments) => arguments,
-        Err(answer) => return (0, answer),
+        Err(answer) => return Ran::refused(answer),
     };
     let mut counts = [0; 256];
     counts[..marking.len()].copy_from_slice(marking);
-    let accepted = run_list(&layout, list, &mut counts);
+    let reach = run_list(&layout, list, &mut counts);
     marking.copy_from_slice(&counts[..marking.len()]);
-    let answer = match list.get(accepted) {
+    let answer = match list.get(reach.accepted) {
         Some(mode) => refused_movement(&layout, &counts, usize::from(u16::from_be_bytes(*mode))),
         None => Answer::ACCEPTED,
     };
-    (accepted as u64, answer)
+    Ran::to(reach, answer)
 }
 
-/// Runs the list until a movement is refused: how many were accepted. The marking is what those gave.
-fn run_list(layout: &Layout, list: &[[u8; 2]], marking: &mut [u32; 256]) -> usize {
+/// Runs the list until a movement is refused. The marking is what those before it gave.
+fn run_list(layout: &Layout, list: &[[u8; 2]], marking: &mut [u32; 256]) -> Reach {
     let Visits { arcs, spans } = visits_of(layout);
+    let mut visited = 0;
     for (accepted, movement) in list.iter().enumerate() {
         let mode = usize::from(u16::from_be_bytes(*movement));
         if mode >= layout.modes {
-            return accepted;
+            return Reach { accepted, arcs: visited };
         }
         let (from, to) = spans[mode & 255];
         let own = &arcs[usize::from(from)..usize::from(to)];
+        visited += own.len();
         if !own.iter().all(|arc| arc.allows(marking)) {
-            return accepted;
+            return Reach { accepted, arcs: visited };
         }
         for arc in own {
             let count = &mut marking[usize::from(arc.pair)];
             *count = count.wrapping_add(arc.gain);
         }
     }
-    list.len()
+    Reach { accepted: list.len(), arcs: visited }
 }

@@ -1,4 +1,4 @@
-//! The same answers, accepted counts and markings as `reference`, on generated inputs.
+//! The same answers, accepted counts, arcs visited and markings as `reference`, on generated inputs.
 
 #[path = "../../reference/tests/support/generator.rs"]
 mod generator;
@@ -40,11 +40,12 @@ fn running_gives_the_same_answer() {
             spoil(&mut random, &mut sheet);
         }
         let mut plainly = twice.clone();
-        let (accepted, answer) = twopass::run(&sheet, &list, &mut twice);
-        let (plain, plain_answer) = reference::run(&sheet, &list, &mut plainly);
-        assert_eq!((accepted, told(answer)), (plain, of_reference(plain_answer)), "{sheet:?} {list:?}");
+        let (ran, plain) =
+            (twopass::run(&sheet, &list, &mut twice), reference::run(&sheet, &list, &mut plainly));
+        assert_eq!(told(ran.answer), of_reference(plain.answer), "{sheet:?} {list:?}");
+        assert_eq!((ran.accepted, ran.arcs), (plain.accepted, plain.arcs), "{sheet:?} {list:?}");
         assert_eq!(twice, plainly, "{sheet:?} {list:?}");
-        seen.insert(answer.number);
+        seen.insert(ran.answer.number);
     }
     assert!([0, 6, 11, 12, 13, 14].iter().all(|number| seen.contains(number)), "{seen:?}");
 }

@@ -61,6 +61,12 @@ pub fn followed(sheet: &[u8], bytes: &[u8]) -> Vec<u8> {
     [sheet, bytes].concat()
 }
 
+/// How far a run comes: how many movements it accepts, and the answer.
+pub fn ran_to(net: &[u8], movements: &[u8], marking: &mut [u32]) -> (u64, Answer) {
+    let ran = reference::run(net, movements, marking);
+    (ran.accepted, ran.answer)
+}
+
 /// The complement of a net that has one.
 pub fn complement_of(net: &[u8]) -> Vec<u8> {
     let mut output = vec![0; 35_083];

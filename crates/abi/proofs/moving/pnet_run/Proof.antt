@@ -1,4 +1,4 @@
--- The answer, the count and the marking as the library leaves them.
+-- The answer, the counts and the marking as the library leaves them.
 use borrow.Author.Needs.{needs}
 use Rattle.abi.proofs.moving.pnet_run.Statement.{statement}
 use Rattle.abi.proofs.moving.pnet_run.Tie as tie

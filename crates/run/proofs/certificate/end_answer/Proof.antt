@@ -12,7 +12,7 @@ run-listed-requires c κs =
     let made = c .before .before .before in
     let wrote = made .before .before .before in
     let start = wrote .before .before .before .before .before .before in
-    (record { opened = start .pre .0; startsAre = made .starts .ensures; numbersAre = λ l. absurd (omega arith) }, (start .pre .1 .0, rw (wrote .write-start .ensures) (sizes (start .pre .0) .wellFormed .start)))
+    (record { numbered = record { opened = start .pre .0; numbersAre = λ l. absurd (omega arith) }; startsAre = made .starts .ensures }, (start .pre .1 .0, rw (wrote .write-start .ensures) (sizes (start .pre .0) .wellFormed .start)))
 
 returns : tie.Need-returns
 returns c =

@@ -1,6 +1,6 @@
 -- The sheet's modes are those that stand from its first field on.
 use borrow.Author.Needs.{needs}
-use Rattle.sheets.proofs.Lists.{movements-are, movements-headed, movements-stand}
+use Rattle.sheets.proofs.Lists.{movements-are, movements-headed, movements-length, movements-stand, movements-within}
 use Rattle.run.proofs.movements.run_listed.Statement.{statement}
 use Rattle.run.proofs.movements.run_listed.Tie as tie
 
@@ -8,7 +8,13 @@ run-modes-requires : tie.Need-run-modes-requires
 run-modes-requires c κs =
     let counted = c .before .before in
     let start = counted .before .before .before .before .before in
-    (start .pre .0, (rw (c .before .movements-at .ensures, counted .movement-count .ensures) (movements-stand _ (start .pre .1 .0)), start .pre .1 .1))
+    let few = movements-within _ (start .pre .1 .0) in (
+      start .pre .0,
+      (
+        rw (c .before .movements-at .ensures, counted .movement-count .ensures) (movements-stand _ (start .pre .1 .0)),
+        (rw (counted .movement-count .ensures, ← movements-length _) few, start .pre .1 .1),
+      ),
+    )
 
 returns : tie.Need-returns
 returns c =

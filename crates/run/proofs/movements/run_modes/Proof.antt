@@ -8,7 +8,7 @@ refusal-of-requires : tie.Need-refusal-of-requires
 refusal-of-requires c κs =
     let run = c .before .before .before .before .before in
     let pre = run .before .before .before .before .before .before .pre in
-    (pre .0 .opened, (pre .0 .startsAre, marking-left _ _ _ _ _ (run .count-accepted .ensures) (pre .1 .1)))
+    (pre .0 .numbered .opened, (pre .0 .startsAre, marking-left _ _ _ _ _ (run .count-accepted .ensures) (pre .1 .1 .1)))
 
 returns : tie.Need-returns
 returns c =

@@ -1,32 +1,41 @@
 -- Not there; or what firing the mode's arcs gives.
 use borrow.Author.Needs.{needs}
 use native.Mathlib.Omega.{arith}
-use Rattle.opened.proofs.Segments.{segment-own}
 use Rattle.run.proofs.Running.{absent-makes, there-makes}
+use Rattle.run.proofs.Visiting.{tries-at}
 use Rattle.run.proofs.movements.step.Statement.{statement}
 use Rattle.run.proofs.movements.step.Tie as tie
 
 returns : tie.Need-returns
 returns c = absent-makes (c .before .before .before .before .before .before .pre .0 .opened) _ (c .if1 .taken)
 
+fire-free-requires : tie.Need-fire-free-requires
+fire-free-requires c κs =
+    let test = c .before .before in
+    let start = test .before .before .before .before .before .before in
+    tries-at (start .pre .0 .opened) (start .pre .1 .0) (start .pre .1 .1) (test .if1 .left)
+
 returns-2 : tie.Need-returns-2
 returns-2 c =
     let fired = c .before .before in
-    let found = fired .before .before .before in
-    let start = found .before .before .before .before .before .before .before in
-    there-makes (start .pre .0 .opened) _ (found .before .if1 .left) (fired .fire-free .ensures _ (segment-own (found .arcs-of .ensures)) .each _)
+    let test = fired .before .before .before in
+    let start = test .before .before .before .before .before .before in
+    there-makes (start .pre .0 .opened) _ (test .if1 .left)
+    (fired .fire-free .ensures _ (tries-at (start .pre .0 .opened) (start .pre .1 .0) (start .pre .1 .1) (test .if1 .left) .own) .each _)
 
 fire-within-requires : tie.Need-fire-within-requires
 fire-within-requires c κs =
-    let start = c .before .before .before .before .before .before .before .before .before in
-    (start .pre .0 .numbersAre (omega arith), search needs)
+    let test = c .before .before in
+    let start = test .before .before .before .before .before .before in
+    (start .pre .0 .numbersAre (omega arith), tries-at (start .pre .0 .opened) (start .pre .1 .0) (start .pre .1 .1) (test .if1 .left))
 
 returns-3 : tie.Need-returns-3
 returns-3 c =
     let fired = c .before .before in
-    let found = fired .before .before .before in
-    let start = found .before .before .before .before .before .before .before in
-    there-makes (start .pre .0 .opened) _ (found .before .if1 .left) (fired .fire-within .ensures _ (segment-own (found .arcs-of .ensures)) .each _)
+    let test = fired .before .before .before in
+    let start = test .before .before .before .before .before .before in
+    there-makes (start .pre .0 .opened) _ (test .if1 .left)
+    (fired .fire-within .ensures _ (tries-at (start .pre .0 .opened) (start .pre .1 .0) (start .pre .1 .1) (test .if1 .left) .own) .each _)
 
 pub step-spec : {M : Type 1} → statement M
 step-spec =
@@ -34,8 +43,7 @@ step-spec =
     (tie.spec
     (λ c. search needs)
     returns
-    (λ c κs. search needs)
-    (λ c κs. search needs)
+    fire-free-requires
     (λ c. search needs)
     returns-2
     fire-within-requires
