@@ -11,6 +11,7 @@ use opened::shape::shape_of;
 use opened::starts::starts;
 use sheets::whole::after;
 use sheets::whole::whole_movements;
+use text::twos::twos;
 use weigh::sums::figure_of;
 ghost use mathlib.Core.Path.{_≡_};
 ghost use mathlib.Core.Option.{none};
@@ -42,7 +43,9 @@ fn put_run(
     let figure = figure_of(s, net, weights, marking);
     let start = put_start(out, 0, figure);
     let starts = starts(s, net);
+    let twos = twos();
     put_movements(
+        &twos,
         s,
         net,
         &starts,

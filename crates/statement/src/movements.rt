@@ -24,6 +24,7 @@ ghost use Rattle.sheets.specs.Decoded.{netOf, weightsOf, movementsOf};
 ghost use Rattle.opened.specs.Shape.{Open};
 ghost use Rattle.opened.specs.Starts.{StartsAre};
 ghost use Rattle.text.specs.Puts.{Writes};
+ghost use Rattle.text.specs.Twos.{TwosAre};
 ghost use Rattle.lines.specs.Lines.{refusedLine, endLine};
 ghost use Rattle.statement.specs.Parts.{Read};
 ghost use Rattle.statement.specs.Replay.{linesFrom};
@@ -65,6 +66,7 @@ fn put_stop(
 }
 
 pub(crate) fn put_movements(
+    twos: &[u8; 200],
     s: &[u8],
     net: NetShape,
     starts: &[u16; 257],
@@ -80,6 +82,7 @@ pub(crate) fn put_movements(
     requires { ⌜ Marking (netOf (now s)) (now marking) ⌝ }
     requires { ⌜ first ≡ figureAt (netOf (now s)) (weightsOf (now weights)) (now marking) ⌝ }
     requires { ⌜ at + (28 * 8192 + 159) ≤ length (now out) ⌝ }
+    requires { ⌜ TwosAre 100 (now twos) ⌝ }
     ensures { λ r. ⌜ Writes (28 * 8192 + 159) (now (out .entry)) at (linesFrom (netOf (now (s .entry))) (weightsOf (now (weights .entry))) 0 (movementsOf (now (movements .entry))) (now (marking .entry))) r (now (out .exit)) ⌝ }
 {
     let count = movement_count(movements);
@@ -94,7 +97,7 @@ pub(crate) fn put_movements(
         }
         figure = add_change(s, net, starts, weights, mode, figure);
         k += 1;
-        end = put_accepted(out, end, k as u64, mode, figure);
+        end = put_accepted(twos, out, end, k as u64, mode, figure);
     }
     put_end(out, end, k as u64, figure)
 }

@@ -16,8 +16,9 @@ figure-of-requires c κs =
 
 put-movements-requires : tie.Need-put-movements-requires
 put-movements-requires c κs =
-    let tabled = c .before .before .before in
-    let began = c .before .before .before .before .before .before .put-start in
+    let lent = c .before .before .before .before in
+    let tabled = lent .before in
+    let began = tabled .before .before .before .put-start in
     let weighed = tabled .before .before .before .before .before in
     let wrote = weighed .before .before .before .before in
     let pre = wrote .before .before .before .before .before .before .before .pre in
@@ -27,7 +28,7 @@ put-movements-requires c κs =
         tabled .starts .ensures,
         (
           rw (wrote .write-start .ensures) (sizes (sheets .opened) .wellFormed .start),
-          (toZ-ofZ (record { sfits = weighed .figure-of .ok }) ∙ weighed .figure-of .ensures, omega (arith, began .ensures .next, began .ensures .within, began .kept .0, pre .1 .1)),
+          (toZ-ofZ (record { sfits = weighed .figure-of .ok }) ∙ weighed .figure-of .ensures, (omega (arith, began .ensures .next, began .ensures .within, began .kept .0, pre .1 .1), lent .twos .ensures)),
         ),
       ),
     )
@@ -35,7 +36,7 @@ put-movements-requires c κs =
 returns : tie.Need-returns
 returns c =
     let told = c .before .before .before .before in
-    let began = told .before .before .before .before .before .before .before in
+    let began = told .before .before .before .before .before .before .before .before .before in
     let weighed = began .before .before in
     let wrote = weighed .before .before .before .before in
     run-told _ _ _ (wrote .write-start .ensures) (toZ-ofZ (record { sfits = weighed .figure-of .ok }) ∙ weighed .figure-of .ensures)
@@ -47,6 +48,7 @@ put-run-spec =
     (tie.spec
     (λ c κs. search needs)
     figure-of-requires
+    (λ c κs. search needs)
     (λ c κs. search needs)
     (λ c κs. search needs)
     put-movements-requires

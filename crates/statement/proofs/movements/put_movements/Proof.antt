@@ -14,11 +14,11 @@ use Rattle.statement.proofs.movements.put_movements.Statement.{statemen
 use Rattle.statement.proofs.movements.put_movements.Tie as tie
 
 abbrev Inv-loop : tie.InvT-loop
-Inv-loop s net starts weights movements marking₀ out₀ at first count end₀ figure₀ k₀ marking out end figure k =
+Inv-loop twos s net starts weights movements marking₀ out₀ at first count end₀ figure₀ k₀ marking out end figure k =
     (k ≤ count) × (length out ≡ length out₀) × Along (netOf s) (weightsOf weights) (movementsOf movements) marking₀ out₀ at k marking (toZ w64 figure) end out
 
 abbrev μ-loop : tie.MeasureT-loop
-μ-loop s net starts weights movements marking₀ out₀ at first count end₀ figure₀ k₀ marking out end figure k = count - k
+μ-loop twos s net starts weights movements marking₀ out₀ at first count end₀ figure₀ k₀ marking out end figure k = count - k
 
 movement-count-requires : tie.Need-movement-count-requires Inv-loop μ-loop
 movement-count-requires c κs = movements-headed _ (c .before .before .before .before .before .pre .0 .listed)
@@ -26,7 +26,7 @@ movement-count-requires c κs = movements-headed _ (c .before .before .before .b
 loop-holds : tie.Need-loop-holds Inv-loop μ-loop
 loop-holds c =
     let start = c .before .before .before .before .before .before in
-    (search needs, refl, along-none (start .pre .1 .1 .0) (toZ-ofZ (start .fits .first) ∙ start .pre .1 .1 .1 .0) (omega (arith, start .pre .1 .1 .1 .1)))
+    (search needs, refl, along-none (start .pre .1 .1 .0) (toZ-ofZ (start .fits .first) ∙ start .pre .1 .1 .1 .0) (omega (arith, start .pre .1 .1 .1 .1 .0)))
 
 movement-requires : tie.Need-movement-requires Inv-loop μ-loop
 movement-requires c κs =
@@ -46,7 +46,7 @@ put-stop-requires c κs =
     let pre = counted .before .before .before .before .before .before .pre in
     let k = test .loop-test .taken in
     let few = at-most (pre .0) (counted .movement-count .ensures) in
-    (omega arith, along-room (pre .0) (counted .movement-count .ensures) (test .before .loop .inv .2) (omega arith) (pre .1 .1 .1 .1))
+    (omega arith, along-room (pre .0) (counted .movement-count .ensures) (test .before .loop .inv .2) (omega arith) (pre .1 .1 .1 .1 .0))
 
 same-length : tie.Need-same-length Inv-loop μ-loop
 same-length c =
@@ -89,7 +89,7 @@ put-accepted-requires c κs =
     let counted = test .before .before in
     let pre = counted .before .before .before .before .before .before .pre in
     let k = test .loop-test .taken in
-    omega (arith, along-room (pre .0) (counted .movement-count .ensures) (test .before .loop .inv .2) (omega arith) (pre .1 .1 .1 .1))
+    (pre .1 .1 .1 .1 .1, omega (arith, along-room (pre .0) (counted .movement-count .ensures) (test .before .loop .inv .2) (omega arith) (pre .1 .1 .1 .1 .0)))
 
 loop-again : tie.Need-loop-again Inv-loop μ-loop
 loop-again c =
@@ -101,7 +101,7 @@ loop-again c =
     let counted = at .before in
     let sheets = counted .before .before .before .before .before .before .pre .0 in (
       search needs,
-      told .put-accepted .kept .0 ∙ at .loop .inv .1,
+      told .put-accepted .kept .1 .0 ∙ at .loop .inv .1,
       along-more sheets (counted .movement-count .ensures) (at .loop .inv .2) (read .before .loop-test .taken) (read .movement .ensures)
           (moved .advance .ensures) (weighed .before .enum-told .given .1) (toZ-ofZ (record { sfits = weighed .add-change .ok }) ∙ weighed .add-change .ensures)
           (told .put-accepted .ensures),
@@ -112,7 +112,7 @@ put-end-requires c κs =
     let at = c .before .before in
     let counted = at .before in
     let pre = counted .before .before .before .before .before .before .pre in
-    omega (arith, along-room (pre .0) (counted .movement-count .ensures) (at .loop .inv .2) (at .loop .inv .0) (pre .1 .1 .1 .1))
+    omega (arith, along-room (pre .0) (counted .movement-count .ensures) (at .loop .inv .2) (at .loop .inv .0) (pre .1 .1 .1 .1 .0))
 
 same-length-3 : tie.Need-same-length-3 Inv-loop μ-loop
 same-length-3 c =
