@@ -1,7 +1,7 @@
 -- The digits of a number from the last: what is left to write while those after it are written.
 use Prim.Native.Nat.{ℕ, zero, suc, _+_, _-_, _/_, _%_, _≤_, _<_}
 use mathlib.Core.Path.{_≡_}
-use mathlib.Core.List.{List, [], _∷_, _++_, append-assoc, append-nil}
+use mathlib.Core.List.{List, _∷_, _++_, append-assoc, append-nil}
 use lib.ListN.{length, take, drop, set, take-append-drop, length-set}
 use lib.Seq.{drop-cons, getD-set-same, take-set-le, drop-set-lt}
 use native.Mathlib.Nat.{add-zero, add-suc, mod-eq-of-lt}

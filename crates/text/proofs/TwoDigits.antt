@@ -29,27 +29,27 @@ last-within k n = sym (last-over k (n / 10 ^ k) (n % 10 ^ k)) ∙ ap (lastDigits
 tenths : (k n : ℕ) → n / 10 / 10 ^ k ≡ n / 10 ^ suc k
 tenths k n = rw (div-div-eq-div-mul, pow-succ')
 
-module _ (j : ℕ) where
-  last-cut-off : (k n : ℕ) → lastDigits (k + j) n ≡ lastDigits j (n / 10 ^ k) ++ lastDigits k n
+-- What is a tenth's digits and then the last digit, as long as `Q` holds, is the digits of n / 10 ^ k and then k.
+module _ (f : ℕ → ℕ → List ℕ) (Q : ℕ → ℕ → Type 0)
+    (step : (k n : ℕ) → Q (suc k) n → Q k (n / 10) × (f (suc k) n ≡ f k (n / 10) ++ digit (n % 10) ∷ [])) where
+  cut-off : (k n : ℕ) → Q k n → f k n ≡ f 0 (n / 10 ^ k) ++ lastDigits k n
   unfolding lastDigits
-  last-cut-off zero n = rw (zero-add, append-nil, pow-zero, div-one)
-  last-cut-off (suc k) n = rw (suc-add k j, last-cut-off k (n / 10), tenths k n) (simp append-assoc)
+  cut-off zero n q = rw (append-nil, pow-zero, div-one)
+  cut-off (suc k) n q = let s = step k n q in rw (s .1, cut-off k (n / 10) (s .0), tenths k n) (simp append-assoc)
 
-  -- j + k digits are j and then k
-  pub last-cut : (k n : ℕ) → lastDigits (k + j) n ≡ lastDigits j (n / 10 ^ k) ++ lastDigits k (n % 10 ^ k)
-  last-cut k n = rw last-within (last-cut-off k n)
+  cut : (k n : ℕ) → Q k n → f k n ≡ f 0 (n / 10 ^ k) ++ lastDigits k (n % 10 ^ k)
+  cut k n q = rw last-within (cut-off k n q)
 
-decimal-cut-off : (k n : ℕ) → 10 ^ k ≤ n → decimal n ≡ decimal (n / 10 ^ k) ++ lastDigits k n
+pub last-cut : (j k n : ℕ) → lastDigits (k + j) n ≡ lastDigits j (n / 10 ^ k) ++ lastDigits k (n % 10 ^ k)
 unfolding lastDigits
-decimal-cut-off zero n h = rw (append-nil, pow-zero, div-one)
-decimal-cut-off (suc k) n h =
-    let e = pow-suc 10 k in
-    rw (from-ten n (omega (arith, one-le-pow k 10 (omega arith))), decimal-cut-off k (n / 10) (omega arith), tenths k n)
-    (simp append-assoc)
+last-cut j k n =
+    cut (λ k. lastDigits (k + j)) (λ k n. Unit {0}) (λ k n q. (tt, rw (suc-add k j))) k n tt
+    ∙ ap (λ i. lastDigits i (n / 10 ^ k) ++ lastDigits k (n % 10 ^ k)) (zero-add j)
 
--- the digits of n are those of n / 10 ^ k, and then k
 pub decimal-cut : (k n : ℕ) → 10 ^ k ≤ n → decimal n ≡ decimal (n / 10 ^ k) ++ lastDigits k (n % 10 ^ k)
-decimal-cut k n h = rw last-within (decimal-cut-off k n h)
+decimal-cut =
+    cut (λ k. decimal) (λ k n. 10 ^ k ≤ n)
+    (λ k n q. (omega (arith, pow-suc 10 k), from-ten n (omega (arith, pow-suc 10 k, one-le-pow k 10 (omega arith)))))
 
 pub two-digits : (n : ℕ) → 10 ≤ n → n < 100 → decimal n ≡ lastDigits 2 n
 two-digits n h l = sym (last-digits-all n) ∙ ap (λ k. lastDigits k n) (omega (arith, length-at-most n 1 l, length-above n 1 (omega arith)))

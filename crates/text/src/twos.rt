@@ -96,7 +96,21 @@ fn write_to_eight(twos: &[u8; 200], out: &mut [u8], at: usize, n: u32) -> usize
     write_four(twos, out, middle, n % 10_000)
 }
 
-// No number of an accepted line has more than 16 digits.
+// No number of a line has more than 16 digits; another is written digit by digit.
+fn write_long(twos: &[u8; 200], out: &mut [u8], at: usize, n: u64) -> usize
+    requires { ⌜ TwosAre 100 (now twos) ⌝ }
+    requires { ⌜ 100000000 ≤ n ⌝ }
+    requires { ⌜ at + 20 ≤ length (now out) ⌝ }
+    ensures { λ r. ⌜ Writes 20 (now (out .entry)) at (decimal n) r (now (out .exit)) ⌝ }
+{
+    let high = n / 100_000_000;
+    if high < 100_000_000 {
+        let middle = write_to_eight(twos, out, at, high as u32);
+        return write_eight(twos, out, middle, (n % 100_000_000) as u32);
+    }
+    write_decimal(out, at, n)
+}
+
 pub fn write_decimal_by(twos: &[u8; 200], out: &mut [u8], at: usize, n: u64) -> usize
     requires { ⌜ TwosAre 100 (now twos) ⌝ }
     requires { ⌜ at + 20 ≤ length (now out) ⌝ }
@@ -105,12 +119,7 @@ pub fn write_decimal_by(twos: &[u8; 200], out: &mut [u8], at: usize, n: u64) -> 
     if n < 100_000_000 {
         return write_to_eight(twos, out, at, n as u32);
     }
-    let high = n / 100_000_000;
-    if high < 100_000_000 {
-        let middle = write_to_eight(twos, out, at, high as u32);
-        return write_eight(twos, out, middle, (n % 100_000_000) as u32);
-    }
-    write_decimal(out, at, n)
+    write_long(twos, out, at, n)
 }
 
 pub fn write_signed_by(twos: &[u8; 200], out: &mut [u8], at: usize, z: i64) -> usize

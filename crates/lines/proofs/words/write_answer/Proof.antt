@@ -1,6 +1,5 @@
 -- Three bytes.
 use borrow.Author.Needs.{needs}
-use Rattle.model.specs.Refusals.{number}
 use Rattle.text.specs.Decimals.{decimal, decimalWithin}
 use Rattle.text.proofs.Writing.{_and_}
 use Rattle.lines.proofs.words.write_answer.Statement.{statement}

@@ -1,5 +1,4 @@
 -- '-' and the digits of its size, or its digits.
-use mathlib.Core.Path.{_≡_}
 use borrow.Author.Needs.{needs}
 use Rattle.text.proofs.Sizes.{signed-below, signed-not-below}
 use Rattle.text.proofs.Writing.{signed-size, within, _and_}
