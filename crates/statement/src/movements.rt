@@ -9,6 +9,7 @@ use opened::shape::NetShape;
 use run::Ran;
 use run::movements::run_listed;
 use run::numbers::write_numbers;
+use text::twos::twos;
 use weigh::changes::write_changes;
 ghost use mathlib.Core.Path.{_≡_};
 ghost use mathlib.Core.List.{_++_};
@@ -86,6 +87,7 @@ pub(crate) fn put_movements(
     requires { ⌜ at + (28 * 8192 + 159) ≤ length (now out) ⌝ }
     ensures { λ r. ⌜ Writes (28 * 8192 + 159) (now (out .entry)) at (linesFrom (netOf (now (s .entry))) (weightsOf (now (weights .entry))) 0 (movementsOf (now (movements .entry))) (netOf (now (s .entry)) .start)) r (now (out .exit)) ⌝ }
 {
+    let twos = twos();
     let mut changes = [0i64; 256];
     write_changes(s, net, starts, weights, &mut changes);
     let mut end = at;
@@ -95,7 +97,7 @@ pub(crate) fn put_movements(
         let mode = movement(movements, k);
         figure += changes[mode.0 as usize];
         k += 1;
-        end = put_accepted(out, end, k as u64, mode, figure);
+        end = put_accepted(&twos, out, end, k as u64, mode, figure);
     }
     if let Answer::Refused(refusal) = answer {
         return put_stop(movements, k, refusal, out, end, figure);

@@ -14,20 +14,20 @@ use Rattle.statement.proofs.movements.put_movements.Statement.{statemen
 use Rattle.statement.proofs.movements.put_movements.Tie as tie
 
 abbrev Inv-loop : tie.InvT-loop
-Inv-loop s starts weights movements accepted answer out₀ at first changes end₀ figure₀ k₀ out end figure k =
+Inv-loop s starts weights movements accepted answer out₀ at first twos changes end₀ figure₀ k₀ out end figure k =
     (k ≤ accepted) × (length out ≡ length out₀) × Along (netOf s) (weightsOf weights) (movementsOf movements) out₀ at k (toZ w64 figure) end out
 
 abbrev μ-loop : tie.MeasureT-loop
-μ-loop s starts weights movements accepted answer out₀ at first changes end₀ figure₀ k₀ out end figure k = accepted - k
+μ-loop s starts weights movements accepted answer out₀ at first twos changes end₀ figure₀ k₀ out end figure k = accepted - k
 
 write-changes-requires : tie.Need-write-changes-requires Inv-loop μ-loop
 write-changes-requires c κs =
-    let pre = c .before .before .before .before .before .pre in
+    let pre = c .before .before .before .before .before .before .pre in
     (pre .0 .opened, (pre .1 .0, (pre .0 .weighed, refl)))
 
 loop-holds : tie.Need-loop-holds Inv-loop μ-loop
 loop-holds c =
-    let start = c .before .before .before .before .before .before .before in
+    let start = c .before .before .before .before .before .before .before .before in
     let pre = start .pre in (
       search needs,
       refl,
@@ -36,57 +36,57 @@ loop-holds c =
 
 movement-requires : tie.Need-movement-requires Inv-loop μ-loop
 movement-requires c κs =
-    let pre = c .before .before .before .before .before .before .before .before .before .pre in
+    let pre = c .before .before .before .before .before .before .before .before .before .before .pre in
     (pre .0 .listed, omega (arith, c .loop-test .taken, counted (pre .0) (pre .1 .1 .0)))
 
 mul-figure : tie.Need-mul-figure Inv-loop μ-loop
 mul-figure c =
     let at = c .before .before .before in
-    let pre = at .before .before .before .before .before .before .before .before .pre in
+    let pre = at .before .before .before .before .before .before .before .before .before .pre in
     record { fits = omega (arith, along-entry (pre .0) (pre .1 .1 .0) (at .loop .inv .2) (c .before .before .loop-test .taken) (c .before .movement .ensures)) }
 
 array-copy-out-figure : tie.Need-array-copy-out-figure Inv-loop μ-loop
 array-copy-out-figure c =
     let at = c .before .before .before in
-    let pre = at .before .before .before .before .before .before .before .before .pre in
+    let pre = at .before .before .before .before .before .before .before .before .before .pre in
     along-entry (pre .0) (pre .1 .1 .0) (at .loop .inv .2) (c .before .before .loop-test .taken) (c .before .movement .ensures)
 
 add-figure : tie.Need-add-figure Inv-loop μ-loop
 add-figure c =
     let read = c .before .before in
     let at = read .before .before in
-    let pre = at .before .before .before .before .before .before .before .before .pre in
+    let pre = at .before .before .before .before .before .before .before .before .before .pre in
     next-fits (pre .0) (pre .1 .1 .0) (at .loop .inv .2) (read .before .loop-test .taken) (read .movement .ensures) (at .before .before .write-changes .ensures)
     (toZ-ofZ (record { sfits = c .figure .given }))
 
 put-accepted-requires : tie.Need-put-accepted-requires Inv-loop μ-loop
 put-accepted-requires c κs =
-    let test = c .before .before .before .before in
+    let test = c .before .before .before .before .before in
     let at = test .before in
-    let pre = at .before .before .before .before .before .before .before .before .pre in
+    let pre = at .before .before .before .before .before .before .before .before .before .pre in
     let k = test .loop-test .taken in
-    omega (arith, along-room (pre .0) (pre .1 .1 .0) (at .loop .inv .2) (omega arith) (pre .1 .1 .1 .1))
+    (at .before .before .before .before .twos .ensures, omega (arith, along-room (pre .0) (pre .1 .1 .0) (at .loop .inv .2) (omega arith) (pre .1 .1 .1 .1)))
 
 loop-again : tie.Need-loop-again Inv-loop μ-loop
 loop-again c =
     let told = c .before .before in
-    let summed = told .before .before in
+    let summed = told .before .before .before in
     let read = summed .before .before in
     let at = read .before .before in
-    let pre = at .before .before .before .before .before .before .before .before .pre in
+    let pre = at .before .before .before .before .before .before .before .before .before .pre in
     let table = at .before .before .write-changes .ensures in
     let entry = toZ-ofZ (record { sfits = summed .figure .given }) in
     let h = read .before .loop-test .taken in
     let fits = next-fits (pre .0) (pre .1 .1 .0) (at .loop .inv .2) h (read .movement .ensures) table entry in (
       search needs,
-      told .put-accepted .kept .0 ∙ at .loop .inv .1,
+      told .put-accepted .kept .1 .0 ∙ at .loop .inv .1,
       along-more (pre .0) (pre .1 .1 .0) (at .loop .inv .2) h (read .movement .ensures) table entry (toZ-ofZ fits) (told .put-accepted .ensures),
     )
 
 put-stop-requires : tie.Need-put-stop-requires Inv-loop μ-loop
 put-stop-requires c κs =
     let at = c .before .before .before .before .before in
-    let pre = at .before .before .before .before .before .before .before .before .pre in
+    let pre = at .before .before .before .before .before .before .before .before .before .pre in
     let k = at .loop .inv .0 in (
       pre .0 .listed,
       (
@@ -103,14 +103,14 @@ returns c =
     let told = c .before .before in
     let test = told .before .before .before .before .before in
     let at = test .before in
-    let pre = at .before .before .before .before .before .before .before .before .pre in
+    let pre = at .before .before .before .before .before .before .before .before .before .pre in
     along-stops (pre .0) (pre .1 .1 .0) (at .loop .inv .2) (at .loop .inv .0) (test .loop-test .left) (told .before .before .before .answer .given .1)
     (told .put-stop .ensures)
 
 put-end-requires : tie.Need-put-end-requires Inv-loop μ-loop
 put-end-requires c κs =
     let at = c .before .before .before .before in
-    let pre = at .before .before .before .before .before .before .before .before .pre in
+    let pre = at .before .before .before .before .before .before .before .before .before .pre in
     omega (arith, along-room (pre .0) (pre .1 .1 .0) (at .loop .inv .2) (at .loop .inv .0) (pre .1 .1 .1 .1))
 
 same-length-2 : tie.Need-same-length-2 Inv-loop μ-loop
@@ -121,7 +121,7 @@ returns-2 c =
     let told = c .before .before in
     let test = told .before .before .before .before in
     let at = test .before in
-    let pre = at .before .before .before .before .before .before .before .before .pre in
+    let pre = at .before .before .before .before .before .before .before .before .before .pre in
     along-ends (pre .0) (pre .1 .1 .0) (at .loop .inv .2) (at .loop .inv .0) (test .loop-test .left) (told .before .before .enum-told .given .1) (told .put-end .ensures)
 
 pub put-movements-spec : {M : Type 1} → statement M
@@ -130,6 +130,7 @@ put-movements-spec =
     (tie.spec
     Inv-loop
     μ-loop
+    (λ c κs. search needs)
     (λ c. search needs)
     write-changes-requires
     loop-holds
