@@ -10,6 +10,7 @@ use model::Mode;
 use model::Refusal;
 use text::twos::write_decimal_by;
 use text::twos::write_signed_by;
+use text::twos::write_to_eight;
 use text::writes::write_byte;
 use text::writes::write_bytes;
 use told::line_of;
@@ -43,7 +44,7 @@ pub fn put_accepted(
 {
     let first = write_decimal_by(twos, out, at, place);
     let space = write_byte(out, first, b' ');
-    let second = write_decimal_by(twos, out, space, mode.0 as u64);
+    let second = write_to_eight(twos, out, space, mode.0 as u32);
     let answer = write_answer(out, second);
     let end = write_signed_by(twos, out, answer, figure);
     write_byte(out, end, b'\n')

@@ -83,7 +83,7 @@ fn write_to_four(twos: &[u8; 200], out: &mut [u8], at: usize, n: u32) -> usize
     write_two(twos, out, middle, n % 100)
 }
 
-fn write_to_eight(twos: &[u8; 200], out: &mut [u8], at: usize, n: u32) -> usize
+pub fn write_to_eight(twos: &[u8; 200], out: &mut [u8], at: usize, n: u32) -> usize
     requires { ⌜ TwosAre 100 (now twos) ⌝ }
     requires { ⌜ n < 100000000 ⌝ }
     requires { ⌜ at + 8 ≤ length (now out) ⌝ }

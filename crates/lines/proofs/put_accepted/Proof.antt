@@ -18,7 +18,7 @@ returns c =
     let space = mode .before .before .before .before .before in
     let place = space .before .before .before .before in
     let all =
-    place .write-decimal-by .ensures and space .write-byte .ensures and mode .write-decimal-by2 .ensures and answer .write-answer .ensures
+    place .write-decimal-by .ensures and space .write-byte .ensures and mode .write-to-eight .ensures and answer .write-answer .ensures
     and figure .write-signed-by .ensures and end .write-byte2 .ensures in
     rw (← toZ-ofZ (place .before .before .before .fits .figure)) (within all (omega (arith, all .within)))
 
