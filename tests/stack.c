@@ -3,7 +3,7 @@
  *
  *   cc -I include tests/stack.c target/staticlib/libabi.a -o stack && ./stack
  *
- * Exit status 1 where a call uses more than it may: pnet_run 12 KiB, steps 6 KiB, every other 4 KiB.
+ * Exit status 1 where a call uses more than it may: pnet_run and pnet_statement 12 KiB, steps 6 KiB, every other 4 KiB.
  */
 #include <stdio.h>
 #include <string.h>
@@ -133,7 +133,7 @@ static const struct {
     {"pnet_figure", figure, 0, 4096},           {"pnet_change", change, 0, 4096},
     {"pnet_is_dead", is_dead, 0, 4096},         {"pnet_first_dead", first_dead, 0, 4096},
     {"pnet_size", size, 0, 4096},               {"pnet_complement", complement, 0, 4096},
-    {"pnet_audit", audit, 0, 4096},             {"pnet_statement", statement, 0, 4096},
+    {"pnet_audit", audit, 0, 4096},             {"pnet_statement", statement, 0, 12288},
     {"pnet_exclude", exclude, 22, 4096},
 };
 

@@ -5,15 +5,20 @@ mod words;
 use crate::words::last_decimal;
 use crate::words::last_figure;
 use crate::words::next_decimal;
+use crate::words::write_answer;
 use model::Mode;
 use model::Refusal;
+use text::twos::write_decimal_by;
+use text::twos::write_signed_by;
+use text::twos::write_to_eight;
+use text::writes::write_byte;
 use text::writes::write_bytes;
-use text::writes::write_decimal;
 use told::line_of;
 use told::thing_of;
 ghost use Prim.Native.Nat.{_+_, _≤_};
 ghost use lib.ListN.{length};
 ghost use Rattle.text.specs.Puts.{Writes};
+ghost use Rattle.text.specs.Twos.{TwosAre};
 ghost use Rattle.lines.specs.Lines.{startLine, acceptedLine, refusedLine, endLine, badLine, longLine};
 
 pub fn put_start(out: &mut [u8], at: usize, figure: i64) -> usize
@@ -24,14 +29,25 @@ pub fn put_start(out: &mut [u8], at: usize, figure: i64) -> usize
     last_figure(out, word, figure)
 }
 
-pub fn put_accepted(out: &mut [u8], at: usize, place: u64, mode: Mode, figure: i64) -> usize
+// A text has thousands of these lines: their numbers are written by a table, made once for the text.
+pub fn put_accepted(
+    twos: &[u8; 200],
+    out: &mut [u8],
+    at: usize,
+    place: u64,
+    mode: Mode,
+    figure: i64,
+) -> usize
+    requires { ⌜ TwosAre 100 (now twos) ⌝ }
     requires { ⌜ at + 84 ≤ length (now out) ⌝ }
     ensures { λ r. ⌜ Writes 84 (now (out .entry)) at (acceptedLine place mode figure) r (now (out .exit)) ⌝ }
 {
-    let first = write_decimal(out, at, place);
-    let second = next_decimal(out, first, mode.0 as u64);
-    let third = next_decimal(out, second, 0);
-    last_figure(out, third, figure)
+    let first = write_decimal_by(twos, out, at, place);
+    let space = write_byte(out, first, b' ');
+    let second = write_to_eight(twos, out, space, mode.0 as u32);
+    let answer = write_answer(out, second);
+    let end = write_signed_by(twos, out, answer, figure);
+    write_byte(out, end, b'\n')
 }
 
 pub fn put_refused(out: &mut [u8], at: usize, place: u64, mode: Mode, refusal: Refusal) -> usize

@@ -158,7 +158,7 @@ pub fn run_modes(
 }
 
 // The list of a movement sheet that was accepted, with both tables lent.
-pub(crate) fn run_listed(
+pub fn run_listed(
     s: &[u8],
     net: NetShape,
     starts: &[u16; 257],

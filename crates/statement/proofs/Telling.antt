@@ -1,75 +1,99 @@
--- A list of movements on its way, a line each: what is written and the lines that are left from here are the whole.
+-- The lines of a run on their way: what is written and the lines that are left from here are the whole.
 use Prim.Native.Nat.{ℕ, _+_, _*_, _≤_, _<_}
-use mathlib.Core.Path.{_≡_, refl, sym, _∙_, ap}
-use mathlib.Core.List.{List, [], _++_, append-assoc}
+use mathlib.Core.Path.{_≡_, refl, sym, _∙_, ap, ap₂}
+use mathlib.Core.List.{List, [], _∷_, _++_, append-assoc, append-nil}
 use mathlib.Core.Option.{none, some}
-use lib.IntN.{ℤ, natAbs, _+ℤ_}
-use lib.ListN.{length, drop, getD, drop-of-length-le}
-use lib.Seq.{drop-cons}
+use lib.IntN.{ℤ, pos, natAbs, _+ℤ_}
+use lib.ListN.{length, take, drop, getD, drop-of-length-le}
+use lib.Seq.{drop-cons, getD-take, length-take-le}
 use native.Mathlib.Numerals.{add-one}
 use native.Mathlib.Omega.{arith}
+use mir.Syntax.{w64}
+use mir.Val.{SFits}
 use Rattle.model.specs.declared.Mode.{Mode}
 use Rattle.model.specs.declared.Thing.the-variants.{Movements}
 use Rattle.model.specs.declared.Refusal.{Refusal}
 use Rattle.model.specs.declared.Answer.{Answer}
 use Rattle.model.specs.declared.Answer.the-variants.{Accepted, Refused}
-use Rattle.model.specs.Nets.{PNet, modeNo}
+use Rattle.model.specs.Nets.{PNet, modes, modeNo}
 use Rattle.model.specs.Markings.{Marking}
 use Rattle.model.specs.Firing.{modeRefusal, fired}
-use Rattle.model.specs.Figures.{figure, change}
+use Rattle.model.specs.Runs.{Outcome, runFrom, run}
+use Rattle.model.specs.Figures.{figure}
+use Rattle.model.specs.Promises.{Leads, moves}
 use Rattle.model.proofs.Figures.{figure-fired}
 use Rattle.model.proofs.Firing.{accepted-there, accepted-enough}
 use Rattle.model.proofs.Markings.{marking-kept}
 use Rattle.model.proofs.Refusals.{answer-refused, answer-none}
+use Rattle.model.proofs.Runs.{runs, leads-whole}
 use Rattle.opened.specs.declared.shape.NetShape.{NetShape}
-use Rattle.heads.specs.Layout.{movementCount}
 use Rattle.sheets.specs.Decoded.{netOf, weightsOf, movementsOf}
-use Rattle.sheets.proofs.Lists.{movements-length, movements-within}
+use Rattle.sheets.proofs.Lists.{movements-within}
 use Rattle.opened.proofs.Shapes.{sizes}
-use Rattle.firing.specs.Leaving.{written, Leaves}
+use Rattle.run.specs.declared.Ran.{Ran}
+use Rattle.run.specs.Parts.{Reports}
+use Rattle.weigh.specs.Parts.{ChangesAre}
+use Rattle.weigh.proofs.Sizes.{fits-size}
 use Rattle.text.specs.Puts.{Writes}
 use Rattle.lines.specs.Lines.{acceptedLine, refusedLine, endLine}
-use Rattle.statement.specs.Parts.{Read}
-use Rattle.statement.specs.Replay.{unlessRefused, linesFrom}
+use Rattle.statement.specs.Parts.{Read, RunTells}
+use Rattle.statement.specs.Promises.{acceptedLines, lastLines}
+use Rattle.statement.specs.Replay.{linesFrom}
 use Rattle.text.proofs.Writing.{_and_, nothing, within, length-kept}
 use Rattle.lines.proofs.LineSizes.{accepted-size}
+use Rattle.statement.proofs.TextOfRun.{lines-of-run}
 use Rattle.statement.proofs.Weighed.{figure-size}
-
-module _ (net : PNet) (weights : List ℤ) (ts : List Mode) (k : ℕ) (m : List ℕ) where
-  lines-end : length ts ≤ k → linesFrom net weights k (drop k ts) m ≡ endLine k (figure net weights m)
-  unfolding linesFrom
-  lines-end h = rw (drop-of-length-le ts h)
-
-  module _ (t : Mode) (h : k < length ts) (q : getD ts k (modeNo 0) ≡ t) where
-    lines-on : modeRefusal Movements net t m ≡ none
-        → linesFrom net weights k (drop k ts) m
-        ≡ acceptedLine (k + 1) t (figure net weights (fired net t m)) ++ linesFrom net weights (k + 1) (drop (k + 1) ts) (fired net t m)
-    unfolding linesFrom unlessRefused
-    lines-on e = rw (drop-cons ts k (modeNo 0) h, q, e, add-one)
-
-    lines-stop : (r : Refusal) → modeRefusal Movements net t m ≡ some r
-        → linesFrom net weights k (drop k ts) m ≡ refusedLine (k + 1) t r ++ endLine k (figure net weights m)
-    unfolding linesFrom unlessRefused
-    lines-stop r e = rw (drop-cons ts k (modeNo 0) h, q, e)
-
--- k movements have led from m₀ to m with the figure z, and their lines from out₀ to out
-pub record Along (net : PNet) (weights : List ℤ) (ts : List Mode) (m₀ out₀ : List ℕ) (at k : ℕ) (m : List ℕ) (z : ℤ) (end : ℕ) (out : List ℕ) : Type 0 where
-  pub marking : Marking net m
-  pub weighs : z ≡ figure net weights m
-  pub lines : List ℕ
-  pub told : Writes (28 * k) out₀ at lines end out
-  pub rest : lines ++ linesFrom net weights k (drop k ts) m ≡ linesFrom net weights 0 ts m₀
-
-pub along-none : {net : PNet} {weights : List ℤ} {ts : List Mode} {m out : List ℕ} {at : ℕ} {z : ℤ} → Marking net m → z ≡ figure net weights m
-    → at ≤ length out → Along net weights ts m out at 0 m z at out
-along-none h e l = record { marking = h; weighs = e; lines = []; told = nothing l; rest = refl }
 
 -- the lines of at most 8,192 accepted movements, `refused` and `end`
 abbrev pub mostLines : ℕ
 mostLines = 28 * 8192 + 159
 
-module _ {s : List ℕ} {shape : NetShape} {w movements : List ℕ} (read : Read s shape w movements) {count : ℕ}
-    (counted : count ≡ movementCount movements) where
+-- what a run reports
+pub run-tells : {o : Outcome} {arcs : ℕ} {told : Ran} {left : List ℕ} → Reports o arcs told left → RunTells o (told .accepted) (told .answer)
+run-tells r = record { accepted = ap (λ t. t .accepted) (r .tells); answers = ap (λ t. t .answer) (r .tells) }
+
+-- the first movement of a list that leads somewhere is accepted, and the rest leads on from the marking that it gives
+leads-on : {net : PNet} {t : Mode} {ts : List Mode} {m m′ : List ℕ} → Leads net (t ∷ ts) m m′
+    → (modeRefusal Movements net t m ≡ none) × Leads net ts (fired net t m) m′
+leads-on (moves e l) = (e, l)
+
+lines-on : (net : PNet) (weights : List ℤ) (k : ℕ) (t : Mode) (ts : List Mode) {us : List Mode} (m : List ℕ) → us ≡ t ∷ ts
+    → acceptedLines net weights k us m ≡ acceptedLine (k + 1) t (figure net weights (fired net t m)) ++ acceptedLines net weights (k + 1) ts (fired net t m)
+unfolding acceptedLines
+lines-on net weights k t ts m e = rw e
+
+-- the run of a list from the first marking, and the movements that it accepts
+abbrev outcome : PNet → List Mode → Outcome
+outcome net ts = run net ts (net .start)
+
+abbrev passed : PNet → List Mode → List Mode
+passed net ts = take (outcome net ts .accepted) ts
+
+module _ (net : PNet) (weights : List ℤ) (ts : List Mode) where
+  -- k of them have led to a marking with the figure z, and their lines from out₀ to out
+  pub record Along (out₀ : List ℕ) (at k : ℕ) (z : ℤ) (end : ℕ) (out : List ℕ) : Type 0 where
+    pub now : List ℕ
+    pub marking : Marking net now
+    pub weighs : z ≡ figure net weights now
+    pub leads : Leads net (drop k (passed net ts)) now (outcome net ts .marking)
+    pub lines : List ℕ
+    pub told : Writes (28 * k) out₀ at lines end out
+    pub rest : lines ++ acceptedLines net weights k (drop k (passed net ts)) now ≡ acceptedLines net weights 0 (passed net ts) (net .start)
+
+  pub along-none : {out : List ℕ} {at : ℕ} {z : ℤ} → Marking net (net .start) → z ≡ figure net weights (net .start) → at ≤ length out → Along out at 0 z at out
+  along-none {out} {at} {z} h e l =
+      record {
+        now = net .start;
+        marking = h;
+        weighs = e;
+        leads = runs net ts (net .start) .leads;
+        lines = [];
+        told = nothing l;
+        rest = refl;
+      }
+
+module _ {s : List ℕ} {shape : NetShape} {w movements : List ℕ} (read : Read s shape w movements) {accepted : ℕ} {answer : Answer}
+    (tells : RunTells (outcome (netOf s) (movementsOf movements)) accepted answer) where
   abbrev net : PNet
   net = netOf s
 
@@ -79,70 +103,106 @@ module _ {s : List ℕ} {shape : NetShape} {w movements : List ℕ} (read : Read
   abbrev ts : List Mode
   ts = movementsOf movements
 
-  list-length : length ts ≡ count
-  list-length = movements-length movements ∙ sym counted
+  abbrev whole : List ℕ
+  whole = linesFrom net weights 0 ts (net .start)
 
-  pub at-most : count ≤ 8192
-  at-most = rw (← list-length) (movements-within movements (read .listed))
+  pub counted : accepted ≤ length ts
+  counted = rw (tells .accepted) (runs net ts (net .start) .part)
 
-  module _ {m₀ out₀ : List ℕ} {at k : ℕ} {m : List ℕ} {z : ℤ} {end : ℕ} {out : List ℕ} (along : Along net weights ts m₀ out₀ at k m z end out) where
-    abbrev whole : List ℕ
-    whole = linesFrom net weights 0 ts m₀
+  at-most : accepted ≤ 8192
+  at-most = omega (arith, counted, movements-within movements (read .listed))
 
+  passed-length : length (passed net ts) ≡ accepted
+  passed-length = length-take-le _ ts (runs net ts (net .start) .part) ∙ sym (tells .accepted)
+
+  -- where a refusal is told, the list has a movement after those accepted
+  pub refused-there : {r : Refusal} → answer ≡ Refused r → accepted < length ts
+  refused-there {r} e =
+      let q : outcome net ts .refusal ≡ some r = answer-refused _ (sym (tells .answers) ∙ e) in
+      let short : ¬ (accepted ≡ length ts) = λ all. let n = runs net ts (net .start) .whole .1 (sym (tells .accepted) ∙ all) in let z : _≡_ {A = ℕ} 0 1 = cc in omega arith in
+      omega (arith, counted, short)
+
+  module _ {out₀ : List ℕ} {at k : ℕ} {z : ℤ} {end : ℕ} {out : List ℕ} (along : Along net weights ts out₀ at k z end out) where
     -- there is room for the last lines, and so for an accepted one
-    pub along-room : k ≤ count → at + mostLines ≤ length out₀ → end + 159 ≤ length out
+    pub along-room : k ≤ accepted → at + mostLines ≤ length out₀ → end + 159 ≤ length out
     along-room h l = rw (length-kept (along .told)) (omega (arith, along .told .next, along .told .within, at-most))
 
-    -- what ends the list, told after what is written
-    ended : {most : ℕ} {last : List ℕ} {after : ℕ} {now : List ℕ} → k ≤ count → most ≤ 159 → linesFrom net weights k (drop k ts) m ≡ last
-        → Writes most out end last after now → Writes mostLines out₀ at whole after now
-    ended h l e p =
-        let all = along .told and p in
-        rw (← along .rest, e) (within all (omega (arith, all .within, at-most)))
+    module _ {t : Mode} (h : k < accepted) (q : t ≡ getD ts k (modeNo 0)) where
+      next : drop k (passed net ts) ≡ t ∷ drop (k + 1) (passed net ts)
+      next =
+          let one-of : k < outcome net ts .accepted = rw (← tells .accepted) h in
+          let e : getD (passed net ts) k (modeNo 0) ≡ t = getD-take (outcome net ts .accepted) ts k (modeNo 0) one-of ∙ sym q in
+          let there : k < length (passed net ts) = rw passed-length h in
+          rw (drop-cons (passed net ts) k (modeNo 0) there, e, add-one)
 
-    pub along-ends : {after : ℕ} {now : List ℕ} → k ≤ count → count ≤ k → Writes 46 out end (endLine k z) after now → Writes mostLines out₀ at whole after now
-    along-ends h l p = ended h (omega arith) (lines-end net weights ts k m (rw list-length l)) (rw (along .weighs) at p)
+      onward : (modeRefusal Movements net t (along .now) ≡ none) × Leads net (drop (k + 1) (passed net ts)) (fired net t (along .now)) (outcome net ts .marking)
+      onward = leads-on (rw next at (along .leads))
 
-    module _ {t : Mode} {a : Answer} {left : List ℕ} (h : k < count) (q : t ≡ getD ts k (modeNo 0))
-        (move : Leaves (modeRefusal Movements net t m) (fired net t m) m a left) where
-      there : k < length ts
-      there = rw list-length h
+      along-mode : t .0 < modes net
+      along-mode = accepted-there Movements net t (along .now) (onward .0)
 
-      pub along-stops : {r : Refusal} {after : ℕ} {now : List ℕ} → a ≡ Refused r → Writes 159 out end (refusedLine (k + 1) t r ++ endLine k z) after now
-          → Writes mostLines out₀ at whole after now
-      along-stops {r} e p =
-          ended (omega arith) (omega arith) (lines-stop net weights ts k m t there (sym q) r (answer-refused _ (sym (move .answers) ∙ e)))
-          (rw (along .weighs) at p)
+      pub along-entry : t .0 < 256
+      along-entry = omega (arith, along-mode, sizes (read .opened) .modes, sizes (read .opened) .modesWithin)
 
-      module _ (e : a ≡ Accepted) where
-        free : modeRefusal Movements net t m ≡ none
-        free = answer-none _ (move .answers) e
+      kept : Marking net (fired net t (along .now))
+      kept = marking-kept Movements net t (along .now) (along .marking) (onward .0)
 
-        moved : left ≡ fired net t m
-        moved = move .leaves ∙ ap (λ o. written o (fired net t m) m) free
+      -- the figure before and the entry of the mode are the figure after
+      module _ {changes : List ℤ} (table : ChangesAre net weights changes) {x : ℤ} (e : x ≡ getD changes (t .0) (pos 0)) where
+        next-weighs : z +ℤ x ≡ figure net weights (fired net t (along .now))
+        next-weighs =
+            ap₂ _+ℤ_ (along .weighs) (e ∙ table .each (t .0) along-mode)
+            ∙ sym (figure-fired net weights t (along .now) (accepted-enough Movements net t (along .now) (onward .0)))
 
-        kept : Marking net (fired net t m)
-        kept = marking-kept Movements net t m (along .marking) free
+        next-size : natAbs (z +ℤ x) ≤ 256000000000000
+        next-size = rw next-weighs (figure-size (read .opened) w (read .weighed) kept)
 
-        pub along-mode : t .0 < shape .modes
-        along-mode = rw (sizes (read .opened) .modes) (accepted-there Movements net t m free)
+        pub next-fits : SFits w64 (z +ℤ x)
+        next-fits = fits-size w64 (z +ℤ x) (omega (arith, next-size))
 
-        next-weighs : z +ℤ change net weights t ≡ figure net weights (fired net t m)
-        next-weighs = ap (λ z. z +ℤ change net weights t) (along .weighs) ∙ sym (figure-fired net weights t m (accepted-enough Movements net t m free))
-
-        pub along-size : natAbs (z +ℤ change net weights t) ≤ 256000000000000
-        along-size = rw next-weighs (figure-size (read .opened) w (read .weighed) kept)
-
-        pub along-more : {next : ℤ} {after : ℕ} {now : List ℕ} → next ≡ z +ℤ change net weights t → Writes 84 out end (acceptedLine (k + 1) t next) after now
-            → Along net weights ts m₀ out₀ at (k + 1) left next after now
-        along-more {next} f p =
-            let is : next ≡ figure net weights (fired net t m) = f ∙ next-weighs in
-            let size = accepted-size (k + 1) t next (omega (arith, at-most)) (omega (arith, along-mode, sizes (read .opened) .modesWithin)) (rw f along-size) in
+        pub along-more : {y : ℤ} {after : ℕ} {now : List ℕ} → y ≡ z +ℤ x → Writes 84 out end (acceptedLine (k + 1) t y) after now
+            → Along net weights ts out₀ at (k + 1) y after now
+        along-more {y} f p =
+            let is : y ≡ figure net weights (fired net t (along .now)) = f ∙ next-weighs in
+            let size = accepted-size (k + 1) t y (omega (arith, at-most)) along-entry (rw f next-size) in
             let all = along .told and within p size in
             record {
-              marking = rw moved kept;
-              weighs = rw moved is;
-              lines = along .lines ++ acceptedLine (k + 1) t next;
+              now = fired net t (along .now);
+              marking = kept;
+              weighs = is;
+              leads = onward .1;
+              lines = along .lines ++ acceptedLine (k + 1) t y;
               told = within all (omega (arith, all .within));
-              rest = rw (moved, append-assoc, is) (sym (ap (λ l. along .lines ++ l) (lines-on net weights ts k m t there (sym q) free)) ∙ along .rest);
+              rest = rw (append-assoc, is) (sym (ap (λ l. along .lines ++ l) (lines-on net weights k t _ (along .now) next)) ∙ along .rest);
             }
+
+    -- all are told
+    module _ (h : k ≤ accepted) (l : accepted ≤ k) where
+      none-left : drop k (passed net ts) ≡ []
+      none-left = let all : length (passed net ts) ≤ k = rw passed-length l in drop-of-length-le (passed net ts) all
+
+      lines-are : acceptedLines net weights 0 (passed net ts) (net .start) ≡ along .lines
+      unfolding acceptedLines
+      lines-are = sym (along .rest) ∙ rw none-left (append-nil (along .lines))
+
+      same : outcome net ts .accepted ≡ k
+      same = sym (tells .accepted) ∙ omega arith
+
+      weighs-last : figure net weights (outcome net ts .marking) ≡ z
+      unfolding runFrom
+      weighs-last = ap (figure net weights) (sym (leads-whole (rw none-left at (along .leads)) .1)) ∙ sym (along .weighs)
+
+      ended : {most : ℕ} {last : List ℕ} {after : ℕ} {now : List ℕ} → Writes most out end last after now → most ≤ 159
+          → lastLines net weights (outcome net ts) (getD ts (outcome net ts .accepted) (modeNo 0)) ≡ last → Writes mostLines out₀ at whole after now
+      ended p b e =
+          let all = along .told and p in
+          rw (lines-of-run net weights ts (net .start), lines-are, e) (within all (omega (arith, all .within, at-most)))
+
+      pub along-stops : {r : Refusal} {after : ℕ} {now : List ℕ} → answer ≡ Refused r
+          → Writes 159 out end (refusedLine (k + 1) (getD ts k (modeNo 0)) r ++ endLine k z) after now → Writes mostLines out₀ at whole after now
+      unfolding lastLines
+      along-stops e p = ended p (omega arith) (rw (answer-refused (outcome net ts .refusal) (sym (tells .answers) ∙ e), same, weighs-last))
+
+      pub along-ends : {after : ℕ} {now : List ℕ} → answer ≡ Accepted → Writes 46 out end (endLine k z) after now → Writes mostLines out₀ at whole after now
+      unfolding lastLines
+      along-ends e p = ended p (omega arith) (rw (answer-none (outcome net ts .refusal) (tells .answers) e, same, weighs-last))

@@ -14,7 +14,7 @@ use Rattle.model.specs.Firing.{modeRefusal, fired}
 use Rattle.model.specs.Runs.{Outcome, goOn, runFrom, run}
 use Rattle.model.specs.Figures.{figure}
 use Rattle.lines.specs.Lines.{startLine, acceptedLine, refusedLine, endLine}
-use Rattle.statement.specs.Promises.{acceptedLines, lastLines, TextOfRun}
+use Rattle.statement.specs.Promises.{acceptedLines, lastLines, linesOf, TextOfRun}
 use Rattle.statement.specs.Replay.{unlessRefused, linesFrom, runText}
 
 module _ (net : PNet) (weights : List ℤ) where
@@ -45,9 +45,12 @@ module _ (net : PNet) (weights : List ℤ) where
       go none e f = rw e (record { steps = suc (f .steps); counted = omega (arith, f .counted); told = rw append-assoc (ap (λ l. line ++ l) (f .told)) })
       go (some r) e f = rw e (record { steps = 0; counted = omega arith; told = refl })
 
+  pub lines-of-run : (ts : List Mode) (m : List ℕ) → linesFrom net weights 0 ts m ≡ linesOf net weights (run net ts m) ts m
+  lines-of-run ts m =
+      let f = tells 0 ts m in
+      let is : run net ts m .accepted ≡ f .steps = f .counted ∙ omega arith in
+      rw (← is) at (f .told)
+
 pub text-of-run : TextOfRun
 unfolding runText
-text-of-run net weights ts =
-    let f = tells net weights 0 ts (net .start) in
-    let is : run net ts (net .start) .accepted ≡ f .steps = f .counted ∙ omega arith in
-    ap (λ l. startLine (figure net weights (net .start)) ++ l) (rw (← is) at (f .told))
+text-of-run net weights ts = ap (λ l. startLine (figure net weights (net .start)) ++ l) (lines-of-run net weights ts (net .start))

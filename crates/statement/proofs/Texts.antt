@@ -1,6 +1,6 @@
 -- The text of an input, sheet by sheet: a sheet that is refused, or what follows an accepted one.
 use Prim.Native.Nat.{ℕ}
-use mathlib.Core.Path.{_≡_, sym, _∙_}
+use mathlib.Core.Path.{_≡_, sym, _∙_, ap}
 use mathlib.Core.List.{List}
 use mathlib.Core.Option.{Option}
 use lib.IntN.{ℤ}
@@ -30,10 +30,14 @@ module _ {out : List ℕ} {after : ℕ} {now : List ℕ} where
     text-told h p = rw (answer-none o e h) p
 
   -- `start`, then the movements
-  pub run-told : (net : PNet) (weights : List ℤ) (ts : List Mode) {m : List ℕ} {z : ℤ} {then : ℕ} {middle : List ℕ} → m ≡ net .start → z ≡ figure net weights m
-      → Writes 27 out 0 (startLine z) then middle → Writes mostLines middle then (linesFrom net weights 0 ts m) after now
+  pub run-told : (net : PNet) (weights : List ℤ) (ts : List Mode) {z : ℤ} {then : ℕ} {middle : List ℕ} → z ≡ figure net weights (net .start)
+      → Writes 27 out 0 (startLine z) then middle → Writes mostLines middle then (linesFrom net weights 0 ts (net .start)) after now
       → Writes room out 0 (runText net weights ts) after now
   unfolding runText
-  run-told net weights ts e f p q =
-      let all = rw (f, e) at p and rw e at q in
+  run-told net weights ts e p q =
+      let all = rw e at p and q in
       within all (omega (arith, all .within))
+
+-- the figure of the marking that a run starts from, where that is the first
+pub started-weighs : (net : PNet) (weights : List ℤ) {m : List ℕ} {z : ℤ} → m ≡ net .start → z ≡ figure net weights m → z ≡ figure net weights (net .start)
+started-weighs net weights e f = f ∙ ap (figure net weights) e

@@ -1,5 +1,6 @@
 // The three sheets of an input, each read in the part after the one before it: "A bad sheet prints only `bad`".
 use crate::movements::put_movements;
+use crate::movements::run_list;
 use fire::start::write_start;
 use lines::put_bad;
 use lines::put_start;
@@ -24,7 +25,7 @@ ghost use Rattle.opened.specs.Shape.{Open};
 ghost use Rattle.statement.specs.Parts.{Read};
 ghost use Rattle.statement.specs.Replay.{runText, movementsText, weightsText, sheetsText, room};
 
-// The net's first marking and its figure, then the movements.
+// The net's first marking and its figure; then the whole list is run, and told.
 fn put_run(
     s: &[u8],
     net: NetShape,
@@ -42,13 +43,16 @@ fn put_run(
     let figure = figure_of(s, net, weights, marking);
     let start = put_start(out, 0, figure);
     let starts = starts(s, net);
+    let ran = run_list(s, net, &starts, movements, marking);
+    let answer = ran.answer;
     put_movements(
         s,
         net,
         &starts,
         weights,
         movements,
-        marking,
+        ran.accepted,
+        answer,
         out,
         start,
         figure,

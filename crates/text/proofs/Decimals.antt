@@ -1,16 +1,16 @@
 -- The laws of decimals: induction by tens, their length, and what is promised of them.
 use Prim.Native.Nat.{ℕ, zero, suc, _+_, _-_, _*_, _/_, _%_, _^_, max, _≤_, _<_}
-use mathlib.Core.Path.{_≡_, refl, sym}
+use mathlib.Core.Path.{_≡_, refl, sym, _∙_}
 use mathlib.Core.Bool.{Bool, true, false}
 use mathlib.Core.Logic.{⊎-elim}
-use mathlib.Core.List.{List, [], _∷_, _++_, map}
+use mathlib.Core.List.{List, [], _∷_, _++_}
 use lib.Dec.{ltb}
 use lib.IntN.{ℤ, pos, negsuc, natAbs}
 use lib.ListN.{length, getD, length-append, List·getD-append}
 use lib.Seq.{getD-at}
 use native.Mathlib.Nat.{le-refl, le-of-suc-le-suc, eq-or-lt-of-le, pow-suc, one-le-pow}
 use native.Mathlib.Omega.{arith}
-use borrow.Author.Tests.{ltb-true, ltb-false}
+use borrow.Author.Tests.{ltb-true, ltb-false, lt-ltb, le-ltb}
 use Rattle.text.specs.Decimals.{digit, decimalWithin, decimal, signedDecimal}
 use Rattle.text.specs.Promises.{readsAfter, Decimals}
 
@@ -29,6 +29,27 @@ module _ (P : ℕ → List ℕ → Type 0) (one : (n : ℕ) → n < 10 → P n (
   pub by-tens : (n : ℕ) → P n (decimal n)
   unfolding decimal
   by-tens n = within n n (le-refl n)
+
+any-steps-one : (n : ℕ) → n < 10 → (t : ℕ) → n ≤ t → digit n ∷ [] ≡ decimalWithin t n
+unfolding decimalWithin
+any-steps-one n h zero l = refl
+any-steps-one n h (suc t) l = rw (lt-ltb n 10 h, decimalWithin)
+
+any-steps-more : (n : ℕ) (ds : List ℕ) → 10 ≤ n → ((t : ℕ) → n / 10 ≤ t → ds ≡ decimalWithin t (n / 10))
+    → (t : ℕ) → n ≤ t → ds ++ digit (n % 10) ∷ [] ≡ decimalWithin t n
+unfolding decimalWithin
+any-steps-more n ds h ih zero l = absurd (omega arith)
+any-steps-more n ds h ih (suc t) l = rw (le-ltb n 10 h, decimalWithin, ← ih t (omega arith))
+
+-- more divisions change nothing, so a decimal is its tenth's and the last digit
+any-steps : (n t : ℕ) → n ≤ t → decimal n ≡ decimalWithin t n
+any-steps = by-tens (λ n ds. (t : ℕ) → n ≤ t → ds ≡ decimalWithin t n) any-steps-one any-steps-more
+
+pub below-ten : (n : ℕ) → n < 10 → decimal n ≡ digit n ∷ []
+below-ten n h = any-steps n n (le-refl n) ∙ sym (any-steps-one n h n (le-refl n))
+
+pub from-ten : (n : ℕ) → 10 ≤ n → decimal n ≡ decimal (n / 10) ++ digit (n % 10) ∷ []
+from-ten n h = any-steps n n (le-refl n) ∙ sym (any-steps-more n (decimal (n / 10)) h (any-steps (n / 10)) n (le-refl n))
 
 pub last-length : (ds : List ℕ) (d : ℕ) → length (ds ++ d ∷ []) ≡ suc (length ds)
 last-length ds d = omega (arith, length-append ds (d ∷ []))
@@ -97,9 +118,3 @@ decimals =
       zeroIs = refl;
       noLeadingZero = λ n h e. omega (arith, no-leading-zero n .1 h);
     }
-
-pub examples :
-    map decimal (0 ∷ 7 ∷ 10 ∷ 750 ∷ 1000000 ∷ [])
-    ≡ (48 ∷ []) ∷ (55 ∷ []) ∷ (49 ∷ 48 ∷ []) ∷ (55 ∷ 53 ∷ 48 ∷ []) ∷ (49 ∷ 48 ∷ 48 ∷ 48 ∷ 48 ∷ 48 ∷ 48 ∷ []) ∷ []
-unfolding decimal decimalWithin
-examples = refl

@@ -1,22 +1,18 @@
 -- The digits of a number from the last: what is left to write while those after it are written.
 use Prim.Native.Nat.{ℕ, zero, suc, _+_, _-_, _/_, _%_, _≤_, _<_}
 use mathlib.Core.Path.{_≡_}
-use mathlib.Core.List.{List, [], _∷_, _++_, append-assoc, append-nil}
+use mathlib.Core.List.{List, _∷_, _++_, append-assoc, append-nil}
 use lib.ListN.{length, take, drop, set, take-append-drop, length-set}
 use lib.Seq.{drop-cons, getD-set-same, take-set-le, drop-set-lt}
 use native.Mathlib.Nat.{add-zero, add-suc, mod-eq-of-lt}
 use native.Mathlib.Omega.{arith}
 use Rattle.text.specs.Decimals.{digit, decimal}
 use Rattle.text.specs.Puts.{putInto}
+use Rattle.text.specs.Twos.{lastDigits}
 use Rattle.text.proofs.Decimals.{by-tens, last-length}
 use Rattle.text.proofs.Puts.{into-within}
 
--- the last k digits of n
-unfoldable pub lastDigits : ℕ → ℕ → List ℕ
-lastDigits zero n = []
-lastDigits (suc k) n = lastDigits k (n / 10) ++ digit (n % 10) ∷ []
-
-last-digits-all : (n : ℕ) → lastDigits (length (decimal n)) n ≡ decimal n
+pub last-digits-all : (n : ℕ) → lastDigits (length (decimal n)) n ≡ decimal n
 unfolding lastDigits
 last-digits-all =
     by-tens (λ n ds. lastDigits (length ds) n ≡ ds) (λ n h. rw (mod-eq-of-lt h))

@@ -2,3 +2,4 @@ pub mod Promises
 pub mod Decimals
 pub mod Puts
 pub mod Contracts
+pub mod Twos

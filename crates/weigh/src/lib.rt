@@ -1,5 +1,6 @@
 // The lightship figure of a marking and a mode's weight change, in kilograms (document 01, "Certificate, figure, dead modes"):
 // i32 weights, exact i64 sums.
+pub mod changes;
 pub mod sums;
 
 use crate::sums::figure_of;

@@ -3,23 +3,27 @@ use Rattle.lines.specs.Lines.{line, acceptedLine}
 use mir.Facts.{toZ-ofZ}
 use native.Mathlib.Omega.{arith}
 use borrow.Author.Needs.{needs}
-use Rattle.text.proofs.Decimals.{length-at-most}
-use Rattle.text.proofs.Writing.{_and_}
+use Rattle.text.specs.Decimals.{decimal, decimalWithin}
+use Rattle.text.proofs.Writing.{within, _and_}
 use Rattle.lines.proofs.put_accepted.Statement.{statement}
 use Rattle.lines.proofs.put_accepted.Tie as tie
 
-write-decimal-requires : tie.Need-write-decimal-requires
-write-decimal-requires c κs = omega (arith, length-at-most (c .before .before .args .place) 19 (omega arith))
-
 returns : tie.Need-returns
-unfolding line acceptedLine
+unfolding line acceptedLine decimal decimalWithin
 returns c =
-    let last = c .before .before in
-    let third = last .before .before .before .before in
-    let second = third .before .before .before .before in
-    let first = second .before .before .before .before .before in
-    rw (← toZ-ofZ (first .before .before .before .fits .figure))
-    (first .write-decimal .ensures and second .next-decimal .ensures and third .next-decimal2 .ensures and last .last-figure .ensures)
+    let end = c .before .before in
+    let figure = end .before .before .before .before in
+    let answer = figure .before .before .before .before in
+    let mode = answer .before .before .before .before in
+    let space = mode .before .before .before .before .before in
+    let place = space .before .before .before .before in
+    let all =
+    place .write-decimal-by .ensures and space .write-byte .ensures and mode .write-to-eight .ensures and answer .write-answer .ensures
+    and figure .write-signed-by .ensures and end .write-byte2 .ensures in
+    rw (← toZ-ofZ (place .before .before .before .fits .figure)) (within all (omega (arith, all .within)))
 
 pub put-accepted-spec : {M : Type 1} → statement M
-put-accepted-spec = tie.close (tie.spec write-decimal-requires (λ c. search needs) (λ c κs. search needs) (λ c κs. search needs) (λ c κs. search needs) (λ c. search needs) returns)
+put-accepted-spec =
+    tie.close
+    (tie.spec (λ c κs. search needs) (λ c κs. search needs) (λ c. search needs) (λ c κs. search needs) (λ c κs. search needs) (λ c κs. search needs)
+    (λ c κs. search needs) (λ c. search needs) returns)
