@@ -8,34 +8,34 @@ use native.Mathlib.Omega.{arith}
 use Rattle.model.proofs.Refusals.{answer-passes, answer-fails, answer-last-passes, answer-last-fails}
 use Rattle.heads.specs.Bytes.{u32At}
 use Rattle.fields.specs.Numbers.{bound, outside}
-use Rattle.nets.specs.Nets.{arcNumbersRefusal, isBlank}
-use Rattle.nets.proofs.arcs.read_arc_numbers.Statement.{statement}
-use Rattle.nets.proofs.arcs.read_arc_numbers.Tie as tie
+use Rattle.nets.specs.Tails.{tailBlank, tailNumbers}
+use Rattle.nets.proofs.tails.read_numbers.Statement.{statement}
+use Rattle.nets.proofs.tails.read_numbers.Tie as tie
 
 returns : tie.Need-returns
-unfolding arcNumbersRefusal
+unfolding tailNumbers
 returns c =
     let a = c .before .before .before .before .before .before .args in
-    answer-fails _ (lt-ltb 1000000 (u32At (a .s .now) (a .at + 4)) (omega arith)) (c .refused .ensures)
+    answer-fails _ (lt-ltb 1000000 (u32At (a .s .now) (a .tail + 2)) (omega arith)) (c .refused .ensures)
 
 returns-2 : tie.Need-returns-2
-unfolding arcNumbersRefusal
+unfolding tailNumbers
 returns-2 c =
     let a = c .before .before .before .before .before .before .before .args in
-    answer-passes _ _ (le-ltb 1000000 (u32At (a .s .now) (a .at + 4)) (omega arith))
-    (answer-fails _ (lt-ltb 1000000 (u32At (a .s .now) (a .at + 8)) (omega arith)) (c .refused2 .ensures))
+    answer-passes _ _ (le-ltb 1000000 (u32At (a .s .now) (a .tail + 2)) (omega arith))
+    (answer-fails _ (lt-ltb 1000000 (u32At (a .s .now) (a .tail + 6)) (omega arith)) (c .refused2 .ensures))
 
 returns-3 : tie.Need-returns-3
-unfolding arcNumbersRefusal
+unfolding tailNumbers
 returns-3 c =
     let b = c .before .before .before .before .before in
     let a = b .before .before .before .before .args in
-    answer-passes _ _ (le-ltb 1000000 (u32At (a .s .now) (a .at + 4)) (omega arith))
-    (answer-passes _ _ (le-ltb 1000000 (u32At (a .s .now) (a .at + 8)) (omega arith))
+    answer-passes _ _ (le-ltb 1000000 (u32At (a .s .now) (a .tail + 2)) (omega arith))
+    (answer-passes _ _ (le-ltb 1000000 (u32At (a .s .now) (a .tail + 6)) (omega arith))
     (answer-fails _ (ap (λ x. outside (bound x)) (sym (b .u32-at3 .ensures .0)) ∙ sym (c .before .before .bound-outside .ensures) ∙ c .before .if3 .taken) (c .refused3 .ensures)))
 
 returns-4 : tie.Need-returns-4
-unfolding arcNumbersRefusal isBlank
+unfolding tailNumbers tailBlank
 returns-4 c =
     let d = c .before .before .before .before in
     let b = d .before .before .before in
@@ -45,14 +45,14 @@ returns-4 c =
     let i = b .u32-at3 .ensures .0 in
     let t = c .before .before .is-blank .ensures in
     let h = c .before .if4 .taken in
-    let e : isBlank (a .s .now) (a .at) ≡ true = cc in
-    answer-passes _ _ (le-ltb 1000000 (u32At (a .s .now) (a .at + 4)) (omega arith))
-    (answer-passes _ _ (le-ltb 1000000 (u32At (a .s .now) (a .at + 8)) (omega arith))
+    let e : tailBlank (a .s .now) (a .tail) ≡ true = cc in
+    answer-passes _ _ (le-ltb 1000000 (u32At (a .s .now) (a .tail + 2)) (omega arith))
+    (answer-passes _ _ (le-ltb 1000000 (u32At (a .s .now) (a .tail + 6)) (omega arith))
     (answer-passes _ _ (ap (λ x. outside (bound x)) (sym i) ∙ sym (d .bound-outside .ensures) ∙ c .before .before .before .if3 .left)
     (answer-last-fails e (c .refused4 .ensures))))
 
 returns-5 : tie.Need-returns-5
-unfolding arcNumbersRefusal isBlank
+unfolding tailNumbers tailBlank
 returns-5 c =
     let d = c .before .before .before in
     let b = d .before .before .before in
@@ -62,14 +62,14 @@ returns-5 c =
     let i = b .u32-at3 .ensures .0 in
     let t = c .before .is-blank .ensures in
     let h = c .if4 .left in
-    let e : isBlank (a .s .now) (a .at) ≡ false = cc in
-    answer-passes _ _ (le-ltb 1000000 (u32At (a .s .now) (a .at + 4)) (omega arith))
-    (answer-passes _ _ (le-ltb 1000000 (u32At (a .s .now) (a .at + 8)) (omega arith))
+    let e : tailBlank (a .s .now) (a .tail) ≡ false = cc in
+    answer-passes _ _ (le-ltb 1000000 (u32At (a .s .now) (a .tail + 2)) (omega arith))
+    (answer-passes _ _ (le-ltb 1000000 (u32At (a .s .now) (a .tail + 6)) (omega arith))
     (answer-passes _ _ (ap (λ x. outside (bound x)) (sym i) ∙ sym (d .bound-outside .ensures) ∙ c .before .before .if3 .left)
     (answer-last-passes _ e)))
 
-pub read-arc-numbers-spec : {M : Type 1} → statement M
-read-arc-numbers-spec =
+pub read-numbers-spec : {M : Type 1} → statement M
+read-numbers-spec =
     tie.close
     (tie.spec
     (λ c. search needs)

@@ -1,8 +1,8 @@
 -- Pre, Post and I in turn.
 use borrow.Author.Tests.{eq-eqb, ne-eqb}
 use native.Mathlib.Omega.{arith}
-use Rattle.nets.proofs.arcs.is_blank.Statement.{statement}
-use Rattle.nets.proofs.arcs.is_blank.Tie as tie
+use Rattle.nets.proofs.tails.is_blank.Statement.{statement}
+use Rattle.nets.proofs.tails.is_blank.Tie as tie
 
 returns : tie.Need-returns
 returns c =
