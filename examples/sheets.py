@@ -134,9 +134,11 @@ def _of_modes(modes):
     return _Numbering("mode", "transition", "modes", modes)
 
 
-def net(colours, modes, pairs, arcs):
-    """A net sheet. colours: of each place; modes: of each transition; pairs: (K, first marking) of each pair, in the order of their
-    numbers; arcs: (mode, pair, Pre, Post, I), in any order. K and I may be UNBOUNDED."""
+def net(colours, modes, pairs, arcs, version=1):
+    """A net sheet, of version 1 or 2. colours: of each place; modes: of each transition; pairs: (K, first marking) of each pair, in the order
+    of their numbers; arcs: (mode, pair, Pre, Post, I), in any order. K and I may be UNBOUNDED."""
+    if version not in (1, 2):
+        raise Wrong(f"version {version}: a net sheet has version 1 or 2")
     all_pairs, all_modes = _of_pairs(colours), _of_modes(modes)
     all_pairs.check_counts(1)
     all_modes.check_counts(0)
@@ -144,7 +146,7 @@ def net(colours, modes, pairs, arcs):
     for number, numbers in enumerate(pairs):
         _check_pair(all_pairs.name(number), numbers)
     _check_arcs(all_pairs, all_modes, arcs)
-    return encode_net(all_pairs.counts, all_modes.counts, pairs, arcs)
+    return encode_net(all_pairs.counts, all_modes.counts, pairs, arcs, version)
 
 
 def weights(kilograms, colours=None):
@@ -166,18 +168,25 @@ def movements(listed, modes=None):
     return encode_movements(listed)
 
 
-def sheet(fields):
-    """The head of every sheet: a 4-byte length, a version byte 1; then the fields."""
-    return struct.pack(">IB", 1 + len(fields), 1) + fields
+def sheet(fields, version=1):
+    """The head of every sheet: a 4-byte length, a version byte; then the fields."""
+    return struct.pack(">IB", 1 + len(fields), version) + fields
 
 
-def encode_net(colours, modes, pairs, arcs):
-    """The bytes alone, arcs in their order, with nothing checked: for tests of what the engine refuses."""
+def encode_net(colours, modes, pairs, arcs, version=1):
+    """The bytes alone, arcs in their order, with nothing checked: for tests of what the engine refuses. In version 2 an arc whose mode is not
+    there has no place, and is left out."""
     fields = struct.pack(">HH", len(colours), len(modes))
     fields += b"".join(struct.pack(">H", count) for count in colours + modes)
     fields += b"".join(struct.pack(">II", *pair) for pair in pairs)
-    fields += struct.pack(">H", len(arcs))
-    return sheet(fields + b"".join(struct.pack(">HHIII", *arc) for arc in sorted(arcs)))
+    if version == 1:
+        fields += struct.pack(">H", len(arcs))
+        return sheet(fields + b"".join(struct.pack(">HHIII", *arc) for arc in sorted(arcs)))
+    for mode in range(sum(modes)):
+        own = [arc[1:] for arc in sorted(arcs) if arc[0] == mode]
+        fields += struct.pack(">H", len(own)) + b"".join(struct.pack(">HIII", *arc) for arc in own)
+    rule = b"\0"
+    return sheet(rule + fields, 2)
 
 
 def encode_weights(kilograms):

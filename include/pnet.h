@@ -74,19 +74,24 @@ enum {
  *   No  Given exactly when                                                        Position
  *    0  accepted                                                                  0
  *    1  fewer than 4 bytes, or fewer than 4 + L                                   0
- *    2  the version byte is not 1                                                 4
+ *    2  the version byte is not 1, of a net sheet not 1 or 2                      4
+ *       it is not the version that a conversion is from                           4
  *    3  L is 0                                                                    0
  *       a field runs past L                                                       the field
  *       bytes are left over after the last field, or after the sheet              the first of them
  *    4  a count is outside its limits, or the running total passes 256            the count's field
+ *       in version 2 the running total of the modes' arc counts passes 2,048      that count's field
+ *       in version 2 the rule byte is not 0                                       5
  *       a step is empty, or has more than PNET_STEP modes                         0
  *    5  a number is outside its range                                             its field; in a marking, the pair
  *    6  an arc's mode or pair is not there                                        its field in the arc
  *       a movement's mode, the mode handed over or one of a step is not there     0
  *    7  an arc is not above the one before, by mode, then pair                    the arc
+ *       in version 2 its pair is not above that of its mode's arc before          the arc
  *    8  an arc is blank: Pre and Post are 0, I is unbounded                       the arc
  *    9  a count is above a bounded K                                              the first marking's field; in a marking, the pair
- *   10  the complement exceeds a sheet's limits, or `room` is less than it takes  0
+ *   10  the complement exceeds a sheet's limits                                   0
+ *       `room` is less than the sheet that is to be written takes                 0
  *       `room` is below PNET_TEXT_ROOM, in pnet_statement                         0
  *   11  Pre is above the count                                                    the lowest such pair
  *   12  the count and Post together are above K                                   the lowest such pair
@@ -253,6 +258,14 @@ struct pnet_named pnet_first_dead(const uint8_t *net, size_t net_length);
  * Refuses: the net; 15 at its first arc, of a locally dead mode too; 10 where the complement exceeds a sheet's limits or `room`. A
  * refused call writes nothing. */
 struct pnet_counted pnet_complement(const uint8_t *net, size_t net_length, uint8_t *out, size_t room);
+
+/* Writes the net of a sheet of version 1 as a sheet of version 2 (of rule 0), or back, from the first byte of `out` on; the value is its length.
+ * What one wrote, the other takes back to the very bytes that it was written from. No byte after the sheet is touched, and PNET_LARGEST_NET
+ * bytes are always room enough.
+ * Refuses: the net, a sheet of the version that is to be written by 2; 10 where `room` is less than the sheet takes. A refused call writes
+ * nothing. */
+struct pnet_counted pnet_to_version_2(const uint8_t *net, size_t net_length, uint8_t *out, size_t room);
+struct pnet_counted pnet_to_version_1(const uint8_t *net, size_t net_length, uint8_t *out, size_t room);
 
 /* Sets a marking of the net beside one of its complement (which has first the net's pairs, then one for each pair of bounded K), and names the
  * lowest pair of the net at which the two are out of step: they differ on it, or its K is bounded and its count and its complement

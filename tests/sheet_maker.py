@@ -61,6 +61,7 @@ WRONG = {
         with_arc(0, 3, 0, 0, UNBOUNDED),
         "mode 0 (load, pump) at pair 3 (aboard, drum): Pre and Post are 0 and I is UNBOUNDED: the arc is blank, leave it out",
     ),
+    "version 3": (lambda: net(PLACES, MOVES, PAIRS, ARCS, version=3), "version 3: a net sheet has version 1 or 2"),
     "one weight too few": (lambda: weights([0, 0, 9], PLACES), "3 weights for 4 pairs: pair 3 (aboard, drum) has none"),
     "one weight too many": (lambda: weights([0] * 5, PLACES), "5 weights for 4 pairs: 1 too many"),
     "a weight too large": (lambda: weights([0, 0, 0, LIMIT + 1], PLACES), "pair 3 (aboard, drum): the weight is 1000001: it must be -1000000 to 1000000"),
@@ -90,7 +91,9 @@ movements([0] * 8192, MOVES), weights([LIMIT, -LIMIT])
 largest = net([4] * 64, [4] * 64, [(LIMIT, LIMIT)] * 256, [(at // 8, at % 8, LIMIT, LIMIT, LIMIT) for at in range(2048)])
 if len(largest) != 35083:
     faults.append(f"the largest net sheet has {len(largest)} bytes")
-
+largest = net([4] * 64, [4] * 64, [(LIMIT, LIMIT)] * 256, [(at // 8, at % 8, LIMIT, LIMIT, LIMIT) for at in range(2048)], version=2)
+if len(largest) != 31498:
+    faults.append(f"the largest net sheet of version 2 has {len(largest)} bytes")
 
 
 def accepts(make, *given):
@@ -118,16 +121,20 @@ def compare_with_replay(rounds):
     pick = random.Random(1)
     counts = {(fine, good): 0 for fine in (True, False) for good in (True, False)}
     for _ in range(rounds):
-        parts = random_net(pick)
+        version, parts = pick.choice([1, 2]), random_net(pick)
+        if version == 2:
+            # there is no place for an arc whose mode is not there
+            parts = (*parts[:3], [arc for arc in parts[3] if arc[0] < sum(parts[1])])
         pairs = sum(parts[0]) + pick.choice([0] * 8 + [1])
         kilograms = [pick.choice([0, 250, -LIMIT, LIMIT] + [LIMIT + 1, -LIMIT - 1] * (pick.random() < 0.05)) for _ in range(pairs)]
-        fine = accepts(net, *parts), accepts(weights, kilograms, parts[0])
-        ran = subprocess.run([top / "target/bin/replay"], input=encode_net(*parts) + encode_weights(kilograms) + movements([]), stdout=subprocess.PIPE)
+        fine = accepts(net, *parts, version), accepts(weights, kilograms, parts[0])
+        sheets = encode_net(*parts, version) + encode_weights(kilograms) + movements([])
+        ran = subprocess.run([top / "target/bin/replay"], input=sheets, stdout=subprocess.PIPE)
         text = ran.stdout.decode()
         good = not text.startswith("bad 0"), not text.startswith("bad")
         counts[fine] += 1
         if fine[0] != good[0] or all(fine) != good[1]:
-            faults.append(f"replay prints {text!r}, and the sheet maker has {fine} of {parts}, {kilograms}")
+            faults.append(f"replay prints {text!r}, and the sheet maker has {fine} of {parts}, {kilograms}, version {version}")
     return counts
 
 

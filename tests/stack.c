@@ -74,7 +74,7 @@ static void weigh(struct sheet *sheet, uint32_t weight)
     close(sheet);
 }
 
-static struct sheet full, half, weights, weightless, movements;
+static struct sheet full, half, two, weights, weightless, movements;
 static uint32_t marking[PNET_PAIRS], both[PNET_PAIRS];
 static uint8_t input[65536], out[PNET_TEXT_ROOM];
 static size_t input_length;
@@ -116,6 +116,8 @@ CALL(is_dead, pnet_is_dead(NET, last).answer)
 CALL(first_dead, pnet_first_dead(NET).answer)
 CALL(size, pnet_size(NET).answer)
 CALL(complement, pnet_complement(half.bytes, half.length, out, sizeof out).answer)
+CALL(to_version_2, pnet_to_version_2(NET, out, sizeof out).answer)
+CALL(to_version_1, pnet_to_version_1(two.bytes, two.length, out, sizeof out).answer)
 CALL(audit, pnet_audit(half.bytes, half.length, marking, 128, both, 256).answer)
 CALL(statement, pnet_statement(input, input_length, out, sizeof out).answer)
 
@@ -134,7 +136,8 @@ static const struct {
     {"pnet_is_dead", is_dead, 0, 4096},         {"pnet_first_dead", first_dead, 0, 4096},
     {"pnet_size", size, 0, 4096},               {"pnet_complement", complement, 0, 4096},
     {"pnet_audit", audit, 0, 4096},             {"pnet_statement", statement, 0, 12288},
-    {"pnet_exclude", exclude, 22, 4096},
+    {"pnet_exclude", exclude, 22, 4096},        {"pnet_to_version_2", to_version_2, 0, 4096},
+    {"pnet_to_version_1", to_version_1, 0, 4096},
 };
 
 /* replay's input: the three sheets one after another. */
@@ -165,6 +168,7 @@ int main(void)
     int over = 0;
     net(&full, 64, 64, 8, UNBOUNDED);
     net(&half, 32, 64, 4, 1000000);
+    two.length = pnet_to_version_2(NET, two.bytes, sizeof two.bytes).value;
     weigh(&weights, 250);
     weigh(&weightless, 0);
     for (int pair = 0; pair < PNET_PAIRS; pair++) {

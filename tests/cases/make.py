@@ -17,7 +17,7 @@ A list has, each with its lines below it, indented; `#` starts a comment, which 
     both NET, COMPLEMENT   a row is a marking, `|` and the counts of its complement pairs, a mode, and `to` the marking after, or the refusals: `13 at 0 amount 1 | 11 at 2 amount 1`.
                         Each is tested and fired, in the net and in its complement: four cases.
 
-Sheets at the limits are made by limits.py, by name; `refit` is the net of examples/refit. A call is added in two places: a row of CALLS, and an arm with its number in crates/cases/src/calls.rt, in the
+Sheets at the limits are made by limits.py, those of both versions by versions.py, by name; `refit` is the net of examples/refit. A call is added in two places: a row of CALLS, and an arm with its number in crates/cases/src/calls.rt, in the
 group that tells what it tells. A call that tells something new gets a group, a function in src/told.rt and a line in answer_of.
 
 A case in stdin is the length of what follows, then eight parts, a length before each: call, number and room; name; first and second run of bytes, where the modes of
@@ -27,7 +27,7 @@ import pathlib, re, struct, sys
 here = pathlib.Path(__file__).resolve().parent
 top = here.parent.parent
 sys.path[:0] = [str(here), str(top / "examples")]
-import limits, longest_run
+import limits, longest_run, versions
 from sheets import UNBOUNDED, encode_movements as movements, encode_net as net, encode_weights as weights
 
 # The call's number, and the words that name its first and its second run of bytes.
@@ -43,6 +43,8 @@ CALLS = {
     "read_weights": (17, "weights", ""),
     "read_movements": (18, "movements", ""),
     "complement": (19, "net", ""),
+    "to_version_2": (20, "net", ""),
+    "to_version_1": (21, "net", ""),
     "figure": (32, "net", "weights"),
     "change": (33, "net", "weights"),
     "is_dead": (48, "net", ""),
@@ -51,7 +53,7 @@ CALLS = {
     "run": (64, "net", "movements"),
 }
 
-sheets = dict(limits.SHEETS, refit=(top / "examples/refit/net.sheet").read_bytes())
+sheets = dict(limits.SHEETS, **versions.SHEETS, refit=(top / "examples/refit/net.sheet").read_bytes())
 markings = dict(limits.MARKINGS)
 cases = []
 

@@ -23,11 +23,14 @@ def two_pairs(before, pair, arc):
     return net([1, 1], [1], [before, pair], [(0, 0, 1, 0, UNBOUNDED), (0, 1, *arc)]) + weights([10, 10]) + movements([0])
 
 
-LANDING = net([1, 1], [1], [(5, 3), AWAY], [(0, 0, 1, 0, 4), (0, 1, 0, 1, UNBOUNDED)])
+LANDING_NET = [1, 1], [1], [(5, 3), AWAY], [(0, 0, 1, 0, 4), (0, 1, 0, 1, UNBOUNDED)]
+LANDING, LANDING_2 = net(*LANDING_NET), net(*LANDING_NET, version=2)
 WEIGHTS = weights([250, 0])
 FOUR = movements([0, 0, 0, 0])
-# the small net of docs/RULES.md
-case("document", LANDING + WEIGHTS + FOUR, "start 750\n1 0 0 500\n2 0 0 250\n3 0 0 0\nrefused 4 0 11 0 1\nend 3 0\n")
+# the small net of docs/RULES.md, in both versions
+LANDED = "start 750\n1 0 0 500\n2 0 0 250\n3 0 0 0\nrefused 4 0 11 0 1\nend 3 0\n"
+case("document", LANDING + WEIGHTS + FOUR, LANDED)
+case("version_2", LANDING_2 + WEIGHTS + FOUR, LANDED)
 
 # a refusal by each of 6 and 11 to 14
 case("mode_not_there", LANDING + WEIGHTS + movements([0, 7, 0]), "start 750\n1 0 0 500\nrefused 2 7 6 0 0\nend 1 500\n")
@@ -45,7 +48,9 @@ case("inhibited_by_three", two_pairs(ROOMY, (9, 7), (1, 2, 4)), "start 120\nrefu
 case("over_limit_by_four", two_pairs(ROOMY, (UNBOUNDED, 999999), (1, 6, UNBOUNDED)), "start 10000040\nrefused 1 0 14 1 4\nend 0 10000040\n")
 
 # a bad sheet of each thing; bytes after the third sheet; nothing
-case("bad_net", LANDING[:4] + b"\x02" + LANDING[5:] + WEIGHTS + FOUR, "bad 0 2 4\n")
+case("bad_net", LANDING[:4] + b"\x03" + LANDING[5:] + WEIGHTS + FOUR, "bad 0 2 4\n")
+case("another_rule", LANDING_2[:5] + b"\x07" + LANDING_2[6:] + WEIGHTS + FOUR, "bad 0 4 5\n")
+case("weights_of_version_2", LANDING_2 + WEIGHTS[:4] + b"\x02" + WEIGHTS[5:] + FOUR, "bad 1 2 4\n")
 case("bad_weights", LANDING + weights([250, 0, 0]) + FOUR, "bad 1 17 5\n")
 case("weight_too_large", LANDING + encode_weights([250, 1000001]) + FOUR, "bad 1 5 11\n")
 case("bad_movements", LANDING + WEIGHTS + b"\x00\x00\x00\x04\x01\x00\x00\x00", "bad 2 3 7\n")
@@ -58,6 +63,8 @@ case("empty_list", LANDING + WEIGHTS + movements([]), "start 750\nend 0 750\n")
 three = LANDING + WEIGHTS + FOUR
 case("most_bytes", three + bytes(65536 - len(three)), "bad 2 3 13\n")
 case("one_byte_more", three + bytes(65537 - len(three)), "long\n")
+# the same bytes after a sheet of version 2 are not too many: it is 3 shorter
+case("one_byte_more_version_2", LANDING_2 + three[len(LANDING) :] + bytes(65537 - len(three)), "bad 2 3 13\n")
 
 # a figure below zero: an allowance of -500 a token, given back and taken again
 ALLOWANCE = net([1], [1, 1], [(9, 2)], [(0, 0, 1, 0, UNBOUNDED), (1, 0, 0, 1, UNBOUNDED)])

@@ -3,6 +3,7 @@ use Prim.Native.Nat.{ℕ}
 use mathlib.Core.Path.{_≡_}
 use mathlib.Core.List.{List}
 use Rattle.model.specs.declared.Mode.{Mode}
+use Rattle.model.specs.declared.Version.the-variants.{One, Two}
 use Rattle.model.specs.Refusals.{answer}
 use Rattle.nets.specs.Nets.{netRefusal}
 use Rattle.lists.specs.Weights.{weightsRefusal}
@@ -16,6 +17,7 @@ use Rattle.dead.specs.IsDead as one
 use Rattle.dead.specs.FirstDead as first
 use Rattle.size.specs.Sizes as size
 use Rattle.complement.specs.Complemented as complement
+use Rattle.convert.specs.Converted as convert
 use Rattle.audit.specs.Audits as audit
 use Rattle.statement.specs.Replay.{stated, statedIn}
 use Rattle.answers.specs.declared.Answered.{Answered}
@@ -82,6 +84,12 @@ module _ (net : List ℕ) where
 
   abbrev pub ComplementAllows : List ℕ → Counted × List ℕ → Type 0
   ComplementAllows out o = (o .0 ≡ counted (complement.told (complement.complementOf net out))) × (o .1 ≡ complement.outputOf net out)
+
+  abbrev pub ToVersion2Allows : List ℕ → Counted × List ℕ → Type 0
+  ToVersion2Allows out o = (o .0 ≡ counted (convert.told (convert.conversionOf One Two net out))) × (o .1 ≡ convert.outputOf One Two net out)
+
+  abbrev pub ToVersion1Allows : List ℕ → Counted × List ℕ → Type 0
+  ToVersion1Allows out o = (o .0 ≡ counted (convert.told (convert.conversionOf Two One net out))) × (o .1 ≡ convert.outputOf Two One net out)
 
   abbrev pub AuditAllows : List ℕ → List ℕ → Audited → Type 0
   AuditAllows marking beside told = told ≡ audited (audit.told (audit.auditedOf net marking beside))

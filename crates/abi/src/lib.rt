@@ -1,6 +1,7 @@
 // The public calls for C (include/pnet.h). Each hands its arguments to its library's call, and its answer back as a struct by value.
 pub mod auditing;
 pub mod complementing;
+pub mod converting;
 pub mod dying;
 pub mod excluding;
 pub mod moving;

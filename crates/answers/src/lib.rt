@@ -1,6 +1,7 @@
 // What a call tells C, as structs by value: document 01's number, thing and position, document 02's amount, and the value, 0 where a refused call has none.
 use audit::Found;
 use complement::Complemented;
+use convert::Converted;
 use dead::Deadness;
 use dead::FirstDead;
 use model::Answer;
@@ -21,6 +22,7 @@ ghost use Rattle.model.specs.declared.Fault.the-variants.{NoRoom};
 ghost use Rattle.model.specs.declared.Answer.the-variants.{Refused};
 ghost use Rattle.audit.specs.Audits.{told as auditTold};
 ghost use Rattle.complement.specs.Complemented.{told as complementTold};
+ghost use Rattle.convert.specs.Converted.{told as convertedTold};
 ghost use Rattle.dead.specs.FirstDead.{told as firstDeadTold};
 ghost use Rattle.dead.specs.IsDead.{told as deadnessTold};
 ghost use Rattle.size.specs.Sizes.{told as measuredTold};
@@ -133,6 +135,21 @@ pub fn tell_length(complemented: Complemented) -> Counted
             value: length as u64,
         },
         Complemented::Refused(refusal) => Counted {
+            answer: refused(refusal),
+            value: 0,
+        },
+    }
+}
+
+pub fn tell_converted(converted: Converted) -> Counted
+    ensures { λ r. ⌜ r ≡ counted (convertedTold converted) ⌝ }
+{
+    match converted {
+        Converted::Length(length) => Counted {
+            answer: accepted(),
+            value: length as u64,
+        },
+        Converted::Refused(refusal) => Counted {
             answer: refused(refusal),
             value: 0,
         },

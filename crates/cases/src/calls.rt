@@ -12,6 +12,8 @@ use crate::told::told_kilograms;
 use crate::told::told_name;
 use crate::told::told_run;
 use abi::complementing::pnet_complement;
+use abi::converting::pnet_to_version_1;
+use abi::converting::pnet_to_version_2;
 use abi::dying::pnet_first_dead;
 use abi::dying::pnet_is_dead;
 use abi::excluding::pnet_exclude;
@@ -46,7 +48,9 @@ fn count(call: u32, pairs: usize, first: &[u8], out: &mut [u8]) -> Counted {
         16 => pnet_read_net(first),
         17 => pnet_read_weights(first, pairs),
         18 => pnet_read_movements(first),
-        _ => pnet_complement(first, out),
+        19 => pnet_complement(first, out),
+        20 => pnet_to_version_2(first, out),
+        _ => pnet_to_version_1(first, out),
     }
 }
 

@@ -29,9 +29,9 @@ use Rattle.complement.specs.declared.Complemented.the-variants.{Length, 
 use Rattle.complement.specs.declared.sheet.Sizes.{Sizes}
 use Rattle.complement.specs.ArcRefusals.{inhibitedAt}
 use Rattle.complement.specs.Complemented.{complementSheet, tooShort, roomRefusal, complemented, output}
-use Rattle.halves.specs.Puts.{Puts}
+use Rattle.written.specs.Puts.{Puts}
 use Rattle.complement.specs.Sizes.{SizesAre, inLimits, sizesRefusal, firstOf}
-use Rattle.complement.proofs.SheetParts.{size-is}
+use Rattle.complement.proofs.SheetParts.{size-is, sheet-is}
 
 -- 15 is the first of its arcs
 pub each-arc : (s : List ℕ) → first (length (netOf s .arcs)) (inhibitedAt s) ≡ refusal15 (arcOffset s) (netOf s)
@@ -69,17 +69,17 @@ unfolding sheetLimits
 limits-are s of are = rw (are .places, are .pairs, are .arcs)
 
 module _ {s : List ℕ} {net : NetShape} (o : Open s net) {of : Sizes} (are : SizesAre (netOf s) of) (room : ℕ) where
-  sizes-refusal : sizesRefusal of (net .transitions) room ≡ onlyIf (not (sheetLimits (netOf s))) (wrong Net NoRoom) ▸ tooShort s room
+  sizes-refusal : sizesRefusal net of room ≡ onlyIf (not (sheetLimits (netOf s))) (wrong Net NoRoom) ▸ tooShort s room
   unfolding sizesRefusal
   sizes-refusal =
-      ap₂ (λ limits size. onlyIf (not limits) (wrong Net NoRoom) ▸ onlyIf (ltb room size) (wrong Net NoRoom)) (limits-are s of are) (size-is o are refl)
+      ap₂ (λ limits size. onlyIf (not limits) (wrong Net NoRoom) ▸ onlyIf (ltb room size) (wrong Net NoRoom)) (limits-are s of are) (size-is o are refl ∙ ap length (sheet-is o))
 
   -- 15, then 10
   pub in-order : {inhibitors fits all : Answer} → inhibitors ≡ answer (refusal15 (arcOffset s) (netOf s))
-      → fits ≡ answer (sizesRefusal of (net .transitions) room) → all ≡ firstOf inhibitors fits → all ≡ answer (roomRefusal s room)
+      → fits ≡ answer (sizesRefusal net of room) → all ≡ firstOf inhibitors fits → all ≡ answer (roomRefusal s room)
   unfolding roomRefusal complementRefusal
   in-order e f g =
-      let together : refusal15 (arcOffset s) (netOf s) ▸ sizesRefusal of (net .transitions) room ≡ roomRefusal s room = rw (then-assoc, sizes-refusal) in
+      let together : refusal15 (arcOffset s) (netOf s) ▸ sizesRefusal net of room ≡ roomRefusal s room = rw (then-assoc, sizes-refusal) in
       g ∙ ap₂ firstOf e f ∙ first-of _ _ ∙ ap answer together
 
 pub room-enough : (s : List ℕ) (room : ℕ) → roomRefusal s room ≡ none → length (complementSheet s) ≤ room

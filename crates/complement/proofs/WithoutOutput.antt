@@ -12,24 +12,15 @@ use Rattle.model.proofs.First.{then-none}
 use Rattle.sheets.specs.Decoded.{netOf}
 use Rattle.opened.specs.declared.shape.NetShape.{NetShape}
 use Rattle.opened.specs.Shape.{Open, arcOffset}
-use Rattle.opened.proofs.Shapes.{sizes}
 use Rattle.complement.specs.declared.sheet.Sizes.{Sizes}
 use Rattle.complement.specs.Complemented.{complementSheet, roomRefusal}
 use Rattle.complement.specs.Sizes.{SizesAre, Few}
-use Rattle.complement.proofs.SheetParts.{size-is}
+use Rattle.complement.proofs.SheetParts.{size-small, size-is, sheet-is}
 
 module _ {s : List ℕ} {net : NetShape} (o : Open s net) {of : Sizes} (are : SizesAre (netOf s) of) (few : Few of) where
   long-enough : length (complementSheet s) ≤ 100000
   long-enough =
-      omega (
-        arith,
-        size-is o are refl,
-        sizes o .transitions,
-        sizes o .wellFormed .transitions .many,
-        few .places,
-        few .pairs,
-        few .arcs,
-      )
+      omega (arith, size-is o are refl, ap length (sheet-is o), size-small o are few)
 
   none-short : roomRefusal s 100000 ≡ complementRefusal (arcOffset s) (netOf s)
   unfolding roomRefusal

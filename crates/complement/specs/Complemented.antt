@@ -12,6 +12,7 @@ use Rattle.model.specs.First.{_▸_, onlyIf}
 use Rattle.model.specs.Replies.{Reply, yields, refuses}
 use Rattle.model.specs.Complement.{complement, complementRefusal}
 use Rattle.model.specs.Refusals.{wrong}
+use Rattle.heads.specs.Version.{versionOf}
 use Rattle.sheets.specs.Whole.{wholeNet}
 use Rattle.sheets.specs.Decoded.{netOf}
 use Rattle.opened.specs.Shape.{arcOffset}
@@ -19,9 +20,9 @@ use Rattle.written.specs.Written.{sheetOf}
 use Rattle.complement.specs.declared.Complemented.{Complemented}
 use Rattle.complement.specs.declared.Complemented.the-variants.{Length, Refused}
 
--- the sheet that is to be written
+-- the sheet that is to be written: "Every other call .. writes the version and rule it was given" (document 02, P9)
 abbrev pub complementSheet : List ℕ → List ℕ
-complementSheet net = sheetOf (complement (netOf net))
+complementSheet net = sheetOf (versionOf net) (complement (netOf net))
 
 -- 10: "or the output slice is shorter than it"
 abbrev pub tooShort : List ℕ → ℕ → Option Refusal

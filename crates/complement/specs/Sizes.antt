@@ -12,12 +12,14 @@ use Rattle.model.specs.declared.Fault.the-variants.{NoRoom}
 use Rattle.model.specs.declared.Refusal.{Refusal}
 use Rattle.model.specs.declared.Answer.{Answer}
 use Rattle.model.specs.declared.Answer.the-variants.{Accepted, Refused}
+use Rattle.model.specs.declared.Version.{Version}
 use Rattle.model.specs.First.{_▸_, onlyIf}
 use Rattle.model.specs.Nets.{PNet, pairs}
 use Rattle.model.specs.Complement.{complement}
 use Rattle.model.specs.Refusals.{wrong}
 use Rattle.written.specs.Puts.{sheetSize}
-use Rattle.written.specs.Written.{bytes16, arcBytes, headBytes, pairsBytes, lengthOf}
+use Rattle.opened.specs.declared.shape.NetShape.{NetShape}
+use Rattle.written.specs.Written.{bytes16, headBytes, pairsBytes, lengthOf}
 use Rattle.complement.specs.declared.sheet.Sizes.{Sizes}
 
 pub record SizesAre (net : PNet) (sizes : Sizes) : Type 0 where
@@ -36,24 +38,20 @@ abbrev pub inLimits : Sizes → Bool
 inLimits sizes = leb (sizes .places) 64 && leb (sizes .pairs) 256 && leb (sizes .arcs) 2048
 
 -- 10 by these numbers, where the output slice has this room
-unfoldable pub sizesRefusal : Sizes → ℕ → ℕ → Option Refusal
-sizesRefusal sizes transitions room =
+unfoldable pub sizesRefusal : NetShape → Sizes → ℕ → Option Refusal
+sizesRefusal net sizes room =
     onlyIf (not (inLimits sizes)) (wrong Net NoRoom)
-    ▸ onlyIf (ltb room (sheetSize (sizes .places) transitions (sizes .pairs) (sizes .arcs))) (wrong Net NoRoom)
+    ▸ onlyIf (ltb room (sheetSize (net .version) (sizes .places) (net .transitions) (sizes .pairs) (net .modes) (sizes .arcs))) (wrong Net NoRoom)
 
 -- this answer, then that
 abbrev pub firstOf : Answer → Answer → Answer
 firstOf Accepted that = that
 firstOf (Refused r) that = Refused r
 
--- "a 4-byte length L .., a version byte 1 ..; Place count ..; transition count"
-abbrev pub countsBytes : PNet → List ℕ
-countsBytes net = headBytes (lengthOf net) ++ (bytes16 (length (net .colours)) ++ bytes16 (length (net .modesOf)))
+-- "a 4-byte length L .., a version byte ..; Place count ..; transition count"
+abbrev pub countsBytes : Version → PNet → List ℕ
+countsBytes v net = headBytes v (net .rule) (lengthOf v net) ++ (bytes16 (length (net .colours)) ++ bytes16 (length (net .modesOf)))
 
 -- "colours of each place ..; modes of each transition ..; for each pair K and the first marking"
 abbrev pub recordsBytes : PNet → List ℕ
 recordsBytes net = flatMap bytes16 (net .colours) ++ (flatMap bytes16 (net .modesOf) ++ pairsBytes net)
-
--- "arc count ..; the arcs"
-abbrev pub arcsBytes : PNet → List ℕ
-arcsBytes net = bytes16 (length (net .arcs)) ++ flatMap arcBytes (net .arcs)

@@ -39,18 +39,24 @@ fn is_short(room: usize, size: usize) -> bool
     room < size
 }
 
-fn room_answer(sizes: Sizes, transitions: usize, room: usize) -> Answer
+fn room_answer(net: NetShape, sizes: Sizes, room: usize) -> Answer
     requires { ⌜ Few sizes ⌝ }
-    requires { ⌜ transitions ≤ 64 ⌝ }
-    ensures { λ r. ⌜ r ≡ answer (sizesRefusal sizes transitions room) ⌝ }
+    requires { ⌜ (net .transitions ≤ 64) × (net .modes ≤ 256) ⌝ }
+    ensures { λ r. ⌜ r ≡ answer (sizesRefusal net sizes room) ⌝ }
 {
     if !within_limits(sizes) {
         return refused(Thing::Net, Fault::NoRoom);
     }
-    if is_short(
-        room,
-        sheet_size(sizes.places, transitions, sizes.pairs, sizes.arcs),
-    ) {
+    let version = net.version;
+    let size = sheet_size(
+        version,
+        sizes.places,
+        net.transitions,
+        sizes.pairs,
+        net.modes,
+        sizes.arcs,
+    );
+    if is_short(room, size) {
         return refused(Thing::Net, Fault::NoRoom);
     }
     Answer::Accepted
@@ -80,7 +86,7 @@ pub(crate) fn complement_answer(
     requires { ⌜ SizesAre (netOf (now s)) sizes × Few sizes ⌝ }
     ensures { λ r. ⌜ r ≡ answer (roomRefusal (now (s .entry)) room) ⌝ }
 {
-    let sizes_fit = room_answer(sizes, net.transitions, room);
+    let sizes_fit = room_answer(net, sizes, room);
     if clear {
         return sizes_fit;
     }

@@ -8,6 +8,7 @@ use sections::places::put_modes;
 use sections::places::put_places;
 use written::put_count;
 use written::put_head;
+use written::put_total;
 use written::sheet_size;
 ghost use mathlib.Core.Path.{_≡_};
 ghost use Prim.Native.Nat.{_≤_};
@@ -16,11 +17,11 @@ ghost use Rattle.model.specs.Complement.{complement};
 ghost use Rattle.sheets.specs.Decoded.{netOf};
 ghost use Rattle.opened.specs.Shape.{Open};
 ghost use Rattle.opened.specs.Starts.{StartsAre};
-ghost use Rattle.written.specs.Written.{sheetOf};
+ghost use Rattle.written.specs.Written.{sectionBytes, sheetOf};
 ghost use Rattle.dead.specs.DeadModes.{DeadAre};
 ghost use Rattle.halves.specs.Bounded.{BelowAre};
-ghost use Rattle.complement.specs.Sizes.{SizesAre, Few, countsBytes, recordsBytes, arcsBytes};
-ghost use Rattle.halves.specs.Puts.{Room, Puts};
+ghost use Rattle.complement.specs.Sizes.{SizesAre, Few, countsBytes, recordsBytes};
+ghost use Rattle.written.specs.Puts.{Room, Puts};
 
 // How many places, pairs and arcs the complement has.
 pub(crate) struct Sizes {
@@ -43,15 +44,23 @@ pub(crate) fn complement_sizes(s: &[u8], net: NetShape, below: &[u16; 257], arcs
     }
 }
 
-// The length, the version and the counts of places and transitions.
+// The length, the version, the rule and the counts of places and transitions.
 fn put_counts(s: &[u8], net: NetShape, sizes: Sizes, out: &mut [u8]) -> usize
     requires { ⌜ Open (now s) net ⌝ }
     requires { ⌜ SizesAre (netOf (now s)) sizes × Few sizes ⌝ }
-    requires { ⌜ Room (now out) 0 (countsBytes (complement (netOf (now s)))) ⌝ }
-    ensures { λ r. ⌜ Puts (now (out .entry)) 0 (countsBytes (complement (netOf (now (s .entry))))) (now (out .exit)) r ⌝ }
+    requires { ⌜ Room (now out) 0 (countsBytes (net .version) (complement (netOf (now s)))) ⌝ }
+    ensures { λ r. ⌜ Puts (now (out .entry)) 0 (countsBytes (net .version) (complement (netOf (now (s .entry))))) (now (out .exit)) r ⌝ }
 {
-    let size = sheet_size(sizes.places, net.transitions, sizes.pairs, sizes.arcs);
-    let at_places = put_head(out, size);
+    let version = net.version;
+    let size = sheet_size(
+        version,
+        sizes.places,
+        net.transitions,
+        sizes.pairs,
+        net.modes,
+        sizes.arcs,
+    );
+    let at_places = put_head(out, version, 0, size);
     let at_transitions = put_count(out, at_places, sizes.places);
     put_count(out, at_transitions, net.transitions)
 }
@@ -82,10 +91,11 @@ fn put_counted_arcs(
     requires { ⌜ BelowAre (netOf (now s)) (now below) ⌝ }
     requires { ⌜ DeadAre (netOf (now s)) (now dead) ⌝ }
     requires { ⌜ (arcs ≡ length (complement (netOf (now s)) .arcs)) × (arcs ≤ 4096) ⌝ }
-    requires { ⌜ Room (now out) at (arcsBytes (complement (netOf (now s)))) ⌝ }
-    ensures { λ r. ⌜ Puts (now (out .entry)) at (arcsBytes (complement (netOf (now (s .entry))))) (now (out .exit)) r ⌝ }
+    requires { ⌜ Room (now out) at (sectionBytes (net .version) (complement (netOf (now s)))) ⌝ }
+    ensures { λ r. ⌜ Puts (now (out .entry)) at (sectionBytes (net .version) (complement (netOf (now (s .entry))))) (now (out .exit)) r ⌝ }
 {
-    let at_arcs = put_count(out, at, arcs);
+    let version = net.version;
+    let at_arcs = put_total(out, at, version, arcs);
     put_arcs(s, net, starts, below, dead, out, at_arcs)
 }
 
@@ -103,8 +113,8 @@ pub(crate) fn put_sheet(
     requires { ⌜ BelowAre (netOf (now s)) (now below) ⌝ }
     requires { ⌜ DeadAre (netOf (now s)) (now dead) ⌝ }
     requires { ⌜ SizesAre (netOf (now s)) sizes × Few sizes ⌝ }
-    requires { ⌜ Room (now out) 0 (sheetOf (complement (netOf (now s)))) ⌝ }
-    ensures { λ r. ⌜ Puts (now (out .entry)) 0 (sheetOf (complement (netOf (now (s .entry))))) (now (out .exit)) r ⌝ }
+    requires { ⌜ Room (now out) 0 (sheetOf (net .version) (complement (netOf (now s)))) ⌝ }
+    ensures { λ r. ⌜ Puts (now (out .entry)) 0 (sheetOf (net .version) (complement (netOf (now (s .entry))))) (now (out .exit)) r ⌝ }
 {
     let at_records = put_counts(s, net, sizes, out);
     let at_arcs = put_records(s, net, below, out, at_records);

@@ -61,11 +61,11 @@ unfolding runningRefusal
 running-holds s start i e =
     record { count = count-holds _ s _ 1 64 (left-none _ _ e); inTotal = ltb-false _ _ (only-if-none _ _ (right-none _ _ e)) }
 
-pub sized : (s : List ℕ) → Headed s → countRefusal Net s placesAt 1 64 ≡ none → countRefusal Net s transitionsAt 0 64 ≡ none → Sized s
+pub sized : (s : List ℕ) → Headed s → countRefusal Net s (placesAt s) 1 64 ≡ none → countRefusal Net s (transitionsAt s) 0 64 ≡ none → Sized s
 sized s h e f =
-    let places = count-holds Net s placesAt 1 64 e in
-    let transitions = count-holds Net s transitionsAt 0 64 f in
-    record { head = h; there = transitions .there; somePlace = places .least; places = places .most; transitions = transitions .most }
+    let places = count-holds Net s (placesAt s) 1 64 e in
+    let transitions = count-holds Net s (transitionsAt s) 0 64 f in
+    record { head = h; there = omega (arith, transitions .there); somePlace = places .least; places = places .most; transitions = transitions .most }
 
 -- n accepted counts are there, and within the total
 pub all-running : (s : List ℕ) (start n : ℕ) → start ≤ sheetEnd s → first n (runningRefusal s start) ≡ none → (countAt start n ≤ sheetEnd s) × (totalOf s start n ≤ 256)
@@ -80,6 +80,6 @@ counted s h e =
     let e₁ = right-none _ _ e in
     let size = sized s h (left-none _ _ e) (left-none _ _ e₁) in
     let each = right-none _ _ e₁ in
-    let colours = all-running s coloursAt (placeCount s) (size .there) (left-none _ _ each) in
-    let modes = all-running s (countAt coloursAt (placeCount s)) (transitionCount s) (colours .0) (right-none _ _ each) in
+    let colours = all-running s (coloursAt s) (placeCount s) (size .there) (left-none _ _ each) in
+    let modes = all-running s (countAt (coloursAt s) (placeCount s)) (transitionCount s) (colours .0) (right-none _ _ each) in
     record { sized = size; there = modes .0; pairs = colours .1; modes = modes .1 }

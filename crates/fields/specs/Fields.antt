@@ -34,7 +34,7 @@ unfoldable pub pairRefusal : List ℕ → ℕ → Option Refusal
 pairRefusal s at = capacityRefusal s at ▸ startRefusal s at
 
 unfoldable pub eachCount : List ℕ → Option Refusal
-eachCount s = first (placeCount s) (runningRefusal s coloursAt) ▸ first (transitionCount s) (runningRefusal s (modesAt s))
+eachCount s = first (placeCount s) (runningRefusal s (coloursAt s)) ▸ first (transitionCount s) (runningRefusal s (modesAt s))
 
 unfoldable pub countFields : List ℕ → Option Refusal
-countFields s = countRefusal Net s placesAt 1 64 ▸ countRefusal Net s transitionsAt 0 64 ▸ eachCount s
+countFields s = countRefusal Net s (placesAt s) 1 64 ▸ countRefusal Net s (transitionsAt s) 0 64 ▸ eachCount s

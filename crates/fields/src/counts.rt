@@ -1,5 +1,6 @@
 // The counts of a net sheet: places, transitions, colours of each place and modes of each transition, and their totals.
 use heads::bytes::count_at;
+use heads::head::fields_at;
 use heads::head::refused;
 use heads::head::sheet_end;
 use model::Answer;
@@ -87,23 +88,25 @@ fn each_count(s: &[u8]) -> Answer
     requires { ⌜ Sized (now s) ⌝ }
     ensures { λ r. ⌜ r ≡ answer (eachCount (now (s .entry))) ⌝ }
 {
-    let places = count_at(s, 5);
-    let colours = read_counts(s, 9, places);
+    let at = fields_at(s);
+    let places = count_at(s, at);
+    let colours = read_counts(s, at + 4, places);
     if let Answer::Refused(_) = colours {
         return colours;
     }
-    read_counts(s, 9 + 2 * places, count_at(s, 7))
+    read_counts(s, at + 4 + 2 * places, count_at(s, at + 2))
 }
 
 pub fn count_fields(s: &[u8]) -> Answer
     requires { ⌜ Headed (now s) ⌝ }
     ensures { λ r. ⌜ r ≡ answer (countFields (now (s .entry))) ⌝ }
 {
-    let places = read_count(s, 5, 1, 64);
+    let at = fields_at(s);
+    let places = read_count(s, at, 1, 64);
     if let Answer::Refused(_) = places {
         return places;
     }
-    let transitions = read_count(s, 7, 0, 64);
+    let transitions = read_count(s, at + 2, 0, 64);
     if let Answer::Refused(_) = transitions {
         return transitions;
     }

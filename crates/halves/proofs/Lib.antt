@@ -1,4 +1,3 @@
 pub mod Entries
 pub mod Below
-pub mod Puts
 pub mod PairHalves

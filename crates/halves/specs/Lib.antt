@@ -1,4 +1,3 @@
 pub mod Entries
 pub mod Bounded
-pub mod Puts
 pub mod Pairs

@@ -14,7 +14,7 @@ ghost use Rattle.sheets.specs.Decoded.{netOf};
 ghost use Rattle.opened.specs.Shape.{Open};
 ghost use Rattle.written.specs.Written.{pairsBytes};
 ghost use Rattle.halves.specs.Pairs.{newPair, halfPair};
-ghost use Rattle.halves.specs.Puts.{Room, Puts};
+ghost use Rattle.written.specs.Puts.{Room, Puts};
 
 // "first marking: K less the original's"; an unbounded pair has no complement.
 fn put_new_pair(s: &[u8], net: NetShape, pair: Pair, out: &mut [u8], at: usize) -> usize

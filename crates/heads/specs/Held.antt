@@ -13,7 +13,7 @@ pub record Headed (s : List ℕ) : Type 0 where
 -- the place count and the transition count of a net sheet are there and within their limits
 pub record Sized (s : List ℕ) : Type 0 where
   pub head : Headed s
-  pub there : coloursAt ≤ sheetEnd s
+  pub there : coloursAt s ≤ sheetEnd s
   pub somePlace : 1 ≤ placeCount s
   pub places : placeCount s ≤ 64
   pub transitions : transitionCount s ≤ 64

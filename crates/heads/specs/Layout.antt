@@ -1,9 +1,13 @@
--- Document 01, "Sheets": where each field stands, counted from 0 at the first byte of the sheet's length, and the number that it holds.
-use Prim.Native.Nat.{ℕ, _+_, _-_, _*_, _/_}
+-- Document 01, "Sheets", and document 02, P9: where each field stands, counted from 0 at the first byte of the sheet's length, and the number that
+-- it holds.
+use Prim.Native.Nat.{ℕ, zero, suc, _+_, _-_, _*_, _/_}
 use mathlib.Core.List.{List}
+use Rattle.model.specs.declared.Version.{Version}
+use Rattle.model.specs.declared.Version.the-variants.{One, Two}
 use Rattle.model.specs.Nets.{total}
 use Rattle.model.specs.Lists.{table}
 use Rattle.heads.specs.Bytes.{byteAt, u16At, u32At}
+use Rattle.heads.specs.Version.{versionOf}
 
 -- "A sheet is a 4-byte length L (the bytes after it), a version byte 1, then its fields"
 abbrev pub bodyLength : List ℕ → ℕ
@@ -35,7 +39,23 @@ capacityAt at = at
 abbrev pub startAt : ℕ → ℕ
 startAt at = at + 4
 
--- arcs from `start` on: "An arc is mode (2 bytes), pair (2), Pre, Post, I (4 each), 16 bytes."; the fields of an arc that stands at `at`
+-- "pair (2), Pre, Post, I (4 each)": the 14 bytes that an arc has in both versions, from `tail` on
+abbrev pub tailSize : ℕ
+tailSize = 14
+
+abbrev pub tailPairAt : ℕ → ℕ
+tailPairAt tail = tail
+
+abbrev pub tailPreAt : ℕ → ℕ
+tailPreAt tail = tail + 2
+
+abbrev pub tailPostAt : ℕ → ℕ
+tailPostAt tail = tail + 6
+
+abbrev pub tailInhibitorAt : ℕ → ℕ
+tailInhibitorAt tail = tail + 10
+
+-- version 1, arcs from `start` on: "An arc is mode (2 bytes), pair (2), Pre, Post, I (4 each), 16 bytes."; the fields of an arc that stands at `at`
 abbrev pub arcAt : ℕ → ℕ → ℕ
 arcAt start k = start + 16 * k
 
@@ -45,28 +65,37 @@ arcSize = 16
 abbrev pub arcModeAt : ℕ → ℕ
 arcModeAt at = at
 
+abbrev pub arcTailAt : ℕ → ℕ
+arcTailAt at = at + 2
+
 abbrev pub arcPairAt : ℕ → ℕ
 arcPairAt at = at + 2
 
-abbrev pub preAt : ℕ → ℕ
-preAt at = at + 4
-
-abbrev pub postAt : ℕ → ℕ
-postAt at = at + 8
-
-abbrev pub inhibitorAt : ℕ → ℕ
-inhibitorAt at = at + 12
+-- version 2, a mode's arcs from `start` on: "arcs of 14 bytes without the mode"
+abbrev pub groupArcAt : ℕ → ℕ → ℕ
+groupArcAt start i = start + 14 * i
 
 -- Net sheet: "Place count S (2 bytes ..); transition count (2 bytes ..); colours of each place ..; modes of each transition ..;
 -- for each pair K and the first marking ..; arc count (2 bytes ..); the arcs."
-abbrev pub placesAt : ℕ
-placesAt = 5
+-- Document 02, P9: "In version 2 a rule byte, 0 for now, follows the version."
+abbrev pub ruleAt : ℕ
+ruleAt = 5
 
-abbrev pub transitionsAt : ℕ
-transitionsAt = 7
+abbrev pub fieldsFrom : Version → ℕ
+fieldsFrom One = 5
+fieldsFrom Two = 6
 
-abbrev pub coloursAt : ℕ
-coloursAt = 9
+unfoldable pub fieldsAt : List ℕ → ℕ
+fieldsAt s = fieldsFrom (versionOf s)
+
+abbrev pub placesAt : List ℕ → ℕ
+placesAt s = fieldsAt s
+
+abbrev pub transitionsAt : List ℕ → ℕ
+transitionsAt s = fieldsAt s + 2
+
+abbrev pub coloursAt : List ℕ → ℕ
+coloursAt s = fieldsAt s + 4
 
 -- the arcs follow their count, which stands at `at`
 abbrev pub arcsAfter : ℕ → ℕ
@@ -74,16 +103,16 @@ arcsAfter at = at + 2
 
 module _ (s : List ℕ) where
   abbrev pub placeCount : ℕ
-  placeCount = u16At s placesAt
+  placeCount = u16At s (placesAt s)
 
   abbrev pub transitionCount : ℕ
-  transitionCount = u16At s transitionsAt
+  transitionCount = u16At s (transitionsAt s)
 
   abbrev pub modesAt : ℕ
-  modesAt = countAt coloursAt placeCount
+  modesAt = countAt (coloursAt s) placeCount
 
   unfoldable pub pairCount : ℕ
-  pairCount = totalOf s coloursAt placeCount
+  pairCount = totalOf s (coloursAt s) placeCount
 
   unfoldable pub modeCount : ℕ
   modeCount = totalOf s modesAt transitionCount
@@ -99,6 +128,18 @@ module _ (s : List ℕ) where
 
   abbrev pub arcsAt : ℕ
   arcsAt = arcsAfter arcCountAt
+
+-- Version 2, from `base` on: "The arc count and the arcs are replaced by, for each mode, a 2-byte arc count and that many arcs". How many arcs stand
+-- before those of mode t, where its arc count stands, and how many it has
+unfoldable pub arcsBefore : List ℕ → ℕ → ℕ → ℕ
+arcsBefore s base zero = 0
+arcsBefore s base (suc t) = arcsBefore s base t + u16At s (base + 2 * t + 14 * arcsBefore s base t)
+
+abbrev pub groupAt : List ℕ → ℕ → ℕ → ℕ
+groupAt s base t = base + 2 * t + 14 * arcsBefore s base t
+
+abbrev pub groupCount : List ℕ → ℕ → ℕ → ℕ
+groupCount s base t = u16At s (groupAt s base t)
 
 -- Movement sheet: "Mode numbers, 2 bytes each"; as many whole ones as fit in L
 abbrev pub movementsAt : ℕ

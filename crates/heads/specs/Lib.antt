@@ -1,4 +1,5 @@
 pub mod Bytes
+pub mod Version
 pub mod Layout
 pub mod Checks
 pub mod Held

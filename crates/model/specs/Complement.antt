@@ -94,6 +94,7 @@ allPairs net = pairs net + length (boundedPairs net)
 unfoldable pub complement : PNet → PNet
 complement net =
     record {
+      rule = net .rule;
       colours = net .colours ++ newPlaces (K net) (net .colours);
       modesOf = net .modesOf;
       capacity = replicate (allPairs net) ∞;

@@ -59,6 +59,7 @@ gives n pre post = record { number = n; pre = pre; post = post }
 abbrev pub edgeNet : ℕ → ℕ∞ → ℕ → ℕ → PNet
 edgeNet k i pre post =
     record {
+      rule = 0;
       colours = 1 ∷ [];
       modesOf = 1 ∷ [];
       capacity = fin k ∷ [];

@@ -1,4 +1,4 @@
--- A P-net of document 01: places with colours, transitions with modes, K and the first marking of each pair, and the arcs.
+-- A P-net of document 01: places with colours, transitions with modes, K and the first marking of each pair, and the arcs; and document 02's rule.
 use Prim.Native.Nat.{ℕ, _+_}
 use mathlib.Core.Bool.{Bool, cond, _&&_}
 use mathlib.Core.List.{List, [], _∷_}
@@ -15,6 +15,8 @@ pub record NetArc : Type 0 where
   pub entry : Entry
 
 pub record PNet : Type 0 where
+  -- "a rule byte, 0 for now, follows the version" (document 02, P9)
+  pub rule : ℕ
   pub colours : List ℕ
   pub modesOf : List ℕ
   pub capacity : List ℕ∞

@@ -57,6 +57,7 @@ VisitsBounded = (net : PNet) (ts : List Mode) (m : List ℕ) → visited net ts 
 abbrev pub threeArcs : PNet
 threeArcs =
     record {
+      rule = 0;
       colours = 3 ∷ [];
       modesOf = 2 ∷ [];
       capacity = ∞ ∷ ∞ ∷ ∞ ∷ [];

@@ -18,6 +18,12 @@ pub struct Arc {
     pub inhibitor: u32,
 }
 
+// Which layout a net sheet has. "Only net sheets have a version 2." (document 02, P9)
+pub enum Version {
+    One,
+    Two,
+}
+
 // Which thing was at fault: 0 to 3 of document 01, "Refusal numbers".
 pub enum Thing {
     Net,

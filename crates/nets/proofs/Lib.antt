@@ -1,2 +1,4 @@
 pub mod Names
+pub mod TailsRead
+pub mod GroupsRead
 pub mod Valid

@@ -1,9 +1,8 @@
-// The arcs of a net sheet, which rise strictly by mode, then pair.
+// The arcs of a net sheet of version 1, which rise strictly by mode, then pair.
+use crate::tails::read_numbers;
 use fields::counts::read_count;
-use fields::numbers::bound_outside;
 use heads::bytes::count_at;
 use heads::bytes::u16_at;
-use heads::bytes::u32_at;
 use heads::head::left_over;
 use heads::head::refused;
 use heads::head::sheet_end;
@@ -18,7 +17,7 @@ ghost use Rattle.model.specs.Refusals.{answer};
 ghost use Rattle.heads.specs.Layout.{arcAt};
 ghost use Rattle.heads.specs.Held.{Headed};
 ghost use Rattle.nets.specs.Names.{NamesAt};
-ghost use Rattle.nets.specs.Nets.{notRising, blank, arcNamesRefusal, arcNumbersRefusal, arcRefusal, arcFields};
+ghost use Rattle.nets.specs.Nets.{notRising, arcNamesRefusal, arcRefusal, arcFields};
 
 // The mode and the pair of an arc as one number, which rises as they do.
 fn names_at(s: &[u8], at: usize) -> u32
@@ -41,18 +40,6 @@ fn not_rising(s: &[u8], start: usize, k: usize, names: u32) -> bool
     names <= names_at(s, start + 16 * (k - 1))
 }
 
-fn is_blank(pre: u32, post: u32, inhibitor: u32) -> bool
-    ensures { λ r. ⌜ r ≡ blank pre post inhibitor ⌝ }
-{
-    if pre != 0 {
-        return false;
-    }
-    if post != 0 {
-        return false;
-    }
-    inhibitor == 0xffff_ffff
-}
-
 // 6 for the mode, 6 for the pair, 7.
 fn read_arc_names(s: &[u8], modes: usize, pairs: usize, start: usize, k: usize) -> Answer
     requires { ⌜ (k < 65536) × (start + 16 * k + 16 ≤ length (now s)) × (modes ≤ 256) ⌝ }
@@ -72,29 +59,6 @@ fn read_arc_names(s: &[u8], modes: usize, pairs: usize, start: usize, k: usize) 
     Answer::Accepted
 }
 
-// 5 for Pre, Post and I in turn, 8.
-fn read_arc_numbers(s: &[u8], at: usize) -> Answer
-    requires { ⌜ at + 16 ≤ length (now s) ⌝ }
-    ensures { λ r. ⌜ r ≡ answer (arcNumbersRefusal (now (s .entry)) at) ⌝ }
-{
-    let pre = u32_at(s, at + 4);
-    let post = u32_at(s, at + 8);
-    let inhibitor = u32_at(s, at + 12);
-    if 1_000_000 < pre {
-        return refused(Thing::Net, Fault::NumberOutside(at + 4));
-    }
-    if 1_000_000 < post {
-        return refused(Thing::Net, Fault::NumberOutside(at + 8));
-    }
-    if bound_outside(inhibitor) {
-        return refused(Thing::Net, Fault::NumberOutside(at + 12));
-    }
-    if is_blank(pre, post, inhibitor) {
-        return refused(Thing::Net, Fault::Blank(at));
-    }
-    Answer::Accepted
-}
-
 fn read_arc(s: &[u8], modes: usize, pairs: usize, start: usize, k: usize) -> Answer
     requires { ⌜ Headed (now s) ⌝ }
     requires { ⌜ (start < 4096) × (k < 65536) × (modes ≤ 256) ⌝ }
@@ -108,7 +72,7 @@ fn read_arc(s: &[u8], modes: usize, pairs: usize, start: usize, k: usize) -> Ans
     if let Answer::Refused(_) = names {
         return names;
     }
-    read_arc_numbers(s, at)
+    read_numbers(s, at, at + 2)
 }
 
 fn read_arcs(s: &[u8], modes: usize, pairs: usize, start: usize, n: usize) -> Answer

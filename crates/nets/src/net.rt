@@ -1,31 +1,43 @@
-// A net sheet: its counts, its pairs, its arcs.
+// A net sheet: its rule, its counts, its pairs, its arcs.
 use crate::arcs::arc_fields;
+use crate::groups::group_fields;
 use fields::counts::count_fields;
 use fields::counts::total_of;
 use fields::pairs::read_pairs;
 use heads::bytes::count_at;
+use heads::head::fields_at;
 use heads::head::read_head;
+use heads::head::refused;
+use heads::head::sheet_end;
+use heads::version::version_of;
 use model::Answer;
+use model::Fault;
 use model::Thing;
+use model::Version;
 ghost use mathlib.Core.Path.{_≡_};
+ghost use Prim.Native.Nat.{_<_, _≤_};
+ghost use Rattle.model.specs.declared.Version.the-variants.{Two};
 ghost use Rattle.model.specs.Refusals.{answer};
 ghost use Rattle.heads.specs.Layout.{pairCount, modeCount, pairsAt};
+ghost use Rattle.heads.specs.Version.{versionOf};
 ghost use Rattle.heads.specs.Held.{Headed, Counted};
-ghost use Rattle.nets.specs.Nets.{pairAndArcFields, netFields};
+ghost use Rattle.nets.specs.Nets.{arcSection, pairAndArcFields, ruleField, netFields};
 ghost use Rattle.nets.specs.Contracts.{ReadNetAllows};
 
 pub fn pair_count(s: &[u8]) -> usize
     requires { ⌜ Counted (now s) ⌝ }
     ensures { λ r. ⌜ r ≡ pairCount (now (s .entry)) ⌝ }
 {
-    total_of(s, 9, count_at(s, 5))
+    let at = fields_at(s);
+    total_of(s, at + 4, count_at(s, at))
 }
 
 pub fn mode_count(s: &[u8]) -> usize
     requires { ⌜ Counted (now s) ⌝ }
     ensures { λ r. ⌜ r ≡ modeCount (now (s .entry)) ⌝ }
 {
-    total_of(s, 9 + 2 * count_at(s, 5), count_at(s, 7))
+    let at = fields_at(s);
+    total_of(s, at + 4 + 2 * count_at(s, at), count_at(s, at + 2))
 }
 
 // Where the pairs stand.
@@ -33,7 +45,20 @@ pub fn pairs_at(s: &[u8]) -> usize
     requires { ⌜ Counted (now s) ⌝ }
     ensures { λ r. ⌜ r ≡ pairsAt (now (s .entry)) ⌝ }
 {
-    9 + 2 * count_at(s, 5) + 2 * count_at(s, 7)
+    let at = fields_at(s);
+    at + 4 + 2 * count_at(s, at) + 2 * count_at(s, at + 2)
+}
+
+// The arcs as the version has them, from `at` on.
+fn arc_section(s: &[u8], modes: usize, pairs: usize, at: usize) -> Answer
+    requires { ⌜ Headed (now s) ⌝ }
+    requires { ⌜ (at < 4000) × (modes ≤ 256) ⌝ }
+    ensures { λ r. ⌜ r ≡ answer (arcSection (versionOf (now (s .entry))) (now (s .entry)) modes pairs at) ⌝ }
+{
+    match version_of(s) {
+        Version::One => arc_fields(s, modes, pairs, at),
+        Version::Two => group_fields(s, modes, pairs, at),
+    }
 }
 
 fn pair_and_arc_fields(s: &[u8]) -> Answer
@@ -46,13 +71,41 @@ fn pair_and_arc_fields(s: &[u8]) -> Answer
     if let Answer::Refused(_) = pairs {
         return pairs;
     }
-    arc_fields(s, mode_count(s), count, start + 8 * count)
+    arc_section(s, mode_count(s), count, start + 8 * count)
+}
+
+fn read_rule(s: &[u8]) -> Answer
+    requires { ⌜ Headed (now s) ⌝ }
+    ensures { λ r. ⌜ r ≡ answer (ruleField Two (now (s .entry))) ⌝ }
+{
+    if sheet_end(s) < 6 {
+        return refused(Thing::Net, Fault::WrongLength(5));
+    }
+    if s[5] != 0 {
+        return refused(Thing::Net, Fault::CountOutside(5));
+    }
+    Answer::Accepted
+}
+
+// The rule byte, which version 2 alone has.
+fn rule_field(s: &[u8]) -> Answer
+    requires { ⌜ Headed (now s) ⌝ }
+    ensures { λ r. ⌜ r ≡ answer (ruleField (versionOf (now (s .entry))) (now (s .entry))) ⌝ }
+{
+    match version_of(s) {
+        Version::One => Answer::Accepted,
+        Version::Two => read_rule(s),
+    }
 }
 
 fn net_fields(s: &[u8]) -> Answer
     requires { ⌜ Headed (now s) ⌝ }
     ensures { λ r. ⌜ r ≡ answer (netFields (now (s .entry))) ⌝ }
 {
+    let rule = rule_field(s);
+    if let Answer::Refused(_) = rule {
+        return rule;
+    }
     let counts = count_fields(s);
     if let Answer::Refused(_) = counts {
         return counts;

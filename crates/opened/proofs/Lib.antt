@@ -1,3 +1,4 @@
+pub mod Versions
 pub mod Shapes
 pub mod Opening
 pub mod Segments

@@ -14,7 +14,7 @@ use Rattle.model.proofs.Nets.{Rising, rises-all}
 use Rattle.model.proofs.ByArcs.{Listing, segment-lists}
 use Rattle.opened.specs.declared.starts.Segment.{Segment}
 use Rattle.opened.specs.declared.starts.Span.{Span}
-use Rattle.opened.specs.Starts.{ModesBelow, FirstBetween, Narrower, FirstFrom, ModeArcs, SegmentOf}
+use Rattle.opened.specs.Starts.{ModesBelow, FirstBetween, Narrower, FirstFrom, ModeArcs, SegmentOf, OwnArc}
 
 -- i is the next number below i + 1, the others are below i
 below-next : (i j : ℕ) → j < i + 1 → (j < i) ⊎ (j ≡ i)
@@ -109,6 +109,14 @@ segment-of arcs t start end starts ends =
 
 pub segment-own : {arcs : List NetArc} {t : Mode} {segment : Segment} → SegmentOf arcs t segment → ModeArcs arcs t (segment .start) (segment .count)
 segment-own is = rw (is .mode) at (is .own)
+
+-- the i-th arc of a mode's segment is one of the net's, and has that mode
+module _ {arcs : List NetArc} {segment : Segment} {i : ℕ} (arc : OwnArc arcs segment i) where
+  pub own-there : segment .start + i < length arcs
+  own-there = omega (arith, arc .own .fits, arc .there)
+
+  pub own-mode : arcNo arcs (segment .start + i) .mode .0 ≡ segment .mode .0
+  own-mode = arc .own .own i (arc .there)
 
 -- the span of all arcs, and one that is down to a single place
 pub first-of-all : (arcs : List NetArc) (t : ℕ) → FirstBetween arcs t (record { low = 0; high = length arcs })

@@ -6,28 +6,34 @@ use lib.ListN.{length, getD}
 use native.Mathlib.Omega.{arith}
 use Rattle.model.specs.declared.Arc.{Arc}
 use Rattle.model.specs.Numbers.{limit}
-use Rattle.model.specs.declared.Mode.{Mode}
-use Rattle.model.specs.Nets.{pairs, modes, modeNo, K, count, arcNo}
+use Rattle.model.specs.declared.Version.the-variants.{Two}
+use Rattle.model.specs.Nets.{pairs, modes, K, count, arcNo}
 use Rattle.model.specs.WellFormed.{ArcOf, Counted, WellFormed}
 use Rattle.opened.specs.declared.shape.NetShape.{NetShape}
 use Rattle.heads.specs.Bytes.{u16At, u32At}
-use Rattle.heads.specs.Layout.{coloursAt, modesAt, counts, placeCount, transitionCount, pairCount, modeCount, arcCount, pairsAt, arcsAt, countAt, pairAt, arcAt, arcSize, arcModeAt, capacityAt, startAt}
+use Rattle.heads.specs.Layout.{coloursAt, modesAt, counts, placeCount, transitionCount, pairCount, modeCount, pairsAt, arcCountAt, arcsBefore, countAt, pairAt, tailSize, tailPairAt, capacityAt, startAt}
+use Rattle.heads.specs.Version.{versionOf}
 use Rattle.fields.specs.Numbers.{bound}
-use Rattle.sheets.specs.Decoded.{netArcAt, netOf, netArc}
-use Rattle.opened.specs.Shape.{shapeOf, Open, ArcIs, arcOffset}
-use Rattle.nets.proofs.Valid.{headed, counts-hold, arcs-within, colours-hold, modes-hold, start-holds, arc-holds}
-use Rattle.sheets.proofs.Meaning.{counts-length, counts-at, colours-are, modes-of-are, pairs-are, modes-are, capacity-at, start-at, arcs-length, arc-at}
+use Rattle.sheets.specs.Decoded.{netArcIn, netOf, netArc}
+use Rattle.opened.specs.Shape.{shapeOf, Open, ArcIs, tailAt, Before}
+use Rattle.opened.specs.Starts.{FirstFrom}
+use Rattle.heads.proofs.Heads.{fields-at-most}
+use Rattle.nets.proofs.Valid.{headed, counts-hold, colours-hold, modes-hold, start-holds}
+use Rattle.sheets.proofs.Meaning.{counts-length, counts-at, colours-are, modes-of-are, pairs-are, modes-are, capacity-at, start-at}
 use Rattle.sheets.proofs.Accepted.{well-formed}
+use Rattle.opened.proofs.Versions.{two-first, tail-arc, tail-there}
+use Rattle.opened.proofs.Segments.{first-same}
 
 -- each part of a shape is what the layout says
 pub record Shaped (s : List ℕ) (net : NetShape) : Type 0 where
+  pub version : net .version ≡ versionOf s
   pub places : net .places ≡ placeCount s
   pub transitions : net .transitions ≡ transitionCount s
   pub pairs : net .pairs ≡ pairCount s
   pub modes : net .modes ≡ modeCount s
-  pub arcs : net .arcs ≡ arcCount s
+  pub arcs : net .arcs ≡ length (netOf s .arcs)
   pub pairsAt : net .«pairs_at» ≡ pairsAt s
-  pub arcsAt : net .«arcs_at» ≡ arcsAt s
+  pub arcsAt : net .«arcs_at» ≡ arcCountAt s
 
 -- the net that an open sheet means is well-formed, and as large as its shape says
 pub record Sizes (s : List ℕ) (net : NetShape) : Type 0 where
@@ -54,6 +60,7 @@ module _ {s : List ℕ} {net : NetShape} (o : Open s net) where
   unfolding shapeOf
   shaped =
       record {
+        version = ap (λ n. n .version) (o .shape);
         places = ap (λ n. n .places) (o .shape);
         transitions = ap (λ n. n .transitions) (o .shape);
         pairs = ap (λ n. n .pairs) (o .shape);
@@ -70,35 +77,44 @@ module _ {s : List ℕ} {net : NetShape} (o : Open s net) where
         transitions = shaped .transitions ∙ sym (ap length (modes-of-are s) ∙ counts-length s _ _);
         pairs = shaped .pairs ∙ sym (pairs-are s);
         modes = shaped .modes ∙ sym (modes-are s);
-        arcs = shaped .arcs ∙ sym (arcs-length s);
+        arcs = shaped .arcs;
         pairsWithin = rw (shaped .pairs) (counts-hold s (o .accepted) .pairs);
         modesWithin = rw (shaped .modes) (counts-hold s (o .accepted) .modes);
-        arcsWithin = rw (shaped .arcs) (arcs-within s (o .accepted));
+        arcsWithin = rw (shaped .arcs) (well-formed s (o .accepted) .arcCount);
         wellFormed = well-formed s (o .accepted);
       }
 
-  -- a place, a transition, a pair and an arc that the shape counts are in the sheet
-  pub place-there : (i : ℕ) → i < net .places → coloursAt + 2 * i + 2 ≤ length s
+  -- a place, a transition and a pair that the shape counts are in the sheet
+  pub place-there : (i : ℕ) → i < net .places → coloursAt s + 2 * i + 2 ≤ length s
   place-there i h = omega (arith, shaped, headed s (o .accepted), colours-hold s (o .accepted) i (rw (← shaped .places) h))
 
-  pub transition-there : (i : ℕ) → i < net .transitions → coloursAt + 2 * net .places + 2 * i + 2 ≤ length s
+  pub transition-there : (i : ℕ) → i < net .transitions → coloursAt s + 2 * net .places + 2 * i + 2 ≤ length s
   transition-there i h =
       omega (arith, shaped, headed s (o .accepted), modes-hold s (o .accepted) i (rw (← shaped .transitions) h))
 
   pub pair-there : (p : ℕ) → p < net .pairs → pairAt (pairsAt s) p + 8 ≤ length s
   pair-there p h = omega (arith, headed s (o .accepted), start-holds s (o .accepted) p (rw (← shaped .pairs) h))
 
-  pub arc-there : (k : ℕ) → k < net .arcs → arcAt (arcsAt s) k + arcSize ≤ length s
-  arc-there k h = omega (arith, headed s (o .accepted), arc-holds s (o .accepted) k (rw (← shaped .arcs) h))
+  pub arcs-at-most : net .«arcs_at» ≤ 4000
+  arcs-at-most =
+      let c = counts-hold s (o .accepted) in
+      omega (arith, shaped, fields-at-most s, c .pairs, c .sized .places, c .sized .transitions)
+
+  -- in version 2 the first arc of mode t stands after those of the modes below
+  pub group-before : {t k : ℕ} → net .version ≡ Two → t ≤ net .modes → FirstFrom (netOf s .arcs) t k → Before s (net .«arcs_at») t k
+  group-before {t} {k} e l first =
+      let two = sym (shaped .version) ∙ e in
+      let many : k ≡ arcsBefore s (arcCountAt s) t = first-same _ t k _ first (two-first s (o .accepted) two t (omega (arith, shaped .modes))) in
+      record { accepted = o .accepted; version = two; place = shaped .arcsAt; many = rw (shaped .arcsAt) many }
 
   -- and what stands there is what the net has
-  pub colours-read : (i r : ℕ) → i < net .places → r ≡ u16At s (coloursAt + 2 * i) → (r ≡ getD (netOf s .colours) i 0) × (1 ≤ r) × (r ≤ 64)
+  pub colours-read : (i r : ℕ) → i < net .places → r ≡ u16At s (coloursAt s + 2 * i) → (r ≡ getD (netOf s .colours) i 0) × (1 ≤ r) × (r ≤ 64)
   colours-read i r h e = count-read s _ _ (colours-are s) (sizes .wellFormed .places) i r (rw (← shaped .places) h) e
 
-  pub modes-read : (i r : ℕ) → i < net .transitions → r ≡ u16At s (coloursAt + 2 * net .places + 2 * i)
+  pub modes-read : (i r : ℕ) → i < net .transitions → r ≡ u16At s (coloursAt s + 2 * net .places + 2 * i)
       → (r ≡ getD (netOf s .modesOf) i 0) × (1 ≤ r) × (r ≤ 64)
   modes-read i r h e =
-      let q : coloursAt + 2 * net .places ≡ modesAt s = omega (arith, shaped) in
+      let q : coloursAt s + 2 * net .places ≡ modesAt s = omega (arith, shaped) in
       count-read s _ _ (modes-of-are s) (sizes .wellFormed .transitions) i r (rw (← shaped .transitions) h) (rw q at e)
 
   pub capacity-read : (p : ℕ) → p < net .pairs → bound (u32At s (capacityAt (pairAt (pairsAt s) p))) ≡ K (netOf s) p
@@ -109,28 +125,23 @@ module _ {s : List ℕ} {net : NetShape} (o : Open s net) where
       let is : r ≡ count (netOf s .start) p = e ∙ sym (start-at s p (rw (← shaped .pairs) h)) in
       (is, rw is (sizes .wellFormed .start .inRange p (rw (← sizes .pairs) h)))
 
-  pub arc-mode-is : (k : ℕ) {m : ℕ} → k < net .arcs → m ≡ u16At s (arcModeAt (arcOffset s k)) → m ≡ arcNo (netOf s .arcs) k .mode .0
-  unfolding arcOffset netArcAt
-  arc-mode-is k h e = e ∙ sym (ap (λ a. a .mode .0) (arc-at s k (rw (← shaped .arcs) h)))
+  -- the k-th arc is one of mode t's
+  module _ (t k : ℕ) (h : k < length (netOf s .arcs)) (own : arcNo (netOf s .arcs) k .mode .0 ≡ t) where
+    pub arc-there : tailAt s t k + tailSize ≤ length s
+    arc-there = tail-there s (o .accepted) t k h own
 
-  -- an arc of a mode has that mode in its first field
-  pub arc-own : (k : ℕ) {t : Mode} → k < net .arcs → arcNo (netOf s .arcs) k .mode .0 ≡ t .0 → t ≡ modeNo (u16At s (arcModeAt (arcOffset s k)))
-  unfolding arcOffset netArcAt
-  arc-own k h e = ap modeNo (sym e ∙ ap (λ a. a .mode .0) (arc-at s k (rw (← shaped .arcs) h)))
+    -- fewer than 256 pairs: an arc's is in its second byte
+    pub arc-small : u16At s (tailPairAt (tailAt s t k)) < 256
+    unfolding netArcIn
+    arc-small =
+        let is = tail-arc s (o .accepted) t k h own in
+        let w = sizes .wellFormed .eachArc k h in
+        let z = sizes in
+        omega (arith, ap (λ a. a .pair .0) is)
 
-  -- fewer than 256 modes and pairs: the mode and the pair of an arc are in their second bytes
-  pub arc-small : (k : ℕ) → k < net .arcs → (u16At s (arcModeAt (arcOffset s k)) < 256) × (u16At s (arcOffset s k + 2) < 256)
-  unfolding arcOffset netArcAt
-  arc-small k h =
-      let is = arc-at s k (rw (← shaped .arcs) h) in
-      let w = sizes .wellFormed .eachArc k (rw (← sizes .arcs) h) in
-      let z = sizes in
-      (omega (arith, ap (λ a. a .mode .0) is), omega (arith, ap (λ a. a .pair .0) is))
-
-  pub arc-read : (k : ℕ) (a : Arc) → k < net .arcs → netArc a ≡ netArcAt s (arcOffset s k) → ArcIs s net k a
-  unfolding arcOffset
-  arc-read k a h e =
-      let is : netArc a ≡ arcNo (netOf s .arcs) k = e ∙ sym (arc-at s k (rw (← shaped .arcs) h)) in
-      let w : ArcOf (netOf s) (netArc a) = rw is (sizes .wellFormed .eachArc k (rw (← sizes .arcs) h)) in
-      let z = sizes in
-      record { is = is; mode = omega arith; pair = omega arith; pre = w .pre; post = w .post; inhibitor = w .inhibitor }
+    pub arc-read : (a : Arc) → netArc a ≡ netArcIn s t (tailAt s t k) → ArcIs s net k a
+    arc-read a e =
+        let is : netArc a ≡ arcNo (netOf s .arcs) k = e ∙ tail-arc s (o .accepted) t k h own in
+        let w : ArcOf (netOf s) (netArc a) = rw is (sizes .wellFormed .eachArc k h) in
+        let z = sizes in
+        record { is = is; mode = omega arith; pair = omega arith; pre = w .pre; post = w .post; inhibitor = w .inhibitor }

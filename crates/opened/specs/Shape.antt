@@ -1,15 +1,19 @@
 -- What is worked out once of a net sheet that has been accepted, and what a look into it gives.
 -- A reader of the promises needs `arcOffset` alone.
-use Prim.Native.Nat.{ℕ, _≤_, _<_}
+use Prim.Native.Nat.{ℕ, _+_, _*_, _≤_, _<_}
 use mathlib.Core.Path.{_≡_}
 use mathlib.Core.List.{List}
 use mathlib.Core.Option.{none}
+use lib.ListN.{length}
 use Rattle.model.specs.declared.Arc.{Arc}
+use Rattle.model.specs.declared.Version.{Version}
+use Rattle.model.specs.declared.Version.the-variants.{One, Two}
 use Rattle.model.specs.Numbers.{limit}
 use Rattle.model.specs.Nets.{arcNo}
 use Rattle.model.specs.WellFormed.{InRange}
 use Rattle.opened.specs.declared.shape.NetShape.{NetShape}
-use Rattle.heads.specs.Layout.{placeCount, transitionCount, pairCount, modeCount, arcCount, pairsAt, arcsAt, arcAt}
+use Rattle.heads.specs.Layout.{placeCount, transitionCount, pairCount, modeCount, pairsAt, arcCountAt, arcsAfter, arcsAt, arcAt, groupArcAt, arcsBefore}
+use Rattle.heads.specs.Version.{versionOf}
 use Rattle.fields.specs.Numbers.{bound}
 use Rattle.nets.specs.Nets.{netRefusal}
 use Rattle.sheets.specs.Decoded.{netOf, netArc}
@@ -17,13 +21,14 @@ use Rattle.sheets.specs.Decoded.{netOf, netArc}
 unfoldable pub shapeOf : List ℕ → NetShape
 shapeOf s =
     record {
+      version = versionOf s;
       places = placeCount s;
       transitions = transitionCount s;
       pairs = pairCount s;
       modes = modeCount s;
-      arcs = arcCount s;
+      arcs = length (netOf s .arcs);
       «pairs_at» = pairsAt s;
-      «arcs_at» = arcsAt s;
+      «arcs_at» = arcCountAt s;
     }
 
 -- the one record that every look into a net requires
@@ -40,6 +45,30 @@ pub record ArcIs (s : List ℕ) (net : NetShape) (k : ℕ) (a : Arc) : Type 0 wh
   pub post : a .post ≤ limit
   pub inhibitor : InRange (bound (a .inhibitor))
 
--- "the position of a field, an arc or a byte is the offset of its first byte"
+-- "the position of a field, an arc or a byte is the offset of its first byte": of the k-th arc, which in version 2 stands after the arc counts of its mode and
+-- of those below it, and after k arcs
+abbrev pub offsetBy : Version → List ℕ → ℕ → ℕ
+offsetBy One s k = arcAt (arcsAt s) k
+offsetBy Two s k = groupArcAt (arcsAfter (arcCountAt s + 2 * arcNo (netOf s .arcs) k .mode .0)) k
+
 unfoldable pub arcOffset : List ℕ → ℕ → ℕ
-arcOffset s k = arcAt (arcsAt s) k
+arcOffset s k = offsetBy (versionOf s) s k
+
+-- where the 14 bytes of the k-th arc stand, which is one of mode t's
+abbrev pub leadOf : Version → ℕ → ℕ
+leadOf One t = 4
+leadOf Two t = 2 + 2 * t
+
+abbrev pub strideOf : Version → ℕ
+strideOf One = 16
+strideOf Two = 14
+
+unfoldable pub tailAt : List ℕ → ℕ → ℕ → ℕ
+tailAt s t k = arcCountAt s + leadOf (versionOf s) t + strideOf (versionOf s) * k
+
+-- version 2: k arcs stand before those of mode t, which begin after `base`
+pub record Before (s : List ℕ) (base t k : ℕ) : Type 0 where
+  pub accepted : netRefusal s ≡ none
+  pub version : versionOf s ≡ Two
+  pub place : base ≡ arcCountAt s
+  pub many : k ≡ arcsBefore s base t

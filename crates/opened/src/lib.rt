@@ -1,6 +1,7 @@
 // A net that a call takes as an argument: the shape of an accepted sheet, or its refusal.
 pub mod arcs;
 pub mod finite;
+mod groups;
 pub mod listed;
 pub mod shape;
 pub mod starts;

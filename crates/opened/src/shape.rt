@@ -1,8 +1,11 @@
 // A net sheet that has been accepted, looked into in place: where its parts stand is worked out once a call, and kept by value.
+use crate::groups::count_arcs;
 use heads::bytes::count_at;
-use heads::bytes::small_at;
 use heads::bytes::u32_at;
+use heads::head::fields_at;
+use heads::version::version_of;
 use model::Pair;
+use model::Version;
 use nets::net::mode_count;
 use nets::net::pair_count;
 use nets::net::pairs_at;
@@ -11,41 +14,47 @@ ghost use mathlib.Core.Option.{none};
 ghost use Prim.Native.Nat.{_+_, _≤_, _<_};
 ghost use lib.ListN.{length, getD};
 ghost use Rattle.model.specs.Numbers.{limit};
-ghost use Rattle.model.specs.Nets.{K, count, arcNo};
-ghost use Rattle.heads.specs.Layout.{pairsAt, pairAt, arcSize};
+ghost use Rattle.model.specs.Nets.{K, count};
+ghost use Rattle.heads.specs.Layout.{pairsAt, pairAt};
 ghost use Rattle.fields.specs.Numbers.{bound};
 ghost use Rattle.nets.specs.Nets.{netRefusal};
 ghost use Rattle.sheets.specs.Decoded.{netOf};
-ghost use Rattle.opened.specs.Shape.{shapeOf, Open, arcOffset};
+ghost use Rattle.opened.specs.Shape.{shapeOf, Open};
 
-// How many places, transitions, pairs, modes and arcs a net has, and where its pairs and its arcs stand in the sheet.
+// The version of a net's sheet, how many places, transitions, pairs, modes and arcs the net has, and where its pairs, and then its arcs with their counts,
+// stand in the sheet.
 pub struct NetShape {
+    pub version: Version,
     pub places: usize,
     pub transitions: usize,
     pub pairs: usize,
     pub modes: usize,
     pub arcs: usize,
     pairs_at: usize,
-    arcs_at: usize,
+    pub(crate) arcs_at: usize,
 }
 
 pub fn shape_of(s: &[u8]) -> NetShape
     requires { ⌜ netRefusal (now s) ≡ none ⌝ }
     ensures { λ r. ⌜ r ≡ shapeOf (now (s .entry)) ⌝ }
 {
-    let places = count_at(s, 5);
-    let transitions = count_at(s, 7);
+    let version = version_of(s);
+    let fields = fields_at(s);
+    let places = count_at(s, fields);
+    let transitions = count_at(s, fields + 2);
     let pairs = pair_count(s);
+    let modes = mode_count(s);
     let first_pair = pairs_at(s);
     let at = first_pair + 8 * pairs;
     NetShape {
+        version,
         places,
         transitions,
         pairs,
-        modes: mode_count(s),
-        arcs: count_at(s, at),
+        modes,
+        arcs: count_arcs(s, at, modes),
         pairs_at: first_pair,
-        arcs_at: at + 2,
+        arcs_at: at,
     }
 }
 
@@ -55,7 +64,7 @@ pub fn colours_of(s: &[u8], net: NetShape, place: usize) -> usize
     requires { ⌜ place < net .places ⌝ }
     ensures { λ r. ⌜ (r ≡ getD (netOf (now (s .entry)) .colours) place 0) × (1 ≤ r) × (r ≤ 64) ⌝ }
 {
-    count_at(s, 9 + 2 * place)
+    count_at(s, fields_at(s) + 4 + 2 * place)
 }
 
 // How many modes a transition has.
@@ -64,7 +73,7 @@ pub fn modes_of(s: &[u8], net: NetShape, transition: usize) -> usize
     requires { ⌜ transition < net .transitions ⌝ }
     ensures { λ r. ⌜ (r ≡ getD (netOf (now (s .entry)) .modesOf) transition 0) × (1 ≤ r) × (r ≤ 64) ⌝ }
 {
-    count_at(s, 9 + 2 * net.places + 2 * transition)
+    count_at(s, fields_at(s) + 4 + 2 * net.places + 2 * transition)
 }
 
 fn pair_at(s: &[u8], net: NetShape, pair: Pair) -> usize
@@ -91,22 +100,4 @@ pub fn start_count(s: &[u8], net: NetShape, pair: Pair) -> u32
     ensures { λ r. ⌜ (r ≡ count (netOf (now (s .entry)) .start) (pair .0)) × (r ≤ limit) ⌝ }
 {
     u32_at(s, pair_at(s, net, pair) + 4)
-}
-
-// Where the k-th arc of the net stands in the sheet.
-pub(crate) fn arc_at(s: &[u8], net: NetShape, k: usize) -> usize
-    requires { ⌜ Open (now s) net ⌝ }
-    requires { ⌜ k < net .arcs ⌝ }
-    ensures { λ r. ⌜ (r ≡ arcOffset (now (s .entry)) k) × (r + arcSize ≤ length (now (s .entry))) ⌝ }
-{
-    net.arcs_at + 16 * k
-}
-
-// Its mode, as a number.
-pub(crate) fn arc_mode(s: &[u8], net: NetShape, k: usize) -> usize
-    requires { ⌜ Open (now s) net ⌝ }
-    requires { ⌜ k < net .arcs ⌝ }
-    ensures { λ r. ⌜ r ≡ arcNo (netOf (now (s .entry)) .arcs) k .mode .0 ⌝ }
-{
-    small_at(s, arc_at(s, net, k)) as usize
 }

@@ -1,8 +1,14 @@
 // Where the arcs of each mode stand: a movement visits its mode's arcs alone.
+use crate::groups::arcs_before;
+use crate::groups::group_end;
 use crate::shape::NetShape;
-use crate::shape::arc_mode;
+use heads::bytes::small_at;
 use model::Mode;
+use model::Version;
+ghost use mathlib.Core.Path.{_≡_};
 ghost use Prim.Native.Nat.{_+_, _≤_, _<_};
+ghost use Rattle.model.specs.declared.Version.the-variants.{One};
+ghost use Rattle.model.specs.Nets.{arcNo};
 ghost use Rattle.sheets.specs.Decoded.{netOf};
 ghost use Rattle.opened.specs.Shape.{Open};
 ghost use Rattle.opened.specs.Starts.{ModesBelow, FirstBetween, Narrower, FirstFrom, StartsAre, SegmentOf};
@@ -14,9 +20,20 @@ pub struct Segment {
     pub count: usize,
 }
 
-// The first arc whose mode is at least `t`, looked for from `k` on.
+// Version 1: the mode of the k-th arc, as a number.
+fn arc_mode(s: &[u8], net: NetShape, k: usize) -> usize
+    requires { ⌜ Open (now s) net ⌝ }
+    requires { ⌜ net .version ≡ One ⌝ }
+    requires { ⌜ k < net .arcs ⌝ }
+    ensures { λ r. ⌜ r ≡ arcNo (netOf (now (s .entry)) .arcs) k .mode .0 ⌝ }
+{
+    small_at(s, net.arcs_at + 2 + 16 * k) as usize
+}
+
+// Version 1: the first arc whose mode is at least `t`, looked for from `k` on.
 fn first_from(s: &[u8], net: NetShape, t: usize, k: usize) -> usize
     requires { ⌜ Open (now s) net ⌝ }
+    requires { ⌜ net .version ≡ One ⌝ }
     requires { ⌜ k ≤ net .arcs ⌝ }
     requires { ⌜ ModesBelow (netOf (now s) .arcs) t k ⌝ }
     ensures { λ r. ⌜ FirstFrom (netOf (now (s .entry)) .arcs) t r ⌝ }
@@ -32,6 +49,20 @@ fn first_from(s: &[u8], net: NetShape, t: usize, k: usize) -> usize
     i
 }
 
+// Where the arcs of mode t end, which start at k: the first arc of a later mode.
+fn next_start(s: &[u8], net: NetShape, t: usize, k: usize) -> usize
+    requires { ⌜ Open (now s) net ⌝ }
+    requires { ⌜ t < net .modes ⌝ }
+    requires { ⌜ FirstFrom (netOf (now s) .arcs) t k ⌝ }
+    ensures { λ r. ⌜ FirstFrom (netOf (now (s .entry)) .arcs) (t + 1) r ⌝ }
+{
+    let version = net.version;
+    match version {
+        Version::One => first_from(s, net, t + 1, k),
+        Version::Two => group_end(s, net.arcs_at, t, k),
+    }
+}
+
 // The table for a run: entry t is the first arc whose mode is at least t. From the last mode on there is none, so the table begins with that.
 pub fn starts(s: &[u8], net: NetShape) -> [u16; 257]
     requires { ⌜ Open (now s) net ⌝ }
@@ -42,8 +73,8 @@ pub fn starts(s: &[u8], net: NetShape) -> [u16; 257]
     let mut k = 0;
     let mut t = 0;
     while t < modes {
-        k = first_from(s, net, t, k);
         table[t] = k as u16;
+        k = next_start(s, net, t, k);
         t += 1;
     }
     table
@@ -75,6 +106,7 @@ struct Span {
 // The half of it in which that arc stands.
 fn halve(s: &[u8], net: NetShape, t: usize, span: Span) -> Span
     requires { ⌜ Open (now s) net ⌝ }
+    requires { ⌜ net .version ≡ One ⌝ }
     requires { ⌜ FirstBetween (netOf (now s) .arcs) t span ⌝ }
     requires { ⌜ span .low < span .high ⌝ }
     ensures { λ r. ⌜ Narrower (netOf (now (s .entry)) .arcs) t span r ⌝ }
@@ -92,9 +124,10 @@ fn halve(s: &[u8], net: NetShape, t: usize, span: Span) -> Span
     }
 }
 
-// The first arc whose mode is at least `t`, by halves: arcs rise by mode.
+// Version 1: the first arc whose mode is at least `t`, by halves: arcs rise by mode.
 fn search_first(s: &[u8], net: NetShape, t: usize) -> usize
     requires { ⌜ Open (now s) net ⌝ }
+    requires { ⌜ net .version ≡ One ⌝ }
     ensures { λ r. ⌜ FirstFrom (netOf (now (s .entry)) .arcs) t r ⌝ }
 {
     let mut span = Span {
@@ -107,6 +140,19 @@ fn search_first(s: &[u8], net: NetShape, t: usize) -> usize
     span.low
 }
 
+// Version 2 has no arc's mode to look at: the arcs of the modes below are counted.
+fn find_start(s: &[u8], net: NetShape, t: usize) -> usize
+    requires { ⌜ Open (now s) net ⌝ }
+    requires { ⌜ t < net .modes ⌝ }
+    ensures { λ r. ⌜ FirstFrom (netOf (now (s .entry)) .arcs) t r ⌝ }
+{
+    let version = net.version;
+    match version {
+        Version::One => search_first(s, net, t),
+        Version::Two => arcs_before(s, net.arcs_at, t),
+    }
+}
+
 // The arcs of a mode, looked for in the sheet: where one mode is all that a call asks of.
 pub fn find_arcs(s: &[u8], net: NetShape, mode: Mode) -> Segment
     requires { ⌜ Open (now s) net ⌝ }
@@ -114,8 +160,8 @@ pub fn find_arcs(s: &[u8], net: NetShape, mode: Mode) -> Segment
     ensures { λ r. ⌜ SegmentOf (netOf (now (s .entry)) .arcs) mode r ⌝ }
 {
     let t = mode.0 as usize;
-    let start = search_first(s, net, t);
-    let end = first_from(s, net, t + 1, start);
+    let start = find_start(s, net, t);
+    let end = next_start(s, net, t, start);
     Segment {
         mode,
         start,

@@ -1,24 +1,26 @@
 -- Each call's chain of checks is read off its table.
 use Prim.Native.Nat.{ℕ, zero, suc, _+_, _-_, _<_}
 use mathlib.Core.Path.{_≡_, refl, sym, _∙_, ap, subst, subst⁻¹}
-use mathlib.Core.Bool.{false≢true, not, _&&_}
+use mathlib.Core.Bool.{Bool, true, false, false≢true, not, _&&_}
 use mathlib.Core.List.{List, [], _∷_}
-use mathlib.Core.Logic.{_⊎_, inl, inr, ⊎-elim}
+use mathlib.Core.Logic.{_⊎_, _≢_, inl, inr, ⊎-elim}
 use mathlib.Core.Option.{Option, none, some}
-use lib.Dec.{leb}
+use lib.Dec.{leb, ltb, eqb}
 use lib.IntN.{ℤ, pos}
 use lib.ListN.{length, take, getD}
-use borrow.Author.Tests.{le-ltb}
+use borrow.Author.Tests.{le-ltb, ne-eqb}
 use native.Mathlib.Omega.{arith}
 use Rattle.model.specs.declared.Mode.{Mode}
 use Rattle.model.specs.declared.Thing.{Thing}
 use Rattle.model.specs.declared.Thing.the-variants.{Net, Weights, Movements, Argument}
 use Rattle.model.specs.declared.Why.{Why}
 use Rattle.model.specs.declared.Why.the-variants.{Lacking, OverCapacity, Inhibited, OverLimit}
-use Rattle.model.specs.declared.Fault.the-variants.{EndsElsewhere}
+use Rattle.model.specs.declared.Fault.the-variants.{CutShort, WrongVersion, WrongLength, EndsElsewhere}
+use Rattle.model.specs.declared.Version.{Version}
+use Rattle.model.specs.declared.Version.the-variants.{One, Two}
 use Rattle.model.specs.declared.Refusal.{Refusal}
 use Rattle.model.specs.declared.Answer.the-variants.{Refused}
-use Rattle.model.specs.First.{_▸_, first}
+use Rattle.model.specs.First.{_▸_, first, onlyIf}
 use Rattle.model.specs.Refusals.{carried, wrong, thingNumber}
 use Rattle.model.specs.RefusalTables.{Table, row, _then_, each, Reads}
 use Rattle.model.specs.Numbers.{ℕ∞, fin, ∞, aboveBy, limit}
@@ -38,21 +40,26 @@ use Rattle.model.proofs.RefusalTables.{four, reads-row, reads-plain, reads-then
 use Rattle.model.proofs.Firing.{one-each-reads, missing-reads, refusal-table}
 use Rattle.model.proofs.Steps.{pre-is, post-is, low-is, by-some}
 use Rattle.model.proofs.Exclusion.{by-same}
-use Rattle.heads.specs.Layout.{sheetEnd}
+use Rattle.heads.specs.Layout.{bodyLength, sheetEnd, version}
+use Rattle.heads.specs.Checks.{known, headRefusal}
+use Rattle.nets.specs.Nets.{netFields, netRefusal}
 use Rattle.sheets.specs.Whole.{bytesAfter, wholeNet, wholeWeights, wholeMovements}
 use Rattle.sheets.specs.Decoded.{netOf, weightsOf, movementsOf}
+use Rattle.sheets.specs.RefusalTables.{headTable}
 use Rattle.sheets.proofs.RefusalTables.{sheet-tables}
+use Rattle.written.specs.Written.{versionNumber}
+use Rattle.written.proofs.Versions.{version-known}
 use Rattle.opened.specs.Shape.{arcOffset}
-use Rattle.written.specs.Written.{sheetOf}
 use Rattle.fire.specs.Calls.{beginRefusal, testRefusal}
 use Rattle.run.specs.Calls.{beforeRun, runOf, certifyRefusal}
 use Rattle.step.specs.Calls.{stepModes, testStepRefusal}
 use Rattle.weigh.specs.Calls.{figureRefusal, changeRefusal}
 use Rattle.exclude.specs.Calls.{excludeRefusal}
 use Rattle.dead.specs.IsDead.{deadRefusal}
-use Rattle.complement.specs.Complemented.{roomRefusal, complementingRefusal}
+use Rattle.complement.specs.Complemented.{complementSheet, roomRefusal, complementingRefusal}
+use Rattle.convert.specs.Converted.{ofVersion, convertedSheet, tooShort, convertRefusal}
 use Rattle.audit.specs.Audits.{auditingRefusal}
-use Rattle.promises.specs.CallTables.{bytesLeft, wholeNetTable, wholeWeightTable, wholeMovementTable, markingAfter, movesTable, certificateTable, stepTable, roomTable, RunReads, CallTables, claimTable}
+use Rattle.promises.specs.CallTables.{bytesLeft, wholeNetTable, wholeWeightTable, wholeMovementTable, markingAfter, movesTable, certificateTable, stepTable, roomTable, convertTable, RunReads, CallTables, claimTable}
 
 -- a sheet's table, then left-over bytes
 whole-reads : (thing : Thing) (s : List ℕ) {table : Table} {o : Option Refusal} → Reads table o → Reads (table then bytesLeft (thingNumber thing) s) (o ▸ bytesAfter thing s)
@@ -191,18 +198,57 @@ room-reads s room =
     subst (Reads _) (sym (then-assoc _ _ _))
     (reads-then (reads-each (length (net .arcs)) (λ k l. reads-plain _ (by-and (by-finite _) (by-unbounded _))))
     (reads-either _ (past-limits (length (complement net .colours)) (pairs (complement net)) (length (complement net .arcs)))
-    (by-less room (length (sheetOf (complement net))))))
+    (by-less room (length (complementSheet s)))))
 
 -- an audit: where the room is the sheet's own length, complementing is never short of it
-room-refusal : (s : List ℕ) → roomRefusal s (length (sheetOf (complement (netOf s)))) ≡ complementRefusal (arcOffset s) (netOf s)
+room-refusal : (s : List ℕ) → roomRefusal s (length (complementSheet s)) ≡ complementRefusal (arcOffset s) (netOf s)
 unfolding roomRefusal
-room-refusal s = let n = length (sheetOf (complement (netOf s))) in rw (le-ltb n n (omega arith)) (then-none _)
+room-refusal s = let n = length (complementSheet s) in rw (le-ltb n n (omega arith)) (then-none _)
 
 audit-refusal : (net marking beside : List ℕ)
-    → complementingRefusal net (length (sheetOf (complement (netOf net)))) ▸ unequal (netOf net) marking ▸ unequal (complement (netOf net)) beside
+    → complementingRefusal net (length (complementSheet net)) ▸ unequal (netOf net) marking ▸ unequal (complement (netOf net)) beside
     ≡ auditingRefusal net marking beside
 unfolding complementingRefusal auditingRefusal auditRefusal
 audit-refusal net marking beside = rw (room-refusal net) (then-assoc _ _ _)
+
+-- a conversion: 2 has been given for every version byte that the net's own 2 is for
+two-once : (a b c rest : Option Refusal) (k e : Bool) (r : Refusal) → (k ≡ true → e ≡ true)
+    → (a ▸ b ▸ c ▸ onlyIf k r) ▸ onlyIf e r ▸ rest ≡ (a ▸ b ▸ c ▸ onlyIf e r) ▸ (a ▸ b ▸ c ▸ onlyIf k r) ▸ rest
+unfolding _▸_
+two-once (some x) b c rest k e r h = refl
+two-once none (some x) c rest k e r h = refl
+two-once none none (some x) rest k e r h = refl
+two-once none none none rest false e r h = refl
+two-once none none none rest true e r h = rw (h refl)
+
+unknown-other : (v : Version) (n : ℕ) → not (known Net n) ≡ true → not (eqb n (versionNumber v)) ≡ true
+unknown-other v n e = ap not (ne-eqb n (versionNumber v) (λ q. false≢true (sym (ap not (version-known v n q)) ∙ e)))
+
+module _ (source target : Version) (s : List ℕ) (room : ℕ) where
+  abbrev sourceHead : Option Refusal
+  sourceHead =
+      onlyIf (ltb (length s) 4) (wrong Net CutShort)
+      ▸ onlyIf (ltb (length s) (sheetEnd s)) (wrong Net CutShort)
+      ▸ onlyIf (eqb (bodyLength s) 0) (wrong Net (WrongLength 0))
+      ▸ onlyIf (not (eqb (version s) (versionNumber source))) (wrong Net (WrongVersion 4))
+
+  source-reads : Reads (headTable 0 s (version s ≢ versionNumber source)) sourceHead
+  source-reads =
+      subst (Reads (headTable 0 s (version s ≢ versionNumber source))) (then-assoc (onlyIf (ltb (length s) 4) (wrong Net CutShort)) _ _)
+      (reads-then (reads-either (wrong Net CutShort) (by-less (length s) 4) (by-less (length s) (sheetEnd s)))
+      (reads-then (reads-plain _ (by-equal (bodyLength s) 0)) (reads-plain _ (by-not (by-equal (version s) (versionNumber source))))))
+
+  source-refusal : sourceHead ▸ wholeNet s ≡ ofVersion source s
+  unfolding ofVersion wholeNet netRefusal headRefusal
+  source-refusal =
+      ap (λ o. sourceHead ▸ o) (then-assoc (headRefusal Net s) (netFields s) (bytesAfter Net s))
+      ∙ sym (two-once _ _ _ (netFields s ▸ bytesAfter Net s) _ _ (wrong Net (WrongVersion 4)) (unknown-other source (version s)))
+
+  convert-reads : Reads (convertTable s source target room) (convertRefusal source target s room)
+  unfolding convertRefusal tooShort
+  convert-reads =
+      subst (Reads _) (sym (then-assoc sourceHead _ _) ∙ ap (λ o. o ▸ tooShort target s room) source-refusal)
+      (reads-then source-reads (reads-then (net-reads s) (reads-plain _ (by-less room (length (convertedSheet target s))))))
 
 pub call-tables : CallTables
 unfolding beginRefusal testRefusal testStepRefusal certifyRefusal figureRefusal changeRefusal excludeRefusal deadRefusal complementingRefusal
@@ -231,8 +277,10 @@ call-tables =
           (reads-then (refusal-table .marking (netOf net) claim) (claim-reads (netOf net) (weightsOf weights) claim)));
       isDead = λ net t. reads-then (net-reads net) (missing-reads Argument (netOf net) t);
       complement = λ net room. reads-then (net-reads net) (room-reads net room);
+      toVersion2 = convert-reads One Two;
+      toVersion1 = convert-reads Two One;
       audit = λ net marking beside.
           subst (Reads _) (audit-refusal net marking beside)
-          (reads-then (reads-then (net-reads net) (room-reads net (length (sheetOf (complement (netOf net))))))
+          (reads-then (reads-then (net-reads net) (room-reads net (length (complementSheet net))))
           (reads-then (one-each-reads (netOf net) marking) (one-each-reads (complement (netOf net)) beside)));
     }

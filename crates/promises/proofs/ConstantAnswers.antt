@@ -14,17 +14,19 @@ use Rattle.model.specs.declared.Thing.the-variants.{Net, Weights, Movements}
 use Rattle.model.specs.declared.Fault.the-variants.{CutShort}
 use Rattle.model.specs.declared.Refusal.{Refusal}
 use Rattle.model.specs.declared.Answer.{Answer}
+use Rattle.model.specs.declared.Version.{Version}
+use Rattle.model.specs.declared.Version.the-variants.{One, Two}
 use Rattle.model.specs.First.{_▸_}
 use Rattle.model.specs.Refusals.{answer, number, wrong}
 use Rattle.model.specs.Nets.{modeNo}
-use Rattle.model.proofs.First.{left-none, some-then}
+use Rattle.model.proofs.First.{left-none, none-then, some-then}
 use Rattle.heads.specs.Checks.{headRefusal}
 use Rattle.nets.specs.Nets.{netRefusal}
 use Rattle.lists.specs.Weights.{weightsRefusal}
 use Rattle.lists.specs.Movements.{movementsRefusal}
 use Rattle.sheets.specs.Whole.{wholeNet, wholeWeights, wholeMovements, rest}
 use Rattle.heads.specs.Bytes.{u16At, u32At}
-use Rattle.written.proofs.SheetLength.{sheet-size}
+use Rattle.written.proofs.SheetLength.{sheet-least}
 use Rattle.fire.specs.Calls.{beginRefusal, testRefusal}
 use Rattle.run.specs.Calls.{beforeRun, runOf, certifyRefusal}
 use Rattle.step.specs.Calls.{testStepRefusal}
@@ -37,6 +39,10 @@ use Rattle.dead.specs.FirstDead as first
 use Rattle.complement.specs.Complemented.{complementingRefusal}
 use Rattle.size.specs.Sizes as sizing
 use Rattle.complement.specs.Complemented as complementing
+use Rattle.convert.specs.Converted.{ofVersion, convertedSheet, convertRefusal, conversionOf}
+use Rattle.convert.specs.Converted as converting
+use Rattle.convert.proofs.Answers.{roomy}
+use Rattle.convert.proofs.Promises.{source-only, converted-reads}
 use Rattle.audit.specs.Audits.{finds, auditingRefusal}
 use Rattle.audit.specs.Audits as auditing
 use Rattle.text.specs.declared.Put.{Put}
@@ -130,6 +136,10 @@ complement-cut : complementingRefusal lone 0 ≡ some (cutShort Net)
 unfolding complementingRefusal
 complement-cut = whole-cut _
 
+convert-cut : (source target : Version) → convertRefusal source target lone 0 ≡ some (cutShort Net)
+unfolding convertRefusal ofVersion
+convert-cut source target = some-then _ (head-cut Net _)
+
 audit-cut : auditingRefusal lone [] [] ≡ some (cutShort Net)
 unfolding auditingRefusal
 audit-cut = whole-cut _
@@ -194,6 +204,15 @@ module _ (input out : List ℕ) (o : Stated × List ℕ) (allowed : StatementAll
   unfolding stated
   text-refused h = ap (λ s. textTold s .carried .number) (allowed .0) ∙ rw (lt-ltb (length out) room h)
 
+-- document 01's example in version 2 and back, each into a slice that is long enough
+own-source : ofVersion One own.net ≡ none
+own-source = source-only .own One own.net (read-back .version) ∙ read-back .accepted
+
+converts : (source target : Version) (net : List ℕ) → ofVersion source net ≡ none
+    → converting.told (conversionOf source target net (slice (length (convertedSheet target net)) .0)) .carried .number ≡ 0
+unfolding convertRefusal
+converts source target net e = rw (none-then e (roomy target net (slice (length (convertedSheet target net)) .1)))
+
 pub constant-answers : ConstantAnswers
 unfolding wholeNet wholeWeights wholeMovements beginRefusal testRefusal runOf certifyRefusal figured finds decimal decimalWithin signedDecimal
 constant-answers =
@@ -201,7 +220,7 @@ constant-answers =
       readNet = varies _ _ own.net lone (says net-accepted) (says net-cut);
       readWeights = varies _ _ (sheets.weights, 2) (lone, 2) (says weights-accepted) (says weights-cut);
       readMovements = varies _ _ sheets.movements lone (says movements-accepted) (says movements-cut);
-      afterNet = part-varies _ _ own.net lone (hands-back after-net) (hands-back (back-whole lone net-cut)) (omega (arith, sheet-size own.example));
+      afterNet = part-varies _ _ own.net lone (hands-back after-net) (hands-back (back-whole lone net-cut)) (omega (arith, sheet-least One own.example));
       afterWeights = part-varies _ _ (sheets.weights, 2) (lone, 2) (hands-back after-weights) (hands-back (back-whole lone weights-cut)) (omega arith);
       afterMovements = part-varies _ _ sheets.movements lone (hands-back after-movements) (hands-back (back-whole lone movements-cut)) (omega arith);
       wholeNet = varies _ _ own.net lone (says (read-back .accepted)) (says (some-then _ net-cut));
@@ -237,6 +256,15 @@ constant-answers =
       complement =
           varies _ _ (own.net, own.room) (lone, []) (λ o a. ap (λ r. r .carried .number) (own-example .complement o a))
           (λ o a. ap (λ o. complementing.told o .carried .number) (a .0) ∙ rw complement-cut);
+      toVersion2 =
+          varies _ _ (own.net, slice (length (convertedSheet Two own.net)) .0) (lone, [])
+          (λ o a. ap (λ o. converting.told o .carried .number) (a .0) ∙ converts One Two own.net own-source)
+          (λ o a. ap (λ o. converting.told o .carried .number) (a .0) ∙ rw (convert-cut One Two));
+      toVersion1 =
+          let two = convertedSheet Two own.net in
+          varies _ _ (two, slice (length (convertedSheet One two)) .0) (lone, [])
+          (λ o a. ap (λ o. converting.told o .carried .number) (a .0) ∙ converts Two One two (converted-reads One Two own.net own-source .back))
+          (λ o a. ap (λ o. converting.told o .carried .number) (a .0) ∙ rw (convert-cut Two One));
       audit =
           varies _ _ (own.net, 3 ∷ 1 ∷ [], 2 ∷ 1 ∷ 3 ∷ []) (lone, [], []) (λ o a. ap (λ r. r .carried .number) (own-example .audit o a))
           (λ o a. ap (λ o. auditing.told o .carried .number) a ∙ rw audit-cut);

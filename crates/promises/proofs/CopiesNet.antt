@@ -1,5 +1,5 @@
 -- A net with a bounded pair has fewer places than its complement, so that its own sheet is not the complement's.
-use Prim.Native.Nat.{ℕ, _≤_, _<_}
+use Prim.Native.Nat.{ℕ, _+_, _≤_, _<_}
 use mathlib.Core.Path.{_≡_, refl, sym, _∙_, ap}
 use mathlib.Core.List.{List, [], _∷_, _++_, append-nil}
 use mathlib.Core.Option.{Option, none, some}
@@ -15,7 +15,8 @@ use Rattle.model.proofs.Bounded.{bounded-number}
 use Rattle.model.proofs.ComplementNet.{pairs-complement}
 use Rattle.model.proofs.Demand3.{demand3}
 use Rattle.heads.specs.Bytes.{byteAt, u16At}
-use Rattle.heads.specs.Layout.{placeCount}
+use Rattle.heads.specs.Layout.{fieldsAt, placeCount}
+use Rattle.heads.specs.Version.{versionOf}
 use Rattle.nets.specs.Nets.{netRefusal}
 use Rattle.sheets.specs.Whole.{wholeNet}
 use Rattle.sheets.specs.Decoded.{netOf}
@@ -45,15 +46,21 @@ more-places net p k h e = go (newPlaces (K net) (net .colours)) refl
 places-are : (s : List ℕ) → placeCount s ≡ length (netOf s .colours)
 places-are s = sym (ap length (colours-are s) ∙ counts-length s _ _)
 
-same-places : (net s : List ℕ) → netRefusal net ≡ none → take (length net) s ≡ net → placeCount s ≡ placeCount net
-unfolding u16At
-same-places net s e same = rw (byte 5 (omega (arith, sized)), byte 6 (omega (arith, sized)))
-  where
-    sized : 9 ≤ length net
-    sized = let c = counts-hold net e in omega (arith, c .sized .there, c .sized .head .there)
+-- a run that begins with a net sheet's bytes has its version, and as many places
+module _ (net s : List ℕ) (accepted : netRefusal net ≡ none) (same : take (length net) s ≡ net) where
+  sized : fieldsAt net + 4 ≤ length net
+  sized = let c = counts-hold net accepted in omega (arith, c .sized .there, c .sized .head .there)
 
-    byte : (i : ℕ) → i < length net → byteAt s i ≡ byteAt net i
-    byte i h = sym (getD-take (length net) s i 0 h) ∙ ap (λ l. byteAt l i) same
+  byte : (i : ℕ) → i < length net → byteAt s i ≡ byteAt net i
+  byte i h = sym (getD-take (length net) s i 0 h) ∙ ap (λ l. byteAt l i) same
+
+  same-fields : fieldsAt s ≡ fieldsAt net
+  unfolding fieldsAt versionOf
+  same-fields = rw (byte 4 (omega (arith, counts-hold net accepted .sized .head)))
+
+  same-places : placeCount s ≡ placeCount net
+  unfolding u16At
+  same-places = rw (same-fields, byte (fieldsAt net) (omega (arith, sized)), byte (fieldsAt net + 1) (omega (arith, sized)))
 
 net-accepted : (net : List ℕ) (room : ℕ) → complementingRefusal net room ≡ none → netRefusal net ≡ none
 unfolding complementingRefusal wholeNet
@@ -61,7 +68,7 @@ net-accepted net room e = left-none (netRefusal net) _ (left-none _ _ e)
 
 written-places : (net out : List ℕ) → complementingRefusal net (length out) ≡ none → placeCount (outputOf net out) ≡ length (complement (netOf net) .colours)
 written-places net out e =
-    let back = written-then-read (complement (netOf net)) (demand3 (netOf net) (complementable net (length out) e) .isNet) in
+    let back = written-then-read (versionOf net) (complement (netOf net)) (demand3 (netOf net) (complementable net (length out) e) .isNet) in
     rw e (places-are _ ∙ ap (λ n. length (n .colours)) (back .sameFirst _))
 
 pub copies-net : CopiesNet

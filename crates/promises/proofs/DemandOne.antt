@@ -9,6 +9,8 @@ use lib.Dec.{leb, ltb}
 use lib.ListN.{length, take, drop}
 use native.Mathlib.Omega.{arith}
 use Rattle.model.specs.declared.Refusal.{Refusal}
+use Rattle.model.specs.declared.Version.{Version}
+use Rattle.model.specs.declared.Version.the-variants.{One, Two}
 use Rattle.model.specs.Refusals.{answer}
 use Rattle.model.specs.Nets.{PNet}
 use Rattle.model.specs.Promises.{Leads, stays}
@@ -21,6 +23,8 @@ use Rattle.run.specs.Calls.{runOf}
 use Rattle.run.proofs.Promises.{runs-leave}
 use Rattle.step.specs.Calls.{stepModes, testStepRefusal}
 use Rattle.complement.specs.Complemented.{complementSheet, complementingRefusal, told, complemented, output}
+use Rattle.convert.specs.Converted.{convertedSheet, convertRefusal, converted, conversionOf, outputOf}
+use Rattle.convert.specs.Converted as converting
 use Rattle.text.specs.declared.Put.the-variants.{To, Full}
 use Rattle.text.specs.Puts.{endWithin, putTo, putInto}
 use Rattle.statement.specs.declared.Stated.the-variants.{Written, NoRoom}
@@ -35,6 +39,17 @@ kept (some r) new found h = refl
 output-kept : (o : Option Refusal) (n : ℕ) (sheet found : List ℕ) → told (complemented o n) .carried .number ≢ 0 → output o sheet found ≡ found
 output-kept none n sheet found h = absurd (h refl)
 output-kept (some r) n sheet found h = refl
+
+converted-kept : (source target : Version) (net out : List ℕ) → converting.told (conversionOf source target net out) .carried .number ≢ 0
+    → outputOf source target net out ≡ out
+converted-kept source target net out h = go (convertRefusal source target net (length out)) h
+  where
+    sheet : List ℕ
+    sheet = convertedSheet target net
+
+    go : (o : Option Refusal) → converting.told (converted o (length sheet)) .carried .number ≢ 0 → converting.output o sheet out ≡ out
+    go none h = absurd (h refl)
+    go (some r) h = refl
 
 put-kept : (out : List ℕ) (at : ℕ) (bytes : List ℕ) → putTo out at bytes ≡ Full → putInto out at bytes ≡ out
 unfolding endWithin putTo putInto
@@ -73,6 +88,10 @@ demand-one =
           allows .1
           ∙ output-kept (complementingRefusal net (length out)) (length (complementSheet net)) (complementSheet net) out
           (subst (λ c. told c .carried .number ≢ 0) (allows .0) refused);
+      toVersion2 = λ net out o allows refused.
+          allows .1 ∙ converted-kept One Two net out (subst (λ c. converting.told c .carried .number ≢ 0) (allows .0) refused);
+      toVersion1 = λ net out o allows refused.
+          allows .1 ∙ converted-kept Two One net out (subst (λ c. converting.told c .carried .number ≢ 0) (allows .0) refused);
       run = λ net movements marking o allows refused. run-leads net movements marking (ap (λ ran. ran .accepted) (allows .0)) (allows .1);
       runNone = λ net movements marking o allows e.
           stays-is (rw e at (run-leads net movements marking (ap (λ ran. ran .accepted) (allows .0)) (allows .1)));
@@ -94,6 +113,8 @@ demand-one-for-c =
           allows .1
           ∙ output-kept (complementingRefusal net (length out)) (length (complementSheet net)) (complementSheet net) out
           (subst (λ c. c .answer .number ≢ 0) (allows .0) refused);
+      toVersion2 = λ net out o allows refused. allows .1 ∙ converted-kept One Two net out (subst (λ c. c .answer .number ≢ 0) (allows .0) refused);
+      toVersion1 = λ net out o allows refused. allows .1 ∙ converted-kept Two One net out (subst (λ c. c .answer .number ≢ 0) (allows .0) refused);
       statement = λ input out o allows refused. allows .1 ∙ text-kept input out (subst (λ c. c .answer .number ≢ 0) (allows .0) refused);
       run = λ net movements marking o allows refused. run-leads net movements marking (ap (λ c. c .accepted) (allows .0)) (allows .1);
       runNone = λ net movements marking o allows e.

@@ -9,6 +9,7 @@ use Rattle.model.specs.Complement.{complement}
 use Rattle.model.specs.DemandThree.{Complementable}
 use Rattle.model.proofs.First.{left-none, right-none}
 use Rattle.model.proofs.Demand3.{demand3}
+use Rattle.heads.specs.Version.{versionOf}
 use Rattle.nets.specs.Nets.{netRefusal}
 use Rattle.sheets.specs.Whole.{wholeNet}
 use Rattle.sheets.specs.Decoded.{netOf}
@@ -30,7 +31,7 @@ complementable net room e =
 pub over-bytes : OverBytes
 over-bytes net out e =
     let three = demand3 (netOf net) (complementable net (length out) e) in
-    let back = written-then-read (complement (netOf net)) (three .isNet) in
+    let back = written-then-read (versionOf net) (complement (netOf net)) (three .isNet) in
     let sheet = complementSheet net in
     let taken : take (length sheet) (outputOf net out) ≡ sheet = rw e (take-append-seam sheet _) in (
       length sheet,

@@ -5,6 +5,7 @@ use Rattle.promises.proofs.ConstantAnswersForC.{constant-answers-for-c}
 use Rattle.promises.proofs.ConstantAmounts.{constant-amounts}
 use Rattle.promises.proofs.WritesNothing.{writes-nothing}
 use Rattle.promises.proofs.CopiesNet.{copies-net}
+use Rattle.promises.proofs.CopiesSheet.{copies-sheet}
 use Rattle.promises.proofs.RunFrauds.{run-frauds}
 use Rattle.promises.proofs.ArcsVisited.{visit-frauds}
 use Rattle.promises.proofs.StepFrauds.{first-member-alone}
@@ -19,6 +20,7 @@ frauds =
       constantAmount = constant-amounts;
       firing = writes-nothing;
       copying = copies-net;
+      converting = copies-sheet;
       running = run-frauds;
       visiting = visit-frauds;
       stepping = first-member-alone;

@@ -8,6 +8,8 @@ pub mod Audits
 pub mod FigureOverRun
 pub mod LiveModes
 pub mod Uniqueness
+pub mod EqualNets
+pub mod EqualNetsForC
 pub mod OwnExample
 pub mod ConstantAnswers
 pub mod ConstantAnswersForC
@@ -15,6 +17,7 @@ pub mod ConstantAmounts
 pub mod Accepting
 pub mod WritesNothing
 pub mod CopiesNet
+pub mod CopiesSheet
 pub mod RunFrauds
 pub mod ArcsVisited
 pub mod StepFrauds

@@ -12,6 +12,7 @@ use Rattle.model.specs.declared.Mode.{Mode}
 use Rattle.model.specs.declared.Thing.{Thing}
 use Rattle.model.specs.declared.Thing.the-variants.{Argument, Movements, Net}
 use Rattle.model.specs.declared.Fault.the-variants.{Unbalanced, EqualFigures}
+use Rattle.model.specs.declared.Version.the-variants.{One}
 use Rattle.model.specs.declared.Why.the-variants.{Lacking}
 use Rattle.model.specs.declared.Refusal.{Refusal}
 use Rattle.model.specs.Numbers.{∞}
@@ -35,16 +36,16 @@ use Rattle.model.proofs.First.{left-none, right-none, none-then}
 use Rattle.model.proofs.Markings.{marking-test}
 use Rattle.model.proofs.Each.{each-at, sorted-rising}
 use Rattle.heads.specs.Bytes.{u16At, u32At}
-use Rattle.heads.specs.Checks.{headRefusal}
+use Rattle.heads.specs.Checks.{known, headRefusal}
 use Rattle.lists.specs.Weights.{signed, weightRefusal, weightFields, weightsRefusal}
 use Rattle.lists.specs.Movements.{movementFields, movementsRefusal}
 use Rattle.sheets.specs.Whole.{bytesAfter, wholeWeights, wholeMovements}
 use Rattle.sheets.specs.Decoded.{weightsOf, movementsOf}
 use Rattle.opened.specs.Shape.{arcOffset}
 use Rattle.written.specs.Promises.{ReadBack}
-use Rattle.written.specs.Written.{sheetOf}
+use Rattle.written.specs.Written.{versionBytes, sheetOf}
 use Rattle.written.proofs.RoundTrip.{written-then-read}
-use Rattle.written.proofs.SheetLength.{sheet-size}
+use Rattle.written.proofs.SheetLength.{section-one, fields-length, sheet-length}
 use Rattle.fire.specs.Calls.{beginRefusal, testRefusal}
 use Rattle.run.specs.declared.Ran.{Ran}
 use Rattle.run.specs.Contracts.{RunAllows}
@@ -73,6 +74,7 @@ start-accepted = refl
 well-formed : WellFormed example
 well-formed =
     record {
+      rule = refl;
       somePlace = omega arith;
       places = record { many = omega arith; each = each-at (λ c. (1 ≤ c) × (c ≤ 64)) 0 (1 ∷ 1 ∷ []) (omega arith); inTotal = omega arith };
       transitions = record { many = omega arith; each = each-at (λ c. (1 ≤ c) × (c ≤ 64)) 0 (1 ∷ []) (omega arith); inTotal = omega arith };
@@ -88,19 +90,19 @@ well-formed =
       rising = sorted-rising (example .arcs) ((inr (refl, omega arith), tt), (tt, tt));
     }
 
-pub read-back : ReadBack example
-read-back = written-then-read example well-formed
+pub read-back : ReadBack One example
+read-back = written-then-read One example well-formed
 
 pub weights-read : wholeWeights 2 sheets.weights ≡ none
-unfolding wholeWeights weightsRefusal weightFields weightRefusal headRefusal bytesAfter first _▸_ signed u16At u32At
+unfolding wholeWeights weightsRefusal weightFields weightRefusal known headRefusal bytesAfter first _▸_ signed u16At u32At
 weights-read = refl
 
 pub movements-read : wholeMovements sheets.movements ≡ none
-unfolding wholeMovements movementsRefusal movementFields headRefusal bytesAfter _▸_ u16At u32At
+unfolding wholeMovements movementsRefusal movementFields known headRefusal bytesAfter _▸_ u16At u32At
 movements-read = refl
 
 three-read : wholeMovements own.three ≡ none
-unfolding wholeMovements movementsRefusal movementFields headRefusal bytesAfter _▸_ u16At u32At
+unfolding wholeMovements movementsRefusal movementFields known headRefusal bytesAfter _▸_ u16At u32At
 three-read = refl
 
 begins : beginRefusal own.net (0 ∷ 0 ∷ []) ≡ none
@@ -218,7 +220,7 @@ unfolding change sum weightsOf table signed u16At u32At entryAt
 change-is = refl
 
 even-read : wholeWeights 2 own.even ≡ none
-unfolding wholeWeights weightsRefusal weightFields weightRefusal headRefusal bytesAfter first _▸_ signed u16At u32At
+unfolding wholeWeights weightsRefusal weightFields weightRefusal known headRefusal bytesAfter first _▸_ signed u16At u32At
 even-read = refl
 
 excludes : (weights claim : List ℕ) → wholeWeights 2 weights ≡ none → markingRefusal example claim ≡ none
@@ -262,13 +264,13 @@ complement-passes : (offset : ℕ → ℕ) → complementRefusal offset example 
 unfolding complementRefusal refusal15 isDead deadPair sheetLimits complement arcsOf newPlaces complementRow bounded joined entryAt first _▸_
 complement-passes offset = refl
 
-complement-length : length (sheetOf (complement example)) ≡ 91
-unfolding isDead deadPair first _▸_ complement arcsOf newPlaces complementRow bounded joined entryAt
-complement-length = sheet-size (complement example)
+complement-length : length (sheetOf One (complement example)) ≡ 91
+unfolding versionBytes isDead deadPair first _▸_ complement arcsOf newPlaces complementRow bounded joined entryAt
+complement-length = omega (arith, sheet-length One (complement example), fields-length One (complement example), section-one (complement example))
 
 complement-accepted : complementingRefusal own.net (length own.room) ≡ none
 unfolding complementingRefusal roomRefusal
-complement-accepted = none-then (read-back .accepted) (rw (read-back .same) (none-then (complement-passes (arcOffset own.net)) (rw complement-length)))
+complement-accepted = none-then (read-back .accepted) (rw (read-back .same) (none-then (complement-passes (arcOffset own.net)) (rw (read-back .version, complement-length))))
 
 three-counts : unequal (complement example) (2 ∷ 1 ∷ 3 ∷ []) ≡ none
 unfolding complement newPlaces bounded joined
@@ -313,6 +315,6 @@ own-example =
       isDead = λ o a. ap one.told a ∙ rw (dead-accepted, read-back .same, alive);
       firstDead = λ o a. ap first.told a ∙ rw (read-back .accepted, read-back .same, none-dead);
       size = λ o a. ap sizing.told a ∙ rw (read-back .accepted, read-back .same);
-      complement = λ o a. ap complementing.told (a .0) ∙ rw (complement-accepted, read-back .same, complement-length);
+      complement = λ o a. ap complementing.told (a .0) ∙ rw (complement-accepted, read-back .version, read-back .same, complement-length);
       audit = λ o a. ap auditing.told a ∙ told-found _ audit-accepted ∙ rw (read-back .same) (ap yields left-aboard);
     }

@@ -24,6 +24,7 @@ use Rattle.sheets.proofs.Accepted.{well-formed}
 use Rattle.sheets.proofs.Lists.{movements-within, weights-within}
 use Rattle.lists.proofs.Signs.{signed-weights}
 use Rattle.written.proofs.RoundTrip.{written-then-read, read-then-written}
+use Rattle.convert.proofs.Promises.{source-only, converted-reads, there-and-back}
 use Rattle.written.proofs.Largest.{largest-sheet, example-lengths}
 use Rattle.fire.proofs.Promises.{accepted-begin, accepted-fire, marking-stays}
 use Rattle.run.proofs.Promises.{runs-leave, runs-keep, certified}
@@ -48,6 +49,8 @@ use Rattle.promises.proofs.LiveModes.{live-modes}
 use Rattle.promises.proofs.Exclusion.{no-list-leads, no-sheet-certifies, figure-call-constant}
 use Rattle.promises.proofs.CallTables.{call-tables}
 use Rattle.promises.proofs.Uniqueness.{uniqueness}
+use Rattle.promises.proofs.EqualNets.{equal-nets}
+use Rattle.promises.proofs.EqualNetsForC.{equal-nets-for-c}
 use Rattle.promises.proofs.Frauds.{frauds}
 use Rattle.promises.proofs.OwnExample.{own-example}
 
@@ -124,6 +127,9 @@ promises =
       noListLeads = no-list-leads;
       noSheetCertifies = no-sheet-certifies;
       figureCallConstant = figure-call-constant;
+      sourceOnly = source-only;
+      convertedReads = converted-reads;
+      thereAndBack = there-and-back;
       overBytes = over-bytes;
       twoRuns = two-runs;
       twoSteps = two-steps;
@@ -137,6 +143,8 @@ promises =
       demandOneForC = demand-one-for-c;
       callTables = call-tables;
       uniqueness = uniqueness;
+      equalNets = equal-nets;
+      equalNetsForC = equal-nets-for-c;
       frauds = frauds;
       ownExample = own-example;
     }

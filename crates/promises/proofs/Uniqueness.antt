@@ -28,6 +28,8 @@ for-c =
       firstDead = λ net. one-answer _;
       size = λ net. one-answer _;
       complement = λ net out. answer-and-slice _ _;
+      toVersion2 = λ net out. answer-and-slice _ _;
+      toVersion1 = λ net out. answer-and-slice _ _;
       audit = λ net marking beside. one-answer _;
       statement = λ input out. answer-and-slice _ _;
     }
@@ -58,6 +60,8 @@ uniqueness =
       firstDead = λ net. one-answer _;
       size = λ net. one-answer _;
       complement = λ net out. answer-and-slice _ _;
+      toVersion2 = λ net out. answer-and-slice _ _;
+      toVersion1 = λ net out. answer-and-slice _ _;
       audit = λ net marking beside. one-answer _;
       putBytes = λ out at bytes. answer-and-slice _ _;
       putDecimal = λ out at n. answer-and-slice _ _;

@@ -8,6 +8,8 @@ use mathlib.Core.Option.{none}
 use lib.IntN.{ℤ, pos}
 use lib.ListN.{length, take, getD}
 use Rattle.model.specs.declared.Mode.{Mode}
+use Rattle.model.specs.declared.Version.{Version}
+use Rattle.model.specs.declared.Version.the-variants.{One, Two}
 use Rattle.model.specs.Refusals.{carriesBy, carries}
 use Rattle.model.specs.RefusalTables.{Table, row, _then_, each, Reads, oneEachTable, markingTable, missingTable, modeTable}
 use Rattle.model.specs.Numbers.{ℕ∞, fin, ∞, Above, aboveBy, leastOfAll, limit}
@@ -15,19 +17,20 @@ use Rattle.model.specs.Nets.{NetArc, PNet, total, pairs, modes, modeNo, K, coun
 use Rattle.model.specs.Firing.{fired}
 use Rattle.model.specs.Complement.{complement}
 use Rattle.model.specs.Figures.{figure, change}
-use Rattle.heads.specs.Layout.{sheetEnd}
+use Rattle.heads.specs.Layout.{sheetEnd, version}
 use Rattle.sheets.specs.Whole.{wholeNet, wholeWeights, wholeMovements}
 use Rattle.sheets.specs.Decoded.{netOf, weightsOf, movementsOf}
-use Rattle.sheets.specs.RefusalTables.{netTable, weightTable, movementTable, SheetTables}
+use Rattle.sheets.specs.RefusalTables.{headTable, netTable, weightTable, movementTable, SheetTables}
 use Rattle.opened.specs.Shape.{arcOffset}
-use Rattle.written.specs.Written.{sheetOf}
+use Rattle.written.specs.Written.{versionNumber}
 use Rattle.fire.specs.Calls.{beginRefusal, testRefusal}
 use Rattle.run.specs.Calls.{beforeRun, runOf, certifyRefusal}
 use Rattle.step.specs.Calls.{stepModes, testStepRefusal}
 use Rattle.weigh.specs.Calls.{figureRefusal, changeRefusal}
 use Rattle.exclude.specs.Calls.{excludeRefusal}
 use Rattle.dead.specs.IsDead.{deadRefusal}
-use Rattle.complement.specs.Complemented.{complementingRefusal}
+use Rattle.complement.specs.Complemented.{complementSheet, complementingRefusal}
+use Rattle.convert.specs.Converted.{convertedSheet, convertRefusal}
 use Rattle.audit.specs.Audits.{auditingRefusal}
 
 -- "A call that takes one sheet as an argument refuses left-over bytes by 3.": the sheet's own table, then the first byte after it
@@ -110,7 +113,7 @@ module _ (s : List ℕ) (room : ℕ) where
       -- 10: "complement exceeds the sheet's limits, or the output slice is shorter than it"
       then row
       (((64 < length (complement net .colours)) ⊎ (256 < pairs (complement net)) ⊎ (2048 < length (complement net .arcs)))
-      ⊎ (room < length (sheetOf (complement net))))
+      ⊎ (room < length (complementSheet s)))
       (carries 10 0 0)
 
 -- A call's table, things in their order: "net, weights, movements, then the marking .., then the mode"
@@ -154,10 +157,18 @@ module _ (net : List ℕ) where
   abbrev pub complementTable : ℕ → Table
   complementTable room = wholeNetTable net then roomTable net room
 
+  -- a conversion: "2 to a sheet of its target version", before the fields, where any call has 2; then what any call refuses of the net; "10 to a
+  -- short output"
+  abbrev pub convertTable : Version → Version → ℕ → Table
+  convertTable source target room =
+      headTable 0 net (version net ≢ versionNumber source)
+      then wholeNetTable net
+      then row (room < length (convertedSheet target net)) (carries 10 0 0)
+
   -- an audit: what complementing refuses where there is room for its sheet, "then 17 for the marking and 17 for the complement's marking"
   abbrev pub auditTable : List ℕ → List ℕ → Table
   auditTable marking beside =
-      complementTable (length (sheetOf (complement (netOf net))))
+      complementTable (length (complementSheet net))
       then oneEachTable (netOf net) marking
       then oneEachTable (complement (netOf net)) beside
 
@@ -191,4 +202,6 @@ pub record CallTables : Type 0 where
   pub exclude : (net weights claim : List ℕ) → Reads (excludeTable net weights claim) (excludeRefusal net weights claim)
   pub isDead : (net : List ℕ) (t : Mode) → Reads (isDeadTable net t) (deadRefusal net t)
   pub complement : (net : List ℕ) (room : ℕ) → Reads (complementTable net room) (complementingRefusal net room)
+  pub toVersion2 : (net : List ℕ) (room : ℕ) → Reads (convertTable net One Two room) (convertRefusal One Two net room)
+  pub toVersion1 : (net : List ℕ) (room : ℕ) → Reads (convertTable net Two One room) (convertRefusal Two One net room)
   pub audit : (net marking beside : List ℕ) → Reads (auditTable net marking beside) (auditingRefusal net marking beside)

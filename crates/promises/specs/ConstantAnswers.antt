@@ -23,6 +23,8 @@ use Rattle.size.specs.Sizes as sizing
 use Rattle.size.specs.Contracts.{SizeAllows}
 use Rattle.complement.specs.Complemented as complementing
 use Rattle.complement.specs.Contracts.{ComplementAllows}
+use Rattle.convert.specs.Converted as converting
+use Rattle.convert.specs.Contracts.{ToVersion1Allows, ToVersion2Allows}
 use Rattle.audit.specs.Audits as auditing
 use Rattle.audit.specs.Contracts.{AuditAllows}
 use Rattle.text.specs.declared.Put.{Put}
@@ -83,6 +85,8 @@ pub record ConstantAnswers : Type 0 where
   pub firstDead : Varies FirstDeadAllows (λ o. first.told o .carried .number)
   pub size : Varies SizeAllows (λ o. sizing.told o .carried .number)
   pub complement : Varies (λ (i : List ℕ × List ℕ). ComplementAllows (i .0) (i .1)) (λ o. complementing.told (o .0) .carried .number)
+  pub toVersion2 : Varies (λ (i : List ℕ × List ℕ). ToVersion2Allows (i .0) (i .1)) (λ o. converting.told (o .0) .carried .number)
+  pub toVersion1 : Varies (λ (i : List ℕ × List ℕ). ToVersion1Allows (i .0) (i .1)) (λ o. converting.told (o .0) .carried .number)
   pub audit : Varies (λ (i : List ℕ × List ℕ × List ℕ). AuditAllows (i .0) (i .1) (i .2)) (λ o. auditing.told o .carried .number)
   pub putBytes : Varies (λ (i : List ℕ × ℕ × List ℕ). PutBytesAllows (i .0) (i .1) (i .2)) (λ o. full (o .0))
   pub putDecimal : Varies (λ (i : List ℕ × ℕ × ℕ). PutDecimalAllows (i .0) (i .1) (i .2)) (λ o. full (o .0))

@@ -23,5 +23,7 @@ pub record ConstantAnswersForC : Type 0 where
   pub firstDead : Varies c.FirstDeadAllows (λ o. o .answer .number)
   pub size : Varies c.SizeAllows (λ o. o .answer .number)
   pub complement : Varies (λ (i : List ℕ × List ℕ). c.ComplementAllows (i .0) (i .1)) (λ o. o .0 .answer .number)
+  pub toVersion2 : Varies (λ (i : List ℕ × List ℕ). c.ToVersion2Allows (i .0) (i .1)) (λ o. o .0 .answer .number)
+  pub toVersion1 : Varies (λ (i : List ℕ × List ℕ). c.ToVersion1Allows (i .0) (i .1)) (λ o. o .0 .answer .number)
   pub audit : Varies (λ (i : List ℕ × List ℕ × List ℕ). c.AuditAllows (i .0) (i .1) (i .2)) (λ o. o .answer .number)
   pub statement : Varies (λ (i : List ℕ × List ℕ). c.StatementAllows (i .0) (i .1)) (λ o. o .0 .answer .number)

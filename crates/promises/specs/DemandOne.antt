@@ -17,6 +17,9 @@ use Rattle.step.specs.Contracts.{FireStepAllows}
 use Rattle.complement.specs.declared.Complemented.{Complemented}
 use Rattle.complement.specs.Complemented.{told}
 use Rattle.complement.specs.Contracts.{ComplementAllows}
+use Rattle.convert.specs.declared.Converted.{Converted}
+use Rattle.convert.specs.Converted as converting
+use Rattle.convert.specs.Contracts.{ToVersion1Allows, ToVersion2Allows}
 use Rattle.text.specs.declared.Put.{Put}
 use Rattle.text.specs.declared.Put.the-variants.{Full}
 use Rattle.text.specs.Contracts.{PutBytesAllows}
@@ -37,6 +40,8 @@ pub record DemandOne : Type 0 where
   pub fire : (net marking : List ℕ) (t : Mode) (o : Answer × List ℕ) → FireAllows net marking t o → Refused (o .0) → o .1 ≡ marking
   pub fireStep : (net marking modes : List ℕ) (o : Answer × List ℕ) → FireStepAllows net marking modes o → Refused (o .0) → o .1 ≡ marking
   pub complement : (net out : List ℕ) (o : Complemented × List ℕ) → ComplementAllows net out o → told (o .0) .carried .number ≢ 0 → o .1 ≡ out
+  pub toVersion2 : (net out : List ℕ) (o : Converted × List ℕ) → ToVersion2Allows net out o → converting.told (o .0) .carried .number ≢ 0 → o .1 ≡ out
+  pub toVersion1 : (net out : List ℕ) (o : Converted × List ℕ) → ToVersion1Allows net out o → converting.told (o .0) .carried .number ≢ 0 → o .1 ≡ out
   -- the exception; with none accepted the marking is as it was
   pub run : (net movements marking : List ℕ) (o : Ran × List ℕ) → RunAllows net movements marking o → Refused (o .0 .answer)
       → Leads (netOf net) (take (o .0 .accepted) (movementsOf movements)) marking (o .1)
@@ -51,6 +56,8 @@ pub record DemandOneForC : Type 0 where
   pub fire : (net marking : List ℕ) (t : Mode) (o : Answered × List ℕ) → forC.FireAllows net marking t o → o .0 .number ≢ 0 → o .1 ≡ marking
   pub fireStep : (net marking modes : List ℕ) (o : Answered × List ℕ) → forC.FireStepAllows net marking modes o → o .0 .number ≢ 0 → o .1 ≡ marking
   pub complement : (net out : List ℕ) (o : Counted × List ℕ) → forC.ComplementAllows net out o → o .0 .answer .number ≢ 0 → o .1 ≡ out
+  pub toVersion2 : (net out : List ℕ) (o : Counted × List ℕ) → forC.ToVersion2Allows net out o → o .0 .answer .number ≢ 0 → o .1 ≡ out
+  pub toVersion1 : (net out : List ℕ) (o : Counted × List ℕ) → forC.ToVersion1Allows net out o → o .0 .answer .number ≢ 0 → o .1 ≡ out
   pub statement : (input out : List ℕ) (o : Counted × List ℕ) → forC.StatementAllows input out o → o .0 .answer .number ≢ 0 → o .1 ≡ out
   pub run : (net movements marking : List ℕ) (o : Tallied × List ℕ) → forC.RunAllows net movements marking o → o .0 .answer .number ≢ 0
       → Leads (netOf net) (take (o .0 .accepted) (movementsOf movements)) marking (o .1)

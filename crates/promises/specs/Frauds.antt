@@ -29,6 +29,9 @@ use Rattle.exclude.specs.Contracts.{ExcludeAllows}
 use Rattle.complement.specs.declared.Complemented.{Complemented}
 use Rattle.complement.specs.Complemented.{told}
 use Rattle.complement.specs.Contracts.{ComplementAllows}
+use Rattle.convert.specs.declared.Converted.{Converted}
+use Rattle.convert.specs.Converted as converting
+use Rattle.convert.specs.Contracts.{ToVersion1Allows, ToVersion2Allows}
 use Rattle.audit.specs.declared.Found.{Found}
 use Rattle.audit.specs.declared.Found.the-variants.{Nothing}
 use Rattle.audit.specs.Audits as audits
@@ -50,6 +53,13 @@ pub record CopiesNet : Type 0 where
       → (o : Complemented × List ℕ) → ComplementAllows net out o → told (o .0) .carried .number ≡ 0 → take (length net) (o .1) ≢ net
   -- no marking of the copy corresponds to one of the net: it has no pair that holds the rest of the capacity
   pub noSum : (net : PNet) (m m′ : List ℕ) → length m′ ≡ pairs net → (p k : ℕ) → p < pairs net → K net p ≡ fin k → ¬ Corresponds net m m′
+
+-- a conversion that copies the sheet: where one accepts, the sheet that it was given is no output
+pub record CopiesSheet : Type 0 where
+  pub toVersion2 : (net out : List ℕ) (o : Converted × List ℕ) → ToVersion2Allows net out o → converting.told (o .0) .carried .number ≡ 0
+      → take (length net) (o .1) ≢ net
+  pub toVersion1 : (net out : List ℕ) (o : Converted × List ℕ) → ToVersion1Allows net out o → converting.told (o .0) .carried .number ≡ 0
+      → take (length net) (o .1) ≢ net
 
 -- what the modes of a list take from pair p in all, and what they give
 unfoldable pub taken : PNet → List Mode → ℕ → ℕ
@@ -116,6 +126,7 @@ pub record Frauds : Type 0 where
   pub constantAmount : ConstantAmounts
   pub firing : WritesNothing
   pub copying : CopiesNet
+  pub converting : CopiesSheet
   pub running : RunFrauds
   pub visiting : VisitFrauds
   pub stepping : FirstMemberAlone

@@ -11,6 +11,8 @@ pub mod ArcsVisited
 pub mod LiveModes
 pub mod Exclusion
 pub mod Uniqueness
+pub mod EqualNets
+pub mod EqualNetsForC
 pub mod OwnExample
 pub mod ConstantAnswers
 pub mod ConstantAnswersForC

@@ -7,6 +7,7 @@ use mathlib.Core.Option.{none, some}
 use lib.IntN.{pos, negsuc}
 use lib.ListN.{replicate}
 use Rattle.model.specs.declared.Answer.{Answer}
+use Rattle.model.specs.declared.Version.the-variants.{One}
 use Rattle.model.specs.Refusals.{number, carriesBy, carried, carries}
 use Rattle.model.specs.Replies.{yields}
 use Rattle.model.specs.Nets.{PNet, pairNo, modeNo}
@@ -42,7 +43,7 @@ abbrev pub example : PNet
 example = ownExample .net
 
 abbrev pub net : List ℕ
-net = sheetOf example
+net = sheetOf One example
 
 -- the three of its movements that are accepted
 abbrev pub three : List ℕ

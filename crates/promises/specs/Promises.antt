@@ -12,6 +12,7 @@ use Rattle.model.specs.Exclusion as claim
 use Rattle.sheets.specs.Accepted.{AcceptedNet, AcceptedMovements, AcceptedWeights}
 use Rattle.lists.specs.Promises.{SignedWeights}
 use Rattle.written.specs.Promises.{WrittenThenRead, ReadThenWritten, LargestSheet, ExampleLengths}
+use Rattle.convert.specs.Promises.{SourceOnly, ConvertedReads, ThereAndBack}
 use Rattle.fire.specs.Promises.{AcceptedBegin, AcceptedFire, MarkingStays}
 use Rattle.run.specs.Promises.{RunsLeave, RunsKeep, Certified}
 use Rattle.weigh.specs.Promises.{FigureIsSum, ChangeIsSum, FigureFired}
@@ -34,6 +35,8 @@ use Rattle.promises.specs.LiveModes.{LiveModes}
 use Rattle.promises.specs.Exclusion.{NoListLeads, NoSheetCertifies, FigureCallConstant}
 use Rattle.promises.specs.CallTables.{CallTables}
 use Rattle.promises.specs.Uniqueness.{Uniqueness}
+use Rattle.promises.specs.EqualNets.{EqualNets}
+use Rattle.promises.specs.EqualNetsForC.{EqualNetsForC}
 use Rattle.promises.specs.Frauds.{Frauds}
 use Rattle.promises.specs.OwnExample.{OwnExample}
 
@@ -111,6 +114,9 @@ pub record Promises : Type 0 where
   pub noListLeads : NoListLeads
   pub noSheetCertifies : NoSheetCertifies
   pub figureCallConstant : FigureCallConstant
+  pub sourceOnly : SourceOnly
+  pub convertedReads : ConvertedReads
+  pub thereAndBack : ThereAndBack
   pub overBytes : OverBytes
   pub twoRuns : TwoRuns
   pub twoSteps : TwoSteps
@@ -125,5 +131,7 @@ pub record Promises : Type 0 where
   pub demandOneForC : DemandOneForC
   pub callTables : CallTables
   pub uniqueness : Uniqueness
+  pub equalNets : EqualNets
+  pub equalNetsForC : EqualNetsForC
   pub frauds : Frauds
   pub ownExample : OwnExample

@@ -15,6 +15,7 @@ use Rattle.exclude.specs.Contracts.{ExcludeAllows}
 use Rattle.dead.specs.Contracts.{IsDeadAllows, FirstDeadAllows}
 use Rattle.size.specs.Contracts.{SizeAllows}
 use Rattle.complement.specs.Contracts.{ComplementAllows}
+use Rattle.convert.specs.Contracts.{ToVersion1Allows, ToVersion2Allows}
 use Rattle.audit.specs.Contracts.{AuditAllows}
 use Rattle.text.specs.Contracts.{PutBytesAllows, PutDecimalAllows, PutSignedAllows}
 use Rattle.statement.specs.Contracts.{StatementAllows}
@@ -43,6 +44,8 @@ pub record UniqueForC : Type 0 where
   pub firstDead : (net : List ℕ) → Unique (c.FirstDeadAllows net)
   pub size : (net : List ℕ) → Unique (c.SizeAllows net)
   pub complement : (net out : List ℕ) → Unique (c.ComplementAllows net out)
+  pub toVersion2 : (net out : List ℕ) → Unique (c.ToVersion2Allows net out)
+  pub toVersion1 : (net out : List ℕ) → Unique (c.ToVersion1Allows net out)
   pub audit : (net marking beside : List ℕ) → Unique (c.AuditAllows net marking beside)
   pub statement : (input out : List ℕ) → Unique (c.StatementAllows input out)
 
@@ -71,6 +74,8 @@ pub record Uniqueness : Type 0 where
   pub firstDead : (net : List ℕ) → Unique (FirstDeadAllows net)
   pub size : (net : List ℕ) → Unique (SizeAllows net)
   pub complement : (net out : List ℕ) → Unique (ComplementAllows net out)
+  pub toVersion2 : (net out : List ℕ) → Unique (ToVersion2Allows net out)
+  pub toVersion1 : (net out : List ℕ) → Unique (ToVersion1Allows net out)
   pub audit : (net marking beside : List ℕ) → Unique (AuditAllows net marking beside)
   pub putBytes : (out : List ℕ) (at : ℕ) (bytes : List ℕ) → Unique (PutBytesAllows out at bytes)
   pub putDecimal : (out : List ℕ) (at n : ℕ) → Unique (PutDecimalAllows out at n)

@@ -2,6 +2,7 @@
 use mathlib.Core.Path.{_≡_, sym, _∙_, ap}
 use mathlib.Core.Bool.{Bool, true, false, not}
 use mathlib.Core.List.{[], _∷_, flatMap}
+use Rattle.model.specs.declared.Version.{Version}
 use Rattle.model.specs.Nets.{NetArc}
 use Rattle.model.specs.Complement.{blank}
 use Rattle.model.specs.Lists.{listIf}
@@ -17,17 +18,17 @@ module _ (a : NetArc) {t : Bool} (e : t ≡ blank (a .entry)) where
   pub kept-one : t ≡ false → kept a ≡ a ∷ []
   kept-one h = ap (λ b. listIf (not b) a) (sym e ∙ h)
 
-  no-bytes : t ≡ true → [] ≡ keptBytes a
+  no-bytes : (v : Version) → t ≡ true → [] ≡ keptBytes v a
   unfolding flatMap
-  no-bytes h = ap (flatMap arcBytes) (sym (kept-none h))
+  no-bytes v h = ap (flatMap (arcBytes v)) (sym (kept-none h))
 
-  one-bytes : t ≡ false → arcBytes a ≡ keptBytes a
-  one-bytes h = sym (ap (flatMap arcBytes) (kept-one h) ∙ section-one arcBytes a)
+  one-bytes : (v : Version) → t ≡ false → arcBytes v a ≡ keptBytes v a
+  one-bytes v h = sym (ap (flatMap (arcBytes v)) (kept-one h) ∙ section-one (arcBytes v) a)
 
 -- the same of an arc that was worked out, and what it is
 module _ {a x : NetArc} (is : a ≡ x) {t : Bool} (e : t ≡ blank (a .entry)) where
-  pub left-out : t ≡ true → [] ≡ keptBytes x
-  left-out h = no-bytes x (e ∙ ap (λ b. blank (b .entry)) is) h
+  pub left-out : (v : Version) → t ≡ true → [] ≡ keptBytes v x
+  left-out v h = no-bytes x (e ∙ ap (λ b. blank (b .entry)) is) v h
 
-  pub put-whole : t ≡ false → arcBytes x ≡ keptBytes x
-  put-whole h = one-bytes x (e ∙ ap (λ b. blank (b .entry)) is) h
+  pub put-whole : (v : Version) → t ≡ false → arcBytes v x ≡ keptBytes v x
+  put-whole v h = one-bytes x (e ∙ ap (λ b. blank (b .entry)) is) v h

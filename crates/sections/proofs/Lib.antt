@@ -6,3 +6,5 @@ pub mod Every
 pub mod Surveys
 pub mod PlaceHalves
 pub mod ModeHalves
+pub mod Rows
+pub mod Counted

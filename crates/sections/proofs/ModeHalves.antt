@@ -4,6 +4,7 @@ use mathlib.Core.Path.{_≡_, refl, sym, _∙_, ap, ap₂}
 use mathlib.Core.List.{List, _++_, flatMap}
 use lib.ListN.{length, length-append}
 use native.Mathlib.Omega.{arith}
+use Rattle.model.specs.declared.Version.{Version}
 use Rattle.model.specs.declared.Mode.{Mode}
 use Rattle.model.specs.Nets.{NetArc, PNet, pairs, modes, modeNo, K, row}
 use Rattle.model.specs.WellFormed.{WellFormed}
@@ -22,7 +23,7 @@ use Rattle.opened.proofs.Shapes.{sizes}
 use Rattle.opened.proofs.Segments.{mode-lists}
 use Rattle.halves.specs.declared.half.Half.{Half}
 use Rattle.halves.specs.declared.half.Half.the-variants.{Original, Complement}
-use Rattle.sections.specs.Arcs.{kept, halfArc, halfNo, halfBytes, rowArcs, rowBytes}
+use Rattle.sections.specs.Arcs.{kept, halfArc, halfNo, halfBytes, rowArcs}
 
 module _ (net : PNet) where
   abbrev pub keptHalf : Half → ℕ → List NetArc
@@ -35,16 +36,12 @@ module _ (net : PNet) where
         mode-by-arcs (modeNo t) (isDead net (modeNo t)) (pairs net) (K net) (row net (modeNo t)) count _ (mode-lists net wf (modeNo t) start count arcs)
         ∙ ap₂ (λ xs ys. xs ++ ys) (joined-ext count _ _ (λ i h. rw (← arcs .own i h))) (joined-ext count _ _ (λ i h. rw (← arcs .own i h)))
 
-    row-bytes : rowBytes net t ≡ joined 2 (λ h. joined count (halfBytes net (halfNo h) start))
+    row-bytes : (v : Version) → flatMap (arcBytes v) (rowArcs net t) ≡ joined 2 (λ h. joined count (halfBytes net v (halfNo h) start))
     unfolding joined halfNo
-    row-bytes =
-        ap (flatMap arcBytes) row-halves
-        ∙ section-append arcBytes (joined count (λ i. keptHalf Original (start + i))) _
-        ∙ ap₂ (λ xs ys. xs ++ ys) (section-joined arcBytes count _) (section-joined arcBytes count _)
-
-  arcs-bytes : flatMap arcBytes (complement net .arcs) ≡ joined (modes net) (rowBytes net)
-  unfolding complement arcsOf rowArcs
-  arcs-bytes = section-joined arcBytes (modes net) _
+    row-bytes v =
+        ap (flatMap (arcBytes v)) row-halves
+        ∙ section-append (arcBytes v) (joined count (λ i. keptHalf Original (start + i))) _
+        ∙ ap₂ (λ xs ys. xs ++ ys) (section-joined (arcBytes v) count _) (section-joined (arcBytes v) count _)
 
   -- How many there are, counted arc by arc.
   abbrev pub bothHalves : ℕ → List NetArc
@@ -59,15 +56,12 @@ module _ (net : PNet) (wf : WellFormed net) (t start count : ℕ) (arcs : ModeAr
   pub mode-count : length (joined count (λ i. bothHalves net (start + i))) ≡ length (rowArcs net t)
   mode-count = both-length count (λ i. keptHalf net Original (start + i)) (λ i. keptHalf net Complement (start + i)) ∙ ap length (sym (row-halves net wf t start count arcs))
 
-pub arcs-count : (net : PNet) → length (complement net .arcs) ≡ length (joined (modes net) (rowArcs net))
+-- all of them, mode by mode
+pub complement-arcs : (net : PNet) → complement net .arcs ≡ joined (modes net) (rowArcs net)
 unfolding complement arcsOf rowArcs
-arcs-count net = refl
+complement-arcs net = refl
 
--- The same of an open net, mode by mode.
-module _ {s : List ℕ} {net : NetShape} (o : Open s net) where
-  pub arc-parts : flatMap arcBytes (complement (netOf s) .arcs) ≡ joined (net .modes) (rowBytes (netOf s))
-  arc-parts = rw (sizes o .modes) (arcs-bytes (netOf s))
-
-  pub mode-part : (t : Mode) (start count : ℕ) → ModeArcs (netOf s .arcs) t start count
-      → rowBytes (netOf s) (t .0) ≡ joined 2 (λ h. joined count (halfBytes (netOf s) (halfNo h) start))
-  mode-part t start count arcs = row-bytes (netOf s) (sizes o .wellFormed) (t .0) start count arcs
+-- The bytes of a mode's, of an open net.
+pub mode-part : {s : List ℕ} {net : NetShape} → Open s net → (t : Mode) (start count : ℕ) → ModeArcs (netOf s .arcs) t start count → (v : Version)
+    → flatMap (arcBytes v) (rowArcs (netOf s) (t .0)) ≡ joined 2 (λ h. joined count (halfBytes (netOf s) v (halfNo h) start))
+mode-part {s} o t start count arcs = row-bytes (netOf s) (sizes o .wellFormed) (t .0) start count arcs

@@ -3,12 +3,13 @@
 use Prim.Native.Nat.{ℕ, zero, suc, _+_}
 use mathlib.Core.Bool.{Bool, true, not, _&&_}
 use mathlib.Core.List.{List, flatMap}
+use Rattle.model.specs.declared.Version.{Version}
 use Rattle.model.specs.Nets.{NetArc, PNet, pairs, modeNo, K, arcNo, row}
 use Rattle.model.specs.Dead.{isDead}
 use Rattle.model.specs.Complement.{complementRow, written, allPairs, inhibitsUnbounded}
 use Rattle.model.specs.Promises.{onOriginal, onComplement}
 use Rattle.model.specs.Lists.{joined}
-use Rattle.written.specs.Written.{arcBytes}
+use Rattle.written.specs.Written.{arcBytes, groupBytes}
 use Rattle.halves.specs.declared.half.Half.{Half}
 use Rattle.halves.specs.declared.half.Half.the-variants.{Original, Complement}
 
@@ -16,8 +17,8 @@ use Rattle.halves.specs.declared.half.Half.the-variants.{Original, Complement}
 abbrev pub kept : NetArc → List NetArc
 kept a = written (a .mode) (a .pair .0) (a .entry)
 
-abbrev pub keptBytes : NetArc → List ℕ
-keptBytes a = flatMap arcBytes (kept a)
+abbrev pub keptBytes : Version → NetArc → List ℕ
+keptBytes v a = flatMap (arcBytes v) (kept a)
 
 -- the two halves, in order
 unfoldable pub halfNo : ℕ → Half
@@ -44,12 +45,13 @@ module _ (net : PNet) where
   halfArc half k = halfOf half (arcNo (net .arcs) k)
 
   -- of the arcs from `start` on, one after the other
-  abbrev pub halfBytes : Half → ℕ → ℕ → List ℕ
-  halfBytes half start i = keptBytes (halfArc half (start + i))
+  abbrev pub halfBytes : Version → Half → ℕ → ℕ → List ℕ
+  halfBytes v half start i = keptBytes v (halfArc half (start + i))
 
   -- the complement's arcs of one mode
   unfoldable pub rowArcs : ℕ → List NetArc
   rowArcs t = joined (allPairs net) (λ p. written (modeNo t) p (complementRow (isDead net (modeNo t)) (pairs net) (K net) (row net (modeNo t)) p))
 
-  abbrev pub rowBytes : ℕ → List ℕ
-  rowBytes t = flatMap arcBytes (rowArcs t)
+  -- in version 2 after their count
+  abbrev pub rowBytes : Version → ℕ → List ℕ
+  rowBytes v t = groupBytes v (rowArcs t)

@@ -11,6 +11,10 @@ use opened::shape::NetShape;
 use opened::shape::capacity;
 use opened::starts::Segment;
 use opened::starts::arcs_of;
+use written::mode_size;
+use written::own_size;
+use written::put_arc_mode;
+use written::put_own;
 use written::put16;
 use written::put32;
 ghost use mathlib.Core.Path.{_≡_};
@@ -18,18 +22,16 @@ ghost use mathlib.Core.List.{flatMap};
 ghost use Prim.Native.Nat.{_+_, _≤_};
 ghost use lib.ListN.{length};
 ghost use Rattle.model.specs.Dead.{isDead};
-ghost use Rattle.model.specs.Complement.{complement};
 ghost use Rattle.model.specs.Lists.{joined};
 ghost use Rattle.sheets.specs.Decoded.{netOf, netArc};
 ghost use Rattle.opened.specs.Shape.{Open};
 ghost use Rattle.opened.specs.Starts.{StartsAre, ModeArcs, OwnArc};
 ghost use Rattle.written.specs.Written.{arcBytes};
-ghost use Rattle.written.specs.Puts.{Put};
+ghost use Rattle.written.specs.Puts.{Put, Room, Puts, modeSize};
 ghost use Rattle.halves.specs.declared.half.Half.the-variants.{Original, Complement};
 ghost use Rattle.dead.specs.DeadModes.{DeadAre};
 ghost use Rattle.halves.specs.Bounded.{BelowAre};
-ghost use Rattle.sections.specs.Arcs.{keptBytes, halfArc, halfNo, halfBytes, rowBytes};
-ghost use Rattle.halves.specs.Puts.{Room, Puts};
+ghost use Rattle.sections.specs.Arcs.{keptBytes, halfArc, halfNo, halfBytes, rowArcs, rowBytes};
 
 // A half of what the i-th arc of a mode becomes, dead or not.
 pub(crate) fn half_arc(
@@ -71,12 +73,13 @@ fn put_original(
 ) -> usize
     requires { ⌜ Open (now s) net ⌝ }
     requires { ⌜ OwnArc (netOf (now s) .arcs) arcs i ⌝ }
-    requires { ⌜ at + 16 ≤ length (now out) ⌝ }
-    ensures { λ r. ⌜ Put (now (out .entry)) at 16 (arcBytes (halfArc (netOf (now (s .entry))) Original (arcs .start + i))) (now (out .exit)) r ⌝ }
+    requires { ⌜ at + (modeSize (net .version) + 14) ≤ length (now out) ⌝ }
+    ensures { λ r. ⌜ Put (now (out .entry)) at (modeSize (net .version) + 14) (arcBytes (net .version) (halfArc (netOf (now (s .entry))) Original (arcs .start + i))) (now (out .exit)) r ⌝ }
 {
+    let version = net.version;
     let of_mode = arc(s, net, arcs, i);
     let mode = of_mode.mode;
-    let to_pair = put16(out, at, mode.0);
+    let to_pair = put_arc_mode(out, at, version, mode.0);
     let of_pair = arc(s, net, arcs, i);
     let pair = of_pair.pair;
     let to_pre = put16(out, to_pair, pair.0);
@@ -103,16 +106,17 @@ fn put_new(
     requires { ⌜ BelowAre (netOf (now s)) (now below) ⌝ }
     requires { ⌜ OwnArc (netOf (now s) .arcs) arcs i ⌝ }
     requires { ⌜ netArc new ≡ halfArc (netOf (now s)) Complement (arcs .start + i) ⌝ }
-    requires { ⌜ at + 16 ≤ length (now out) ⌝ }
-    ensures { λ r. ⌜ Put (now (out .entry)) at 16 (arcBytes (netArc new)) (now (out .exit)) r ⌝ }
+    requires { ⌜ at + (modeSize (net .version) + 14) ≤ length (now out) ⌝ }
+    ensures { λ r. ⌜ Put (now (out .entry)) at (modeSize (net .version) + 14) (arcBytes (net .version) (netArc new)) (now (out .exit)) r ⌝ }
 {
-    let to_post = put32(out, at + 4, new.pre);
+    let version = net.version;
+    let to_post = put32(out, at + mode_size(version) + 2, new.pre);
     let a = arc(s, net, arcs, i);
     let to_inhibitor = put32(out, to_post, new.post);
     let pair = complement_pair(net.pairs, below, a.pair);
     let end = put32(out, to_inhibitor, new.inhibitor);
     let mode = new.mode;
-    let to_pair = put16(out, at, mode.0);
+    let to_pair = put_arc_mode(out, at, version, mode.0);
     put16(out, to_pair, pair.0);
     end
 }
@@ -133,8 +137,8 @@ fn put_half_arc(
     requires { ⌜ BelowAre (netOf (now s)) (now below) ⌝ }
     requires { ⌜ OwnArc (netOf (now s) .arcs) arcs i ⌝ }
     requires { ⌜ dead ≡ isDead (netOf (now s)) (arcs .mode) ⌝ }
-    requires { ⌜ Room (now out) at (keptBytes (halfArc (netOf (now s)) half (arcs .start + i))) ⌝ }
-    ensures { λ r. ⌜ Puts (now (out .entry)) at (keptBytes (halfArc (netOf (now (s .entry))) half (arcs .start + i))) (now (out .exit)) r ⌝ }
+    requires { ⌜ Room (now out) at (keptBytes (net .version) (halfArc (netOf (now s)) half (arcs .start + i))) ⌝ }
+    ensures { λ r. ⌜ Puts (now (out .entry)) at (keptBytes (net .version) (halfArc (netOf (now (s .entry))) half (arcs .start + i))) (now (out .exit)) r ⌝ }
 {
     let found = half_arc(s, net, below, dead, half, arcs, i);
     if is_blank(found) {
@@ -161,8 +165,8 @@ fn put_half_arcs(
     requires { ⌜ BelowAre (netOf (now s)) (now below) ⌝ }
     requires { ⌜ ModeArcs (netOf (now s) .arcs) (arcs .mode) (arcs .start) (arcs .count) ⌝ }
     requires { ⌜ dead ≡ isDead (netOf (now s)) (arcs .mode) ⌝ }
-    requires { ⌜ Room (now out) at (joined (arcs .count) (halfBytes (netOf (now s)) half (arcs .start))) ⌝ }
-    ensures { λ r. ⌜ Puts (now (out .entry)) at (joined (arcs .count) (halfBytes (netOf (now (s .entry))) half (arcs .start))) (now (out .exit)) r ⌝ }
+    requires { ⌜ Room (now out) at (joined (arcs .count) (halfBytes (netOf (now s)) (net .version) half (arcs .start))) ⌝ }
+    ensures { λ r. ⌜ Puts (now (out .entry)) at (joined (arcs .count) (halfBytes (netOf (now (s .entry))) (net .version) half (arcs .start))) (now (out .exit)) r ⌝ }
 {
     let count = arcs.count;
     let mut next = at;
@@ -185,6 +189,32 @@ fn half_no(h: usize) -> Half
 
 // "arcs rise strictly by mode, then pair": a mode's arcs on complement pairs follow its originals. A loop over both, so that the
 // inner one has one caller and is inlined (docs/SPEED.md).
+fn put_halves(
+    s: &[u8],
+    net: NetShape,
+    below: &[u16; 257],
+    dead: bool,
+    arcs: Segment,
+    out: &mut [u8],
+    at: usize,
+) -> usize
+    requires { ⌜ Open (now s) net ⌝ }
+    requires { ⌜ BelowAre (netOf (now s)) (now below) ⌝ }
+    requires { ⌜ ModeArcs (netOf (now s) .arcs) (arcs .mode) (arcs .start) (arcs .count) ⌝ }
+    requires { ⌜ dead ≡ isDead (netOf (now s)) (arcs .mode) ⌝ }
+    requires { ⌜ Room (now out) at (flatMap (arcBytes (net .version)) (rowArcs (netOf (now s)) (arcs .mode .0))) ⌝ }
+    ensures { λ r. ⌜ Puts (now (out .entry)) at (flatMap (arcBytes (net .version)) (rowArcs (netOf (now (s .entry))) (arcs .mode .0))) (now (out .exit)) r ⌝ }
+{
+    let mut next = at;
+    let mut h = 0;
+    while h < 2 {
+        next = put_half_arcs(s, net, below, dead, half_no(h), arcs, out, next);
+        h += 1;
+    }
+    next
+}
+
+// In version 2 a mode's arcs follow their count, which is known when they are put: they have 14 bytes each.
 fn put_mode(
     s: &[u8],
     net: NetShape,
@@ -198,15 +228,13 @@ fn put_mode(
     requires { ⌜ BelowAre (netOf (now s)) (now below) ⌝ }
     requires { ⌜ ModeArcs (netOf (now s) .arcs) (arcs .mode) (arcs .start) (arcs .count) ⌝ }
     requires { ⌜ dead ≡ isDead (netOf (now s)) (arcs .mode) ⌝ }
-    requires { ⌜ Room (now out) at (rowBytes (netOf (now s)) (arcs .mode .0)) ⌝ }
-    ensures { λ r. ⌜ Puts (now (out .entry)) at (rowBytes (netOf (now (s .entry))) (arcs .mode .0)) (now (out .exit)) r ⌝ }
+    requires { ⌜ Room (now out) at (rowBytes (netOf (now s)) (net .version) (arcs .mode .0)) ⌝ }
+    ensures { λ r. ⌜ Puts (now (out .entry)) at (rowBytes (netOf (now (s .entry))) (net .version) (arcs .mode .0)) (now (out .exit)) r ⌝ }
 {
-    let mut next = at;
-    let mut h = 0;
-    while h < 2 {
-        next = put_half_arcs(s, net, below, dead, half_no(h), arcs, out, next);
-        h += 1;
-    }
+    let version = net.version;
+    let start = at + own_size(version);
+    let next = put_halves(s, net, below, dead, arcs, out, start);
+    put_own(out, at, version, (next - start) / 14);
     next
 }
 
@@ -223,8 +251,8 @@ pub fn put_arcs(
     requires { ⌜ StartsAre (netOf (now s) .arcs) (now starts) ⌝ }
     requires { ⌜ BelowAre (netOf (now s)) (now below) ⌝ }
     requires { ⌜ DeadAre (netOf (now s)) (now dead) ⌝ }
-    requires { ⌜ Room (now out) at (flatMap arcBytes (complement (netOf (now s)) .arcs)) ⌝ }
-    ensures { λ r. ⌜ Puts (now (out .entry)) at (flatMap arcBytes (complement (netOf (now (s .entry))) .arcs)) (now (out .exit)) r ⌝ }
+    requires { ⌜ Room (now out) at (joined (net .modes) (rowBytes (netOf (now s)) (net .version))) ⌝ }
+    ensures { λ r. ⌜ Puts (now (out .entry)) at (joined (net .modes) (rowBytes (netOf (now (s .entry))) (net .version))) (now (out .exit)) r ⌝ }
 {
     let modes = net.modes;
     let mut next = at;

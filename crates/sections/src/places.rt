@@ -18,7 +18,7 @@ ghost use Rattle.written.specs.Written.{bytes16};
 ghost use Rattle.halves.specs.declared.half.Half.the-variants.{Complement};
 ghost use Rattle.halves.specs.Bounded.{BelowAre};
 ghost use Rattle.sections.specs.Places.{coloursIn, placeIf, halfPlace, placeBytes};
-ghost use Rattle.halves.specs.Puts.{Room, Puts};
+ghost use Rattle.written.specs.Puts.{Room, Puts};
 
 // How many colours a place of these pairs has, or has of finite K.
 fn half_colours(

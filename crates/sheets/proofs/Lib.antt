@@ -1,4 +1,5 @@
 pub mod Meaning
+pub mod GroupArcs
 pub mod Accepted
 pub mod Lists
 pub mod RefusalTables

@@ -1,15 +1,18 @@
 -- Where each part of the net that a sheet means stands in the sheet.
 use Prim.Native.Nat.{ℕ, _<_}
-use mathlib.Core.Path.{_≡_, refl}
+use mathlib.Core.Path.{_≡_, refl, _∙_, ap}
 use mathlib.Core.List.{List}
 use lib.ListN.{length, getD}
+use Rattle.model.specs.declared.Version.the-variants.{One, Two}
 use Rattle.model.specs.Numbers.{∞}
 use Rattle.model.specs.Nets.{pairs, modes, K, count, arcNo}
+use Rattle.model.specs.Lists.{table}
 use Rattle.model.proofs.Tables.{table-length, table-at}
 use Rattle.heads.specs.Bytes.{u16At, u32At}
-use Rattle.heads.specs.Layout.{countAt, counts, coloursAt, placeCount, transitionCount, modesAt, pairCount, modeCount, pairsAt, pairAt, arcCount, arcsAt, arcAt, capacityAt, startAt}
+use Rattle.heads.specs.Layout.{countAt, counts, coloursAt, placeCount, transitionCount, modesAt, pairCount, modeCount, pairsAt, pairAt, arcCountAt, arcCount, arcsAt, arcAt, capacityAt, startAt}
+use Rattle.heads.specs.Version.{versionOf}
 use Rattle.fields.specs.Numbers.{bound}
-use Rattle.sheets.specs.Decoded.{netArcAt, netOf}
+use Rattle.sheets.specs.Decoded.{netArcAt, arcsOf, netArcs, netOf}
 
 module _ (s : List ℕ) where
   pub counts-length : (start n : ℕ) → length (counts s start n) ≡ n
@@ -20,7 +23,11 @@ module _ (s : List ℕ) where
   unfolding counts
   counts-at start n i h = table-at n (λ i. u16At s (countAt start i)) 0 i h
 
-  pub colours-are : netOf s .colours ≡ counts s coloursAt (placeCount s)
+  pub rule-is : netOf s .rule ≡ 0
+  unfolding netOf
+  rule-is = refl
+
+  pub colours-are : netOf s .colours ≡ counts s (coloursAt s) (placeCount s)
   unfolding netOf
   colours-are = refl
 
@@ -52,10 +59,19 @@ module _ (s : List ℕ) where
   unfolding netOf
   start-at p h = table-at (pairCount s) (λ p. u32At s (startAt (pairAt (pairsAt s) p))) 0 p h
 
-  pub arcs-length : length (netOf s .arcs) ≡ arcCount s
-  unfolding netOf
-  arcs-length = table-length (arcCount s) _
+  -- version 1: from the arcs' first byte on
+  module _ (one : versionOf s ≡ One) where
+    arcs-one : netOf s .arcs ≡ table (arcCount s) (λ k. netArcAt s (arcAt (arcsAt s) k))
+    unfolding netOf netArcs
+    arcs-one = rw one
 
-  pub arc-at : (k : ℕ) → k < arcCount s → arcNo (netOf s .arcs) k ≡ netArcAt s (arcAt (arcsAt s) k)
-  unfolding netOf
-  arc-at k h = table-at (arcCount s) (λ k. netArcAt s (arcAt (arcsAt s) k)) _ k h
+    pub arcs-length : length (netOf s .arcs) ≡ arcCount s
+    arcs-length = ap length arcs-one ∙ table-length (arcCount s) _
+
+    pub arc-at : (k : ℕ) → k < arcCount s → arcNo (netOf s .arcs) k ≡ netArcAt s (arcAt (arcsAt s) k)
+    arc-at k h = ap (λ arcs. arcNo arcs k) arcs-one ∙ table-at (arcCount s) (λ k. netArcAt s (arcAt (arcsAt s) k)) _ k h
+
+  -- version 2: mode by mode
+  pub arcs-two : versionOf s ≡ Two → netOf s .arcs ≡ arcsOf s (arcCountAt s) (modeCount s)
+  unfolding netOf netArcs
+  arcs-two two = rw two

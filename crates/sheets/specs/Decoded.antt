@@ -4,30 +4,49 @@ use mathlib.Core.List.{List}
 use lib.IntN.{ℤ}
 use Rattle.model.specs.declared.Arc.{Arc}
 use Rattle.model.specs.declared.Mode.{Mode}
-use Rattle.model.specs.Lists.{table}
+use Rattle.model.specs.declared.Version.{Version}
+use Rattle.model.specs.declared.Version.the-variants.{One, Two}
+use Rattle.model.specs.Lists.{table, joined}
 use Rattle.model.specs.Nets.{NetArc, PNet, pairNo, modeNo}
 use Rattle.heads.specs.Bytes.{u16At, u32At}
-use Rattle.heads.specs.Layout.{counts, coloursAt, placeCount, transitionCount, modesAt, pairCount, pairsAt, pairAt, arcCount, arcsAt, arcAt, capacityAt, startAt, arcModeAt, arcPairAt, preAt, postAt, inhibitorAt, movementAt, movementCount, weightCount, weightAt}
+use Rattle.heads.specs.Layout.{counts, coloursAt, placeCount, transitionCount, modesAt, pairCount, modeCount, pairsAt, pairAt, arcCountAt, arcCount, arcsAfter, arcsAt, arcAt, groupAt, groupCount, groupArcAt, capacityAt, startAt, arcModeAt, arcTailAt, tailPairAt, tailPreAt, tailPostAt, tailInhibitorAt, movementAt, movementCount, weightCount, weightAt}
+use Rattle.heads.specs.Version.{versionOf}
 use Rattle.lists.specs.Weights.{signed}
 use Rattle.fields.specs.Numbers.{bound}
 
--- the arc that stands at `at`
-unfoldable pub netArcAt : List ℕ → ℕ → NetArc
-netArcAt s at =
+-- the arc of mode t whose 14 bytes stand at `tail`
+unfoldable pub netArcIn : List ℕ → ℕ → ℕ → NetArc
+netArcIn s t tail =
     record {
-      mode = modeNo (u16At s (arcModeAt at));
-      pair = pairNo (u16At s (arcPairAt at));
-      entry = record { pre = u32At s (preAt at); post = u32At s (postAt at); inhibitor = bound (u32At s (inhibitorAt at)) };
+      mode = modeNo t;
+      pair = pairNo (u16At s (tailPairAt tail));
+      entry = record { pre = u32At s (tailPreAt tail); post = u32At s (tailPostAt tail); inhibitor = bound (u32At s (tailInhibitorAt tail)) };
     }
+
+-- version 1: the arc that stands at `at`
+abbrev pub netArcAt : List ℕ → ℕ → NetArc
+netArcAt s at = netArcIn s (u16At s (arcModeAt at)) (arcTailAt at)
+
+-- version 2: the arcs of mode t, and of all modes, from `base` on
+unfoldable pub groupArcs : List ℕ → ℕ → ℕ → List NetArc
+groupArcs s base t = table (groupCount s base t) (λ i. netArcIn s t (groupArcAt (arcsAfter (groupAt s base t)) i))
+
+unfoldable pub arcsOf : List ℕ → ℕ → ℕ → List NetArc
+arcsOf s base modes = joined modes (groupArcs s base)
+
+unfoldable pub netArcs : Version → List ℕ → List NetArc
+netArcs One s = table (arcCount s) (λ k. netArcAt s (arcAt (arcsAt s) k))
+netArcs Two s = arcsOf s (arcCountAt s) (modeCount s)
 
 unfoldable pub netOf : List ℕ → PNet
 netOf s =
     record {
-      colours = counts s coloursAt (placeCount s);
+      rule = 0;
+      colours = counts s (coloursAt s) (placeCount s);
       modesOf = counts s (modesAt s) (transitionCount s);
       capacity = table (pairCount s) (λ p. bound (u32At s (capacityAt (pairAt (pairsAt s) p))));
       start = table (pairCount s) (λ p. u32At s (startAt (pairAt (pairsAt s) p)));
-      arcs = table (arcCount s) (λ k. netArcAt s (arcAt (arcsAt s) k));
+      arcs = netArcs (versionOf s) s;
     }
 
 unfoldable pub weightsOf : List ℕ → List ℤ

@@ -1,6 +1,6 @@
--- What is there and within document 01's limits is not refused.
+-- What is there and within the limits of documents 01 and 02 is not refused.
 use Prim.Native.Nat.{ℕ, _+_, _-_, _≤_, _<_}
-use mathlib.Core.Path.{_≡_}
+use mathlib.Core.Path.{_≡_, refl}
 use mathlib.Core.Bool.{true, false}
 use mathlib.Core.List.{List}
 use mathlib.Core.Logic.{⊎-elim}
@@ -8,26 +8,37 @@ use mathlib.Core.Option.{none}
 use lib.ListN.{length}
 use native.Mathlib.Omega.{arith}
 use borrow.Author.Tests.{lt-ltb, le-ltb, lt-leb, eq-eqb, ne-eqb}
+use Rattle.model.specs.declared.Version.{Version}
+use Rattle.model.specs.declared.Version.the-variants.{One, Two}
 use Rattle.model.specs.declared.Thing.the-variants.{Net}
 use Rattle.model.specs.First.{_▸_}
 use Rattle.model.specs.Numbers.{limit}
-use Rattle.model.proofs.First.{none-then, below-or}
-use Rattle.heads.specs.Bytes.{u16At, u32At}
-use Rattle.heads.specs.Layout.{bodyLength, sheetEnd, version, totalOf, capacityAt, startAt, arcAt, arcSize, arcModeAt, arcPairAt, preAt, postAt}
-use Rattle.heads.specs.Checks.{headRefusal, countRefusal}
+use Rattle.model.proofs.First.{none-then, first-all, below-or}
+use Rattle.heads.specs.Bytes.{byteAt, u16At, u32At}
+use Rattle.heads.specs.Layout.{bodyLength, sheetEnd, version, ruleAt, totalOf, capacityAt, startAt, arcAt, arcSize, arcModeAt, arcTailAt, arcPairAt, tailSize, tailPairAt, tailPreAt, tailPostAt, groupArcAt, arcsAfter, arcsBefore, groupAt, groupCount}
+use Rattle.heads.specs.Checks.{known, headRefusal, countRefusal}
 use Rattle.fields.specs.Fields.{runningRefusal, capacityRefusal, startRefusal, pairRefusal}
-use Rattle.nets.specs.Nets.{risesTo, notRising, arcNumbersRefusal, arcNamesRefusal, arcRefusal}
+use Rattle.nets.specs.Tails.{tailNumbers}
+use Rattle.nets.specs.Groups.{pairNotRising, pairNameRefusal, groupArcRefusal, groupRefusal}
+use Rattle.nets.specs.Nets.{risesTo, notRising, arcNamesRefusal, arcRefusal, ruleField}
 use Rattle.heads.specs.Held.{Headed}
 use Rattle.fields.proofs.RunningTotals.{CountRead, RunningRead}
 use Rattle.fields.proofs.PairFields.{CapacityRead, StartRead}
+use Rattle.nets.proofs.TailsRead.{TailRead}
+use Rattle.nets.proofs.GroupsRead.{GroupArcRead, GroupRead}
 use Rattle.nets.proofs.Valid.{ArcRead}
 
 module _ (s : List ℕ) where
-  pub head-accepts : Headed s → version s ≡ 1 → headRefusal Net s ≡ none
+  pub head-accepts : Headed s → known Net (version s) ≡ true → headRefusal Net s ≡ none
   unfolding headRefusal _▸_
   head-accepts there v =
       rw
-      (le-ltb (length s) 4 (omega (arith, there .there)), le-ltb (length s) (sheetEnd s) (there .there), ne-eqb (bodyLength s) 0 (omega (arith, there .versioned)), eq-eqb (version s) 1 v)
+      (le-ltb (length s) 4 (omega (arith, there .there)), le-ltb (length s) (sheetEnd s) (there .there), ne-eqb (bodyLength s) 0 (omega (arith, there .versioned)), v)
+
+  pub rule-accepts : (v : Version) → ruleAt + 1 ≤ sheetEnd s → (v ≡ Two → byteAt s ruleAt ≡ 0) → ruleField v s ≡ none
+  unfolding ruleField _▸_
+  rule-accepts One there r = refl
+  rule-accepts Two there r = rw (le-ltb (sheetEnd s) (ruleAt + 1) there, eq-eqb (byteAt s ruleAt) 0 (r refl))
 
   pub count-accepts : (at low high : ℕ) → CountRead s at low high → countRefusal Net s at low high ≡ none
   unfolding countRefusal _▸_
@@ -44,14 +55,43 @@ module _ (s : List ℕ) where
       rw
       (le-ltb (sheetEnd s) (capacityAt at + 4) (k .there), k .inRange, le-ltb (sheetEnd s) (startAt at + 4) (m .there), le-ltb limit (u32At s (startAt at)) (m .inRange), m .within)
 
+  -- the numbers of an arc, in both versions
+  tail-accepts : (arc tail : ℕ) → TailRead s tail → tailNumbers s arc tail ≡ none
+  unfolding tailNumbers _▸_
+  tail-accepts arc tail r =
+      rw (le-ltb limit (u32At s (tailPreAt tail)) (r .pre), le-ltb limit (u32At s (tailPostAt tail)) (r .post), r .inhibitor, r .notBlank)
+
+  -- version 1
   rising : (start k : ℕ) → (0 < k → risesTo s (arcAt start (k - 1)) (arcAt start k) ≡ true) → notRising s start k ≡ false
   unfolding notRising
   rising start k h =
       ⊎-elim (λ (l : 0 < k). rw (lt-ltb 0 k l, h l)) (λ (l : k ≤ 0). rw (le-ltb 0 k l)) (below-or 0 k)
 
   pub arc-accepts : (modes pairs start k : ℕ) → ArcRead s modes pairs start k → arcRefusal s modes pairs start k ≡ none
-  unfolding arcRefusal arcNamesRefusal arcNumbersRefusal _▸_
+  unfolding arcRefusal arcNamesRefusal _▸_
   arc-accepts modes pairs start k r =
       let at = arcAt start k in
       rw
-      (le-ltb (sheetEnd s) (at + arcSize) (r .there), lt-leb modes (u16At s (arcModeAt at)) (r .mode), lt-leb pairs (u16At s (arcPairAt at)) (r .pair), rising start k (r .rises), le-ltb limit (u32At s (preAt at)) (r .pre), le-ltb limit (u32At s (postAt at)) (r .post), r .inhibitor, r .notBlank)
+      (le-ltb (sheetEnd s) (at + arcSize) (r .there), lt-leb modes (u16At s (arcModeAt at)) (r .mode), lt-leb pairs (u16At s (arcPairAt at)) (r .pair), rising start k (r .rises))
+      (tail-accepts at (arcTailAt at) (r .tail))
+
+  -- version 2
+  pair-rising : (start i : ℕ) → (0 < i → u16At s (tailPairAt (groupArcAt start (i - 1))) < u16At s (tailPairAt (groupArcAt start i))) → pairNotRising s start i ≡ false
+  unfolding pairNotRising
+  pair-rising start i h =
+      ⊎-elim (λ (l : 0 < i). rw (lt-ltb 0 i l, lt-leb _ _ (h l))) (λ (l : i ≤ 0). rw (le-ltb 0 i l)) (below-or 0 i)
+
+  group-arc-accepts : (pairs start i : ℕ) → GroupArcRead s pairs start i → groupArcRefusal s pairs start i ≡ none
+  unfolding groupArcRefusal pairNameRefusal _▸_
+  group-arc-accepts pairs start i r =
+      let at = groupArcAt start i in
+      rw
+      (le-ltb (sheetEnd s) (at + tailSize) (r .there), lt-leb pairs (u16At s (tailPairAt at)) (r .pair), pair-rising start i (r .rises))
+      (tail-accepts at at (r .tail))
+
+  pub group-accepts : (pairs base t : ℕ) → GroupRead s pairs base t → groupRefusal s pairs base t ≡ none
+  unfolding groupRefusal _▸_
+  group-accepts pairs base t r =
+      rw
+      (le-ltb (sheetEnd s) (groupAt s base t + 2) (r .there), le-ltb 2048 (arcsBefore s base t + groupCount s base t) (r .inTotal))
+      (first-all (groupCount s base t) _ (λ i h. group-arc-accepts pairs (arcsAfter (groupAt s base t)) i (r .arcs i h)))

@@ -3,11 +3,12 @@ use Prim.Native.Nat.{ℕ, zero, suc, _+_, _*_, _/_, _%_, _<_, _≤_}
 use mathlib.Core.Path.{_≡_, refl}
 use mathlib.Core.List.{List, [], _∷_}
 use mathlib.Core.Logic.{⊎-elim}
-use lib.ListN.{length, List·getD-eq-default}
+use lib.ListN.{length, length-append, List·getD-eq-default}
 use native.Mathlib.Omega.{arith}
+use Rattle.model.specs.declared.Version.{Version}
 use Rattle.model.proofs.First.{below-or}
 use Rattle.heads.specs.Bytes.{byteAt, u16At, u32At}
-use Rattle.written.specs.Written.{bytes16, bytes32, headBytes}
+use Rattle.written.specs.Written.{bytes16, bytes32, versionBytes, headBytes}
 use Rattle.written.proofs.Stands.{Stands, stands-both, stands-left, stands-right}
 
 pub length16 : (n : ℕ) → length (bytes16 n) ≡ 2
@@ -18,9 +19,9 @@ pub length32 : (n : ℕ) → length (bytes32 n) ≡ 4
 unfolding bytes16 bytes32
 length32 n = refl
 
-pub head-length : (l : ℕ) → length (headBytes l) ≡ 5
-unfolding bytes16 bytes32 headBytes
-head-length l = refl
+pub head-length : (v : Version) (rule l : ℕ) → length (headBytes v rule l) ≡ 4 + length (versionBytes v rule)
+unfolding headBytes
+head-length v rule l = rw length-append (omega (arith, length32 l))
 
 -- what stands past the end of a run reads as 0
 pub every-byte : (s : List ℕ) → ((i : ℕ) → i < length s → byteAt s i < 256) → (i : ℕ) → byteAt s i < 256
@@ -39,7 +40,7 @@ module _ (s : List ℕ) where
       omega
       (arith, read16 at (n / 65536) (omega arith) (stands-left high low l), read16 (at + 2) (n % 65536) (omega arith) (stands-right high low l (at + 2) (omega (arith, length16 (n / 65536)))))
 
-  two : (at : ℕ) {a b : ℕ} → byteAt s at ≡ a → byteAt s (at + 1) ≡ b → Stands s at (a ∷ b ∷ [])
+  pub two : (at : ℕ) {a b : ℕ} → byteAt s at ≡ a → byteAt s (at + 1) ≡ b → Stands s at (a ∷ b ∷ [])
   two at {a} {b} x y = record { each = go }
     where
       go : (j k : ℕ) → j < 2 → k ≡ at + j → byteAt s k ≡ byteAt (a ∷ b ∷ []) j

@@ -7,18 +7,23 @@ use native.Mathlib.Omega.{arith}
 use Rattle.model.specs.declared.Mode.{Mode}
 use Rattle.model.specs.Numbers.{ℕ∞, ∞}
 use Rattle.model.specs.Rows.{Entry, Row}
-use Rattle.model.specs.Nets.{PNet, arcNo, modeNo}
+use Rattle.model.specs.Nets.{PNet, pairs, modes, arcNo, modeNo}
+use Rattle.model.specs.declared.Version.the-variants.{One}
 use Rattle.model.specs.WellFormed.{ArcOf, Counted, WellFormed}
 use Rattle.model.specs.Complement.{written, arcsOf}
 use Rattle.model.specs.WorkedExamples.{ownExample}
 use Rattle.model.proofs.Each.{each-at, sorted-rising}
 use Rattle.model.proofs.WrittenRows.{not-blank, each-row, sorted-rows}
-use Rattle.nets.proofs.Valid.{counts-hold, arcs-within}
-use Rattle.written.specs.Written.{sheetOf}
+use Rattle.heads.specs.Version.{versionOf}
+use Rattle.sheets.specs.Decoded.{netOf}
+use Rattle.sheets.proofs.Accepted as sheets
+use Rattle.written.proofs.ByMode.{by-mode}
+use Rattle.written.proofs.NetStands.{ends-of}
+use Rattle.written.specs.Written.{versionBytes, sheetOf}
 use Rattle.written.specs.Promises.{LargestSheet, ExampleLengths}
 use Rattle.written.proofs.RoundTrip.{fields-end, written-then-read}
 use Rattle.written.proofs.Sections.{joined-length}
-use Rattle.written.proofs.SheetLength.{fields-length, sheet-size}
+use Rattle.written.proofs.SheetLength.{section-one, fields-length, sheet-length, sheet-size, sheet-most}
 
 -- A net at every limit: 64 places of 4 colours, 64 transitions of 4 modes, and an arc at each pair of the first 8 modes.
 one : Entry
@@ -33,6 +38,7 @@ fours = replicate 64 4
 largest : PNet
 largest =
     record {
+      rule = 0;
       colours = fours;
       modesOf = fours;
       capacity = replicate 256 ∞;
@@ -64,6 +70,7 @@ well-formed : WellFormed largest
 unfolding largest
 well-formed =
     record {
+      rule = refl;
       somePlace = omega arith;
       places = counted;
       transitions = counted;
@@ -75,19 +82,30 @@ well-formed =
       rising = sorted-rising (arcsOf 8 256 rows) (sorted-rows 8 256 rows);
     }
 
-size : length (sheetOf largest) ≡ 35083
-unfolding largest
-size = sheet-size largest ∙ omega (arith, arcs-many)
+size : length (sheetOf One largest) ≡ 35083
+unfolding largest versionBytes
+size = omega (arith, sheet-length One largest, fields-length One largest, section-one largest, arcs-many)
 
 pub largest-sheet : LargestSheet
 largest-sheet =
     record {
       most = λ s e.
-          let counts = counts-hold s e in
-          omega (arith, fields-end s e, counts .sized .places, counts .sized .transitions, counts .pairs, arcs-within s e);
-      reached = (sheetOf largest, written-then-read largest well-formed .accepted, size);
+          let well = sheets.well-formed s e in
+          omega (
+            arith,
+            fields-end s e,
+            ends-of s well,
+            sheet-length (versionOf s) (netOf s),
+            sheet-size (versionOf s) (netOf s) (by-mode (netOf s) well),
+            sheet-most (versionOf s) (length (netOf s .colours)) (length (netOf s .modesOf)) (pairs (netOf s)) (modes (netOf s)) (length (netOf s .arcs)) (well .places .many) (well .transitions .many) (well .places .inTotal) (well .transitions .inTotal) (well .arcCount),
+          );
+      reached = (sheetOf One largest, written-then-read One largest well-formed .accepted, size);
     }
 
 pub example-lengths : ExampleLengths
+unfolding versionBytes
 example-lengths =
-    record { net = omega (arith, fields-length (ownExample .net)); complement = omega (arith, fields-length (ownExample .printed)) }
+    record {
+      net = omega (arith, fields-length One (ownExample .net), section-one (ownExample .net));
+      complement = omega (arith, fields-length One (ownExample .printed), section-one (ownExample .printed));
+    }

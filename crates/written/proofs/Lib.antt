@@ -3,6 +3,9 @@ pub mod BigEndian
 pub mod Sections
 pub mod Records
 pub mod SheetLength
+pub mod ByMode
+pub mod Versions
+pub mod Groups
 pub mod NetRead
 pub mod NetStands
 pub mod RoundTrip

@@ -1,27 +1,45 @@
 -- The sheet of the net that was read stands where it was read.
 use Prim.Native.Nat.{ℕ, _+_, _*_, _<_}
-use mathlib.Core.Path.{_≡_}
-use mathlib.Core.List.{List, [], _∷_, flatten, flatMap}
+use mathlib.Core.Path.{_≡_, refl, sym, _∙_, ap}
+use mathlib.Core.List.{List, flatten, flatMap}
 use lib.ListN.{length}
 use native.Mathlib.Omega.{arith}
-use Rattle.model.specs.Nets.{pairs, K, count}
+use Rattle.model.specs.declared.Version.{Version}
+use Rattle.model.specs.declared.Version.the-variants.{One, Two}
+use Rattle.model.specs.Nets.{pairs, modes, K, count}
+use Rattle.model.specs.WellFormed.{WellFormed}
 use Rattle.heads.specs.Bytes.{byteAt, u16At}
-use Rattle.heads.specs.Layout.{bodyLength, version, counts, placesAt, transitionsAt, coloursAt, placeCount, transitionCount, modesAt, pairsAt, pairAt, arcCountAt, arcCount, arcsAt, arcAt}
-use Rattle.sheets.specs.Decoded.{netOf}
-use Rattle.written.specs.Written.{bytes16, bytes32, pairBytes, arcBytes, pairsBytes, headBytes, fieldsOf, lengthOf, sheetOf}
+use Rattle.heads.specs.Layout.{bodyLength, version, ruleAt, counts, fieldsAt, placesAt, transitionsAt, coloursAt, placeCount, transitionCount, modesAt, modeCount, pairsAt, pairAt, arcCountAt, arcCount, arcsAt, arcAt, groupAt}
+use Rattle.heads.specs.Version.{versionOf}
+use Rattle.sheets.specs.Decoded.{netArcs, netOf}
+use Rattle.written.specs.Written.{bytes16, bytes32, pairBytes, arcBytes, pairsBytes, versionNumber, versionBytes, headBytes, totalBytes, sectionBytes, fieldsOf, lengthOf, sheetOf}
+use Rattle.written.specs.Puts.{sectionSize}
 use Rattle.written.proofs.Stands.{Stands, stands-both, moved, none-stand, next-stands}
-use Rattle.written.proofs.BigEndian.{length16, length32, head-length, stand16, stand32}
+use Rattle.written.proofs.BigEndian.{length16, length32, head-length, two, stand16, stand32}
 use Rattle.written.proofs.Sections.{joined-stand, section-stands}
-use Rattle.sheets.proofs.Meaning.{counts-length, pairs-are, capacity-at, start-at, arcs-length}
+use Rattle.sheets.proofs.Meaning.{rule-is, counts-length, pairs-are, modes-are, capacity-at, start-at, arcs-length, arcs-two}
+use Rattle.sheets.proofs.GroupArcs.{group-arcs-length}
 use Rattle.written.proofs.Records.{pair-length, arc-length, stand-pair, stand-arc}
-use Rattle.written.proofs.SheetLength.{counts-section, pairs-section, fields-length}
+use Rattle.written.proofs.SheetLength.{counts-section, pairs-section, section-size, fields-length}
+use Rattle.written.proofs.ByMode.{by-mode}
+use Rattle.written.proofs.Groups.{arcs-stand-back}
+use Rattle.written.proofs.Versions.{fields-from}
+
+-- where the arcs of a sheet end
+abbrev pub arcsEnd : Version → List ℕ → ℕ
+arcsEnd One s = arcAt (arcsAt s) (arcCount s)
+arcsEnd Two s = groupAt s (arcCountAt s) (modeCount s)
+
+pub arcs-end : (v : Version) (s : List ℕ) → versionOf s ≡ v → arcsEnd v s ≡ arcCountAt s + sectionSize v (modes (netOf s)) (length (netOf s .arcs))
+arcs-end One s e = omega (arith, arcs-length s e)
+arcs-end Two s e = omega (arith, ap length (arcs-two s e), group-arcs-length s (arcCountAt s) (modeCount s), modes-are s)
 
 module _ (s : List ℕ) where
-  places-of : length (netOf s .colours) ≡ placeCount s
+  pub places-of : length (netOf s .colours) ≡ placeCount s
   unfolding netOf
-  places-of = counts-length s coloursAt (placeCount s)
+  places-of = counts-length s (coloursAt s) (placeCount s)
 
-  transitions-of : length (netOf s .modesOf) ≡ transitionCount s
+  pub transitions-of : length (netOf s .modesOf) ≡ transitionCount s
   unfolding netOf
   transitions-of = counts-length s (modesAt s) (transitionCount s)
 
@@ -36,37 +54,64 @@ module _ (s : List ℕ) where
         joined-stand 8 (λ p. pairBytes (K (netOf s) p) (count (netOf s .start) p)) (λ p. pair-length _ _) _
         (λ p k l e. rw (capacity-at s p (rw (← pairs-are s) l), start-at s p (rw (← pairs-are s) l)) (moved k e (stand-pair s (pairAt (pairsAt s) p) byte)))
 
-    arcs-stand : Stands s (arcsAt s) (flatMap arcBytes (netOf s .arcs))
-    unfolding netOf
-    arcs-stand = section-stands 16 arcBytes arc-length _ _ (λ k i l e. moved i e (stand-arc s (arcAt (arcsAt s) k) byte))
-
     count-stands : (at n : ℕ) → n ≡ u16At s at → Stands s at (bytes16 n)
     count-stands at n e = rw e (stand16 s byte at)
 
-    fields-stand : Stands s 5 (flatten (fieldsOf (netOf s)))
-    unfolding bytes16 netOf arcCount
+    arcs-stand : Stands s (arcsAt s) (flatMap (arcBytes One) (netArcs One s))
+    unfolding netArcs
+    arcs-stand = section-stands 16 (arcBytes One) (arc-length One) _ _ (λ k i l e. moved i e (stand-arc s (arcAt (arcsAt s) k) byte))
+
+    arcs-are : (v : Version) → versionOf s ≡ v → netOf s .arcs ≡ netArcs v s
+    unfolding netOf
+    arcs-are v e = rw e
+
+    section-by : (v : Version) → versionOf s ≡ v → Stands s (arcCountAt s) (sectionBytes v (netOf s))
+    unfolding sectionBytes totalBytes arcCount
+    section-by One e =
+        let arcs : Stands s (arcsAt s) (flatMap (arcBytes One) (netOf s .arcs)) = rw (arcs-are One e) arcs-stand in
+        stands-both (count-stands (arcCountAt s) _ (arcs-length s e)) arcs (omega (arith, length16 (length (netOf s .arcs))))
+    section-by Two e = rw (arcs-two s e, modes-are s) (arcs-stand-back s (arcCountAt s) (modeCount s) byte)
+
+    pub fields-stand : Stands s (fieldsAt s) (flatten (fieldsOf (versionOf s) (netOf s)))
+    unfolding bytes16 netOf
     fields-stand =
         let places = counts-section (netOf s .colours) in
         let transitions = counts-section (netOf s .modesOf) in
         let pairs = pairs-section (netOf s) in
-        next-stands _ (count-stands placesAt _ places-of) (omega arith)
-        (next-stands _ (count-stands transitionsAt _ transitions-of) (omega arith)
-        (next-stands _ (counts-stand coloursAt (placeCount s)) (omega arith)
+        next-stands _ (count-stands (placesAt s) _ places-of) (omega arith)
+        (next-stands _ (count-stands (transitionsAt s) _ transitions-of) (omega arith)
+        (next-stands _ (counts-stand (coloursAt s) (placeCount s)) (omega arith)
         (next-stands _ (counts-stand (modesAt s) (transitionCount s)) (omega (arith, places-of))
         (next-stands _ pairs-stand (omega (arith, places-of, transitions-of))
-        (next-stands _ (count-stands (arcCountAt s) _ (arcs-length s)) (omega (arith, places-of, transitions-of, pairs-are s))
-        (next-stands _ arcs-stand (omega (arith, places-of, transitions-of, pairs-are s)) none-stand))))))
+        (next-stands _ (section-by (versionOf s) refl) (omega (arith, places-of, transitions-of, pairs-are s)) none-stand)))))
 
-  pub ends-of : 4 + lengthOf (netOf s) ≡ arcAt (arcsAt s) (arcCount s)
-  ends-of = omega (arith, fields-length (netOf s), places-of, transitions-of, pairs-are s, arcs-length s)
+  pub fields-are-at : fieldsAt s ≡ 4 + length (versionBytes (versionOf s) (netOf s .rule))
+  unfolding fieldsAt
+  fields-are-at = fields-from (versionOf s) (netOf s .rule)
 
-  version-stands : version s ≡ 1 → Stands s 4 (1 ∷ [])
-  version-stands e = record { each = λ j k l q. let j≡0 : j ≡ 0 = omega arith in let k≡4 : k ≡ 4 = omega arith in rw (j≡0, k≡4) e }
+  pub ends-of : WellFormed (netOf s) → 4 + lengthOf (versionOf s) (netOf s) ≡ arcsEnd (versionOf s) s
+  ends-of well =
+      omega (
+        arith,
+        fields-are-at,
+        fields-length (versionOf s) (netOf s),
+        section-size (versionOf s) (netOf s) (by-mode (netOf s) well),
+        arcs-end (versionOf s) s refl,
+        places-of,
+        transitions-of,
+        pairs-are s,
+      )
 
-  pub sheet-stands : (byte : (i : ℕ) → byteAt s i < 256) → version s ≡ 1 → bodyLength s ≡ lengthOf (netOf s) → Stands s 0 (sheetOf (netOf s))
+  version-stands : (v : Version) → version s ≡ versionNumber v → (v ≡ Two → byteAt s ruleAt ≡ 0) → Stands s 4 (versionBytes v (netOf s .rule))
+  unfolding versionBytes
+  version-stands One e r = record { each = λ j k l q. let j≡0 : j ≡ 0 = omega arith in let k≡4 : k ≡ 4 = omega arith in rw (j≡0, k≡4) e }
+  version-stands Two e r = two s 4 e (r refl ∙ sym (rule-is s))
+
+  pub sheet-stands : (byte : (i : ℕ) → byteAt s i < 256) → version s ≡ versionNumber (versionOf s) → (versionOf s ≡ Two → byteAt s ruleAt ≡ 0)
+      → bodyLength s ≡ lengthOf (versionOf s) (netOf s) → Stands s 0 (sheetOf (versionOf s) (netOf s))
   unfolding sheetOf headBytes
-  sheet-stands byte v e =
-      let l = lengthOf (netOf s) in
+  sheet-stands byte v r e =
+      let l = lengthOf (versionOf s) (netOf s) in
       let length-stands : Stands s 0 (bytes32 l) = rw (← e) (stand32 s byte 0) in
-      let head = stands-both length-stands (version-stands v) (omega (arith, length32 l)) in
-      stands-both head (fields-stand byte) (omega (arith, head-length l))
+      let head = stands-both length-stands (version-stands (versionOf s) v r) (omega (arith, length32 l)) in
+      stands-both head (fields-stand byte) (omega (arith, fields-are-at, head-length (versionOf s) (netOf s .rule) l))

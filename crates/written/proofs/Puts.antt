@@ -9,8 +9,14 @@ use native.Mathlib.Omega.{arith}
 use native.Mathlib.Numerals.{add-one}
 use Rattle.model.specs.Lists.{joined}
 use Rattle.heads.specs.Bytes.{byteAt}
-use Rattle.written.specs.Written.{bytes16}
-use Rattle.written.specs.Puts.{Written, Put}
+use Rattle.model.specs.declared.Version.{Version}
+use Rattle.model.specs.Numbers.{ℕ∞}
+use Rattle.model.specs.Nets.{NetArc}
+use Rattle.written.specs.Written.{bytes16, bytes32, pairBytes, arcBytes}
+use Rattle.written.specs.Puts.{Written, Put, Room, Puts, modeSize}
+use Rattle.written.proofs.Sections.{joined-room}
+use Rattle.written.proofs.BigEndian.{length16, length32}
+use Rattle.written.proofs.Records.{pair-length, arc-length}
 
 sets-append : (l : List ℕ) (at : ℕ) (xs ys : List ℕ) → sets l at (xs ++ ys) ≡ sets (sets l at xs) (at + length xs) ys
 sets-append l at [] ys = let e : at + 0 ≡ at = omega arith in rw e
@@ -103,3 +109,49 @@ unfolding bytes16
 two l at x h =
     let e : x / 256 % 256 ≡ x / 256 = omega arith in
     record { written = record { is = rw (e, add-one at) }; sized = refl; kept = simp length-set; next = refl }
+
+module _ {l : List ℕ} {at : ℕ} where
+  -- the same bytes, told otherwise
+  pub room-as : {xs ys : List ℕ} → xs ≡ ys → Room l at xs → Room l at ys
+  room-as e h = rw e at h
+
+  pub puts-as : {m xs ys : List ℕ} {k : ℕ} → xs ≡ ys → Puts l at xs m k → Puts l at ys m k
+  puts-as e p = rw e at p
+
+  -- room for a field, as its put asks for it
+  pub count-fits : (n : ℕ) → Room l at (bytes16 n) → at + 2 ≤ length l
+  count-fits n h = omega (arith, length16 n)
+
+  pub long-fits : (n : ℕ) (ys : List ℕ) → Room l at (bytes32 n ++ ys) → at + 4 ≤ length l
+  long-fits n ys h = omega (arith, length-append (bytes32 n) ys, length32 n)
+
+  pub arc-fits : (v : Version) (a : NetArc) → Room l at (arcBytes v a) → at + (modeSize v + 14) ≤ length l
+  arc-fits v a h = omega (arith, arc-length v a)
+
+  pub pair-fits : (k : ℕ∞) (m : ℕ) → Room l at (pairBytes k m) → at + 8 ≤ length l
+  pair-fits k m h = omega (arith, pair-length k m)
+
+  -- one part, then another
+  pub room-first : (xs ys : List ℕ) → Room l at (xs ++ ys) → Room l at xs
+  room-first xs ys h = record { fits = omega (arith, length-append xs ys) }
+
+  pub room-next : {m : List ℕ} {k : ℕ} (xs ys : List ℕ) → Room l at (xs ++ ys) → Puts l at xs m k → Room m k ys
+  room-next xs ys h p = record { fits = omega (arith, length-append xs ys, p .kept, p .next) }
+
+  pub puts-both : {m n xs ys : List ℕ} {k after : ℕ} → Puts l at xs m k → Puts m k ys n after → Puts l at (xs ++ ys) n after
+  puts-both p q = put-length (puts p q)
+
+  -- the parts that a loop puts
+  module _ (part : ℕ → List ℕ) where
+    pub puts-none : Puts l at (joined 0 part) l at
+    puts-none = put-length (none-put part)
+
+    module _ {m : List ℕ} {k : ℕ} (i : ℕ) (so-far : Puts l at (joined i part) m k) where
+      pub room-more : (n : ℕ) → Room l at (joined n part) → i < n → Room m k (part i)
+      room-more n h b = record { fits = omega (arith, joined-room part n i b, so-far .kept, so-far .next) }
+
+      pub puts-more : {n : List ℕ} {after : ℕ} → Puts m k (part i) n after → Puts l at (joined (i + 1) part) n after
+      puts-more p = put-length (more-put part i so-far p)
+
+      pub puts-end : (n : ℕ) → i ≤ n → n ≤ i → Puts l at (joined n part) m k
+      puts-end n h b = let e : n ≡ i = omega arith in rw e so-far

@@ -4,38 +4,42 @@ use mathlib.Core.Path.{_≡_}
 use mathlib.Core.List.{List, _++_}
 use mathlib.Core.Option.{none}
 use lib.ListN.{length}
+use Rattle.model.specs.declared.Version.{Version}
+use Rattle.model.specs.declared.Version.the-variants.{One}
 use Rattle.model.specs.Nets.{PNet}
 use Rattle.model.specs.Refusals.{answer}
 use Rattle.model.specs.WellFormed.{WellFormed}
 use Rattle.heads.specs.Bytes.{byteAt}
 use Rattle.model.specs.WorkedExamples.{ownExample}
 use Rattle.heads.specs.Layout.{sheetEnd}
+use Rattle.heads.specs.Version.{versionOf}
 use Rattle.nets.specs.Nets.{netRefusal}
 use Rattle.sheets.specs.Whole.{wholeNet, rest}
 use Rattle.sheets.specs.Decoded.{netOf}
 use Rattle.written.specs.Written.{lengthOf, sheetOf}
 
--- Both directions of a net sheet. A net that is written can be read back, alone and with bytes after it, which are handed back.
-pub record ReadBack (net : PNet) : Type 0 where
-  pub accepted : wholeNet (sheetOf net) ≡ none
-  pub same : netOf (sheetOf net) ≡ net
-  pub acceptedFirst : (more : List ℕ) → netRefusal (sheetOf net ++ more) ≡ none
-  pub sameFirst : (more : List ℕ) → netOf (sheetOf net ++ more) ≡ net
-  pub restAfter : (more : List ℕ) → rest (answer (netRefusal (sheetOf net ++ more))) (sheetOf net ++ more) ≡ more
+-- Both directions of a net sheet, in each version. A net that is written can be read back, alone and with bytes after it, which are handed back.
+pub record ReadBack (v : Version) (net : PNet) : Type 0 where
+  pub version : versionOf (sheetOf v net) ≡ v
+  pub accepted : wholeNet (sheetOf v net) ≡ none
+  pub same : netOf (sheetOf v net) ≡ net
+  pub acceptedFirst : (more : List ℕ) → netRefusal (sheetOf v net ++ more) ≡ none
+  pub sameFirst : (more : List ℕ) → netOf (sheetOf v net ++ more) ≡ net
+  pub restAfter : (more : List ℕ) → rest (answer (netRefusal (sheetOf v net ++ more))) (sheetOf v net ++ more) ≡ more
 
 abbrev pub WrittenThenRead : Type 0
-WrittenThenRead = (net : PNet) → WellFormed net → ReadBack net
+WrittenThenRead = (v : Version) (net : PNet) → WellFormed net → ReadBack v net
 
--- An accepted net sheet is the sheet of the net that was read from it: there is one sheet for each net.
+-- An accepted net sheet is the sheet of the net that was read from it: there is one sheet of each version for each net.
 abbrev pub ReadThenWritten : Type 0
-ReadThenWritten = (s : List ℕ) → ((i : ℕ) → i < length s → byteAt s i < 256) → wholeNet s ≡ none → s ≡ sheetOf (netOf s)
+ReadThenWritten = (s : List ℕ) → ((i : ℕ) → i < length s → byteAt s i < 256) → wholeNet s ≡ none → s ≡ sheetOf (versionOf s) (netOf s)
 
--- "The largest net sheet is 35,083 bytes.": none is longer, and one is as long
+-- "The largest net sheet is 35,083 bytes.": none of either version is longer, and one is as long
 pub record LargestSheet : Type 0 where
   pub most : (s : List ℕ) → netRefusal s ≡ none → sheetEnd s ≤ 35083
   pub reached : (s : List ℕ) × (wholeNet s ≡ none) × (length s ≡ 35083)
 
 -- Document 01's own example: "(L = 61)", and its complement "has L = 87".
 pub record ExampleLengths : Type 0 where
-  pub net : lengthOf (ownExample .net) ≡ 61
-  pub complement : lengthOf (ownExample .printed) ≡ 87
+  pub net : lengthOf One (ownExample .net) ≡ 61
+  pub complement : lengthOf One (ownExample .printed) ≡ 87

@@ -12,11 +12,12 @@ pub fn instructions(work: Work, size: Size) -> Figures {
 }
 
 fn counted(work: Work, engine: &str, size: Size, times: usize) -> f64 {
-    let [part, arcs, times] = [size.part, size.arcs, times].map(|number| number.to_string());
+    let [part, arcs, version, times] =
+        [size.part, size.arcs, size.version as usize, times].map(|number| number.to_string());
     let output = Command::new("valgrind")
         .args(["--tool=callgrind", "--callgrind-out-file=/dev/null"])
         .arg(env::current_exe().expect("this program has a path"))
-        .args(["once", work.name, engine, &part, &arcs, &times])
+        .args(["once", work.name, engine, &part, &arcs, &version, &times])
         .output()
         .expect("valgrind is on this machine");
     let said = String::from_utf8_lossy(&output.stderr);

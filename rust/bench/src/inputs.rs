@@ -4,6 +4,7 @@ use std::path::Path;
 use std::{fs, io};
 
 use pnet::Mode;
+use reference::Version;
 use reference::build::{OPEN, PlainArc, PlainNet, movements, weights};
 
 /// How large the inputs are.
@@ -13,17 +14,24 @@ pub struct Size {
     pub part: usize,
     /// Arcs of each mode.
     pub arcs: usize,
+    /// The version of the net sheets.
+    pub version: Version,
 }
 
 impl Size {
     /// Modes of 8 arcs.
     pub const fn part(part: usize) -> Size {
-        Size { part, arcs: 8 }
+        Size { part, arcs: 8, version: Version::One }
     }
 
     /// The largest net of modes of so many arcs.
     pub const fn arcs(arcs: usize) -> Size {
-        Size { part: 1, arcs }
+        Size { part: 1, arcs, version: Version::One }
+    }
+
+    /// The largest net of modes of 8 arcs, in this version.
+    pub const fn version(version: Version) -> Size {
+        Size { part: 1, arcs: 8, version }
     }
 
     /// As the tables name it.
@@ -37,8 +45,10 @@ impl Size {
 
 /// What the works read.
 pub struct Inputs {
-    /// The largest net: 256 pairs, 256 modes of 8 arcs each; 35,083 bytes.
+    /// The largest net: 256 pairs, 256 modes of 8 arcs each; 35,083 bytes in version 1, 31,498 in version 2.
     pub net: Vec<u8>,
+    /// The same net in the other version.
+    pub other: Vec<u8>,
     /// How many pairs it has.
     pub pairs: usize,
     /// Its last mode.
@@ -67,7 +77,7 @@ pub struct Inputs {
 }
 
 impl Inputs {
-    pub fn of(Size { part, arcs }: Size) -> Inputs {
+    pub fn of(Size { part, arcs, version }: Size) -> Inputs {
         // 2,048 arcs at most.
         let (places, transitions) = (64 / part, 64.min(512 / arcs) / part);
         let net = plain(places, transitions, arcs, |pair| [OPEN, 1_000_000][pair % 2]);
@@ -77,7 +87,8 @@ impl Inputs {
         let list: Vec<u16> = (0..8_192 / part).map(|k| (k * 167 % 251 % modes) as u16).collect();
         let step: Vec<u16> = (0..64).map(|k| (k * 167 % 251 % modes) as u16).collect();
         let kilograms: Vec<i32> = (0..pairs as i32).map(|pair| 250 * (pair % 9) - 500).collect();
-        let (sheet, movements, weights) = (net.sheet(), movements(&list), weights(&kilograms));
+        let (sheet, movements, weights) = (net.sheet_in(version), movements(&list), weights(&kilograms));
+        let other = if version == Version::One { Version::Two } else { Version::One };
         let marking: Vec<u32> = net.pairs.iter().map(|pair| pair.1).collect();
         let mut claim = marking.clone();
         let (accepted, visited) = (list.len() as u64, (arcs * list.len()) as u64);
@@ -92,9 +103,10 @@ impl Inputs {
             claim,
             half: vec![500_000; bounded.pairs.len()],
             both: vec![500_000; 2 * bounded.pairs.len()],
-            bounded: bounded.sheet(),
+            bounded: bounded.sheet_in(version),
             input: [&sheet[..], &weights, &movements].concat(),
             net: sheet,
+            other: net.sheet_in(other),
             weightless: reference::build::weights(&vec![0; pairs]),
             weights,
             movements,

@@ -4,7 +4,7 @@
 //!     bench                  times and instruction counts, as the tables of docs/BENCHMARKS.md
 //!     bench times            the times alone
 //!     bench inputs DIR       the inputs as files, for tests/beside.c
-//!     bench once WORK ENGINE PART ARCS TIMES    one piece of work so many times, for callgrind
+//!     bench once WORK ENGINE PART ARCS VERSION TIMES    one piece of work so many times, for callgrind
 //!
 //! Times are the least of many repetitions, the engines in turn. Everything is warm: sheets, marking and output slice are used again
 //! and are not cleared between repetitions; a marking is set back before each run, outside the time.
@@ -17,6 +17,7 @@ use std::env;
 use std::path::Path;
 
 use inputs::{Inputs, Size};
+use reference::Version;
 use works::{Figures, OTHERS, READ, RUN, SIZED, Work};
 
 /// Full size, and so many times smaller.
@@ -39,12 +40,13 @@ fn main() {
                 Inputs::of(Size::part(part)).write(Path::new(folder), part).expect("a folder to write to");
             }
         }
-        ["once", work, engine, part, arcs, times] => {
+        ["once", work, engine, part, arcs, version, times] => {
             let number = |word: &str| word.parse::<usize>().expect("a number");
-            let size = Size { part: number(part), arcs: number(arcs) };
+            let version = Version::BOTH[number(version) - 1];
+            let size = Size { part: number(part), arcs: number(arcs), version };
             works::repeat(works::named(work), engine, &Inputs::of(size), number(times));
         }
-        _ => panic!("bench [times | inputs DIR | once WORK ENGINE PART ARCS TIMES]"),
+        _ => panic!("bench [times | inputs DIR | once WORK ENGINE PART ARCS VERSION TIMES]"),
     }
 }
 
@@ -64,6 +66,13 @@ fn tables(title: &str, unit: &str, measure: Measure) {
     }
     for work in OTHERS {
         rows(work, Size::part(1), "full", measure);
+    }
+    println!("\nFull size, by the version of the net sheet:\n");
+    head("Version", unit);
+    for work in SIZED {
+        for version in Version::BOTH {
+            rows(work, Size::version(version), &(version as u8).to_string(), measure);
+        }
     }
     println!("\nRuns of 8,192 movements, by the arcs of a mode:\n");
     head("Arcs", unit);

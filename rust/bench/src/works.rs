@@ -75,7 +75,7 @@ pub const STATEMENT: Work = beside(
 pub const SIZED: [Work; 4] = [READ, RUN, COMPLEMENT, STATEMENT];
 
 /// The other calls, at full size; a call with a mode is given the last.
-pub const OTHERS: [Work; 15] = [
+pub const OTHERS: [Work; 17] = [
     beside("size", |i, _| pnet::size(&i.net).is_ok(), |i, _| swift::size(&i.net).is_ok()),
     own("read_weights", |i, _| pnet::read_weights(&i.weights, i.pairs).is_ok()),
     own("read_movements", |i, _| pnet::read_movements(&i.movements).is_ok()),
@@ -102,6 +102,17 @@ pub const OTHERS: [Work; 15] = [
     ),
     own("is_dead", |i, _| pnet::is_dead(&i.net, Mode(i.last)) == Ok(false)),
     own("first_dead", |i, _| pnet::first_dead(&i.net) == Ok(None)),
+    // The net is in version 1, and the other in version 2.
+    beside(
+        "to_version_2",
+        |i, l| pnet::to_version_2(&i.net, &mut l.output).is_ok(),
+        |i, l| swift::to_version_2(&i.net, &mut l.output).is_ok(),
+    ),
+    beside(
+        "to_version_1",
+        |i, l| pnet::to_version_1(&i.other, &mut l.output).is_ok(),
+        |i, l| swift::to_version_1(&i.other, &mut l.output).is_ok(),
+    ),
     beside(
         "audit",
         |i, _| pnet::audit(&i.bounded, &i.half, &i.both) == Ok(None),

@@ -1,16 +1,20 @@
 //! One input for every call: sheets, a marking, one of the complement, a claim, a mode, a step.
 
 use pnet::Mode;
+use reference::Version;
 use reference::build::{PlainNet, movements, weights};
 
 use crate::demand3::completed;
 use crate::generator::{self, Random, Style, total};
 use crate::guarded;
 use crate::same::Same;
+use crate::versions;
 
 /// What every call is tried on.
 #[derive(Clone)]
 pub struct Case {
+    /// The version of the net's sheet, before any damage.
+    pub version: Version,
     pub net: Vec<u8>,
     pub weights: Vec<u8>,
     pub movements: Vec<u8>,
@@ -23,14 +27,14 @@ pub struct Case {
     pub both: Vec<u32>,
     /// What the weights' reader is given for the net's pair count.
     pub pairs: usize,
-    /// The length of the complement's output slice.
+    /// The length of the output slice of a complement or a conversion.
     pub room: usize,
 }
 
 impl Case {
-    /// A case without a fault around a net: its list is at most so long.
-    pub fn of(random: &mut Random, style: Style, plain: &PlainNet, most: usize) -> Case {
-        let net = plain.sheet();
+    /// A case without a fault around a net, its sheet of this version and its list at most so long.
+    pub fn of(random: &mut Random, style: Style, plain: &PlainNet, version: Version, most: usize) -> Case {
+        let net = plain.sheet_in(version);
         let first: Vec<u32> = plain.pairs.iter().map(|&(_, count)| count).collect();
         let marking = if random.once_in(2) {
             first.clone()
@@ -51,6 +55,7 @@ impl Case {
             both[pair] = random.pick(&[0, 1, both[pair] ^ 1, u32::MAX]);
         }
         Case {
+            version,
             both,
             weights: weights(&generator::weights(random, plain.pairs.len())),
             movements: sheet,
@@ -64,7 +69,7 @@ impl Case {
         }
     }
 
-    /// Every call on this input; and on its complement, where it has one, every call of a net.
+    /// Every call on this input; and on the same net in the other version, where it is accepted.
     pub fn compare(&self, same: &mut Same) {
         same.read_net(&self.net);
         same.read_weights(&self.weights, self.pairs);
@@ -84,9 +89,12 @@ impl Case {
         same.first_dead(&self.net);
         same.size(&self.net);
         same.complement(&self.net, self.room);
+        same.to_version_2(&self.net, self.room);
+        same.to_version_1(&self.net, self.room);
         same.audit(&self.net, &self.marking, &self.both);
         let input = [&self.net[..], &self.weights, &self.movements].concat();
         same.statement(&input, if self.room < pnet::LARGEST_NET { self.room } else { pnet::TEXT_ROOM });
+        versions::answer_equally(same, self);
     }
 }
 

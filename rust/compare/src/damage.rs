@@ -1,5 +1,6 @@
 //! Damage of every kind that the refusal table names.
 
+use reference::Version;
 use reference::build::{OPEN, PlainNet, sheet};
 
 use crate::case::Case;
@@ -7,11 +8,11 @@ use crate::generator::{Random, total};
 
 /// One fault more, in any of the things.
 pub fn damage(random: &mut Random, case: &mut Case, plain: &mut PlainNet) {
-    match random.below(18) {
+    match random.below(19) {
         0..=2 => spoil_sheet(random, &mut case.net),
         3..=7 => {
             spoil_net(random, plain);
-            case.net = plain.sheet();
+            case.net = plain.sheet_in(case.version);
         }
         8 => spoil_sheet(random, &mut case.weights),
         9 => spoil_weights(random, case),
@@ -31,7 +32,24 @@ pub fn damage(random: &mut Random, case: &mut Case, plain: &mut PlainNet) {
             let length = random.below(case.both.len() + 3);
             case.both.resize(length, 1);
         }
+        17 if case.version == Version::Two => spoil_version_2(random, &mut case.net, plain),
         _ => case.room = random.below(case.net.len() + 64),
+    }
+}
+
+/// What version 2 has alone: its rule byte, which may not be there, and the modes' arc counts.
+fn spoil_version_2(random: &mut Random, net: &mut Vec<u8>, plain: &PlainNet) {
+    let modes = total(&plain.modes);
+    match random.below(4) {
+        0 => put(net, 5, &[random.pick(&[1, 2, 255])]),
+        1 => *net = vec![0, 0, 0, 1, 2],
+        _ if modes == 0 => put(net, 5, &[1]),
+        _ => {
+            let mode = random.below(modes) as u16;
+            let own = plain.arcs.iter().filter(|arc| arc.mode == mode).count() as u16;
+            let count = random.pick(&[2_048, 2_049, 65_535, own + 1, own.saturating_sub(1)]);
+            put(net, plain.count_offset_2(mode) as usize, &count.to_be_bytes());
+        }
     }
 }
 
@@ -42,7 +60,7 @@ fn spoil_sheet(random: &mut Random, sheet: &mut Vec<u8>) {
         0 => sheet.truncate(random.below(length.max(1))),
         1 => sheet.truncate(random.below(4)),
         2 => put(sheet, 0, &random.pick(&[OPEN, length as u32, 1 << 31, length as u32 + 1]).to_be_bytes()),
-        3 => put(sheet, 4, &[random.pick(&[0, 2, 255])]),
+        3 => put(sheet, 4, &[random.pick(&[0, 1, 2, 3, 255])]),
         4 => put(sheet, 0, &[0; 4]),
         5 => {
             sheet.truncate(5 + random.below(length.max(6) - 5));

@@ -1,16 +1,18 @@
 //! A net and its complement: what docs/RULES.md says of the two, for any list of movements and any step.
 
 use pnet::Mode;
+use reference::Version;
 use reference::build::{OPEN, PlainArc, PlainNet, movements};
 
 use crate::case::walk;
 use crate::generator::{self, Random, Style, total};
 use crate::guarded;
 use crate::same::{Plain, Same};
+use crate::versions::in_version_1;
 
 /// The net and its complement accept the same movements, stop at the same one, and stay in step, from the first marking and from others.
 pub fn in_step(same: &mut Same, random: &mut Random, style: Style, net: &PlainNet, most: usize) -> bool {
-    let sheet = net.sheet();
+    let sheet = net.sheet_in(random.pick(&Version::BOTH));
     let Some(complement) = same.complement(&sheet, pnet::LARGEST_NET) else { return false };
     assert_eq!(guarded::read_net(&complement), Ok(&[][..]), "{}: the complement of {net:?}", same.part);
     no_mode_is_dead(same, net, &sheet, &complement);
@@ -82,8 +84,8 @@ fn old_fault(same: &mut Same, net: &PlainNet, sheet: &[u8], counts: &[u32], both
 fn no_mode_is_dead(same: &mut Same, net: &PlainNet, sheet: &[u8], complement: &[u8]) {
     let of = format!("{}: the complement of {net:?}", same.part);
     assert_eq!(guarded::first_dead(complement), Ok(None), "{of}");
-    let arcs = guarded::size(complement).expect("it was read").arcs;
-    for arc in complement[complement.len() - 16 * arcs..].chunks(16) {
+    let (one, arcs) = (in_version_1(same, complement), guarded::size(complement).expect("it was read").arcs);
+    for arc in one[one.len() - 16 * arcs..].chunks(16) {
         assert!(
             arc[4..12].chunks(4).all(|number| number <= &1_000_000u32.to_be_bytes()[..]),
             "{of}: {arc:?}"

@@ -241,6 +241,14 @@ pub fn complement(net: &[u8], out: &mut [u8]) -> Result<usize, Refusal> {
     writing(net, out, pnet::complement)
 }
 
+pub fn to_version_2(net: &[u8], out: &mut [u8]) -> Result<usize, Refusal> {
+    writing(net, out, pnet::to_version_2)
+}
+
+pub fn to_version_1(net: &[u8], out: &mut [u8]) -> Result<usize, Refusal> {
+    writing(net, out, pnet::to_version_1)
+}
+
 pub fn audit(net: &[u8], marking: &[u32], both: &[u32]) -> Result<Option<OutOfStep>, Refusal> {
     lend(|lent| pnet::audit(lent.net.show(net), lent.counts.show(marking), lent.sheet.show(both)))
 }

@@ -23,13 +23,15 @@ pub enum Call {
     FirstDead,
     Size,
     Complement,
+    ToVersion2,
+    ToVersion1,
     Audit,
     Statement,
 }
 
 use Call::*;
 
-const CALLS: [Call; 19] = [
+const CALLS: [Call; 21] = [
     ReadNet,
     ReadWeights,
     ReadMovements,
@@ -47,9 +49,14 @@ const CALLS: [Call; 19] = [
     FirstDead,
     Size,
     Complement,
+    ToVersion2,
+    ToVersion1,
     Audit,
     Statement,
 ];
+
+/// What a net's reader answers to a sheet that is long enough and of a version that it reads.
+const READ: [u64; 8] = [0, 3, 4, 5, 6, 7, 8, 9];
 
 /// An answer as number and thing.
 type Told = (u64, u64);
@@ -88,6 +95,7 @@ fn refusals(call: Call) -> Vec<Told> {
         Exclude => [NET, WEIGHTS, MARKING, EXCLUSION].concat(),
         IsDead => [NET, MODE].concat(),
         Complement => [NET, COMPLEMENT].concat(),
+        ToVersion2 | ToVersion1 => [NET, NO_ROOM].concat(),
         Audit => [NET, COMPLEMENT, ONE_EACH].concat(),
         Statement => NO_ROOM.to_vec(),
     }
@@ -101,10 +109,12 @@ pub struct Hits {
     runs: usize,
     whole: usize,
     longest: usize,
-    /// Values that are no numbers: yes, no, a mode named, none named; what a search for a marking found; what a text is of; by which of a net and its complement a step is accepted; that a complement refuses by more than its net; what a dead mode is there; what an audit found, and whose 17 it was; what a search for all markings in reach says of a claim; which arcs a run visits.
+    /// Values that are no numbers: yes, no, a mode named, none named; what a search for a marking found; what a text is of; by which of a net and its complement a step is accepted; that a complement refuses by more than its net; what a dead mode is there; what an audit found, and whose 17 it was; what a search for all markings in reach says of a claim; which arcs a run visits; which fault a sheet of version 2 has alone; what the two versions of a net have in common.
     values: BTreeMap<&'static str, usize>,
     /// Refusals by an amount above 1, by their number.
     by_more: BTreeMap<u64, usize>,
+    /// What a net's reader answers, by the version byte and the number.
+    of_version: BTreeMap<(u8, u64), usize>,
 }
 
 impl Hits {
@@ -120,6 +130,10 @@ impl Hits {
 
     pub fn by_more(&mut self, number: u64) {
         *self.by_more.entry(number).or_default() += 1;
+    }
+
+    pub fn of_version(&mut self, version: u8, number: u64) {
+        *self.of_version.entry((version, number)).or_default() += 1;
     }
 
     pub fn value(&mut self, value: &'static str) {
@@ -175,6 +189,15 @@ impl Hits {
             "a mode without arcs ran",
             "a missing mode, and no arc visited",
             "a refused movement, and its arcs visited",
+            "version 2 without its rule byte",
+            "another rule byte",
+            "an arc count past 2,048",
+            "an arc count past L",
+            "an arc of 14 bytes past L",
+            "bytes returned exactly from version 1",
+            "bytes returned exactly from version 2",
+            "equal nets, and equal answers",
+            "equal nets, and equal complements",
         ] {
             if self.values.get(value).copied().unwrap_or(0) < ENOUGH {
                 wants.push(format!("the value '{value}' came up too rarely"));
@@ -183,6 +206,11 @@ impl Hits {
         for number in 11..=14 {
             if self.by_more.get(&number).copied().unwrap_or(0) < ENOUGH {
                 wants.push(format!("{number} by more than 1 came up too rarely"));
+            }
+        }
+        for (version, number) in [1, 2].into_iter().flat_map(|version| READ.map(|number| (version, number))) {
+            if self.of_version.get(&(version, number)).copied().unwrap_or(0) < ENOUGH {
+                wants.push(format!("{number} of version {version} came up too rarely"));
             }
         }
         if 3 * self.whole < self.runs {
@@ -208,6 +236,13 @@ impl fmt::Display for Hits {
         let by_more: Vec<String> =
             self.by_more.iter().map(|(number, hits)| format!("{number}:{hits}")).collect();
         writeln!(f, "by more than 1: {}", by_more.join(" "))?;
+        let of_version: Vec<String> = self
+            .of_version
+            .iter()
+            .filter(|((version, _), _)| [1, 2].contains(version))
+            .map(|((version, number), hits)| format!("{version}/{number}:{hits}"))
+            .collect();
+        writeln!(f, "nets read, by version: {}", of_version.join(" "))?;
         writeln!(
             f,
             "runs: {}, {} of them accepted whole, the longest of {} movements",

@@ -18,6 +18,8 @@ mod hits;
 mod limits;
 mod same;
 mod truncation;
+mod version_2;
+mod versions;
 mod visits;
 
 use std::process::ExitCode;
@@ -25,6 +27,7 @@ use std::time::Instant;
 
 use case::Case;
 use generator::{Random, Style};
+use reference::Version;
 use reference::build::{OPEN, PlainNet, arc};
 use same::Same;
 
@@ -69,8 +72,11 @@ fn main() -> ExitCode {
     same.part = format!("seed {seed}, long inputs");
     (0..hits::ENOUGH)
         .for_each(|more| same.statement(&vec![random.next() as u8; 65_537 + more * more], pnet::TEXT_ROOM));
-    same.part = format!("seed {seed}, the largest net cut");
-    largest_cut(&mut same, &mut random);
+    same.part = format!("seed {seed}, the limits of version 2");
+    version_2::at_limits(&mut same, &mut random);
+    same.part = format!("seed {seed}, the largest nets cut");
+    largest_cut(&mut same, &mut random, Version::One, pnet::LARGEST_NET);
+    largest_cut(&mut same, &mut random, Version::Two, 31_498);
     println!(
         "seed {seed}, {rounds} rounds, {} calls compared in {:.1} s",
         same.hits.total(),
@@ -90,10 +96,11 @@ fn any_net(random: &mut Random) -> (PlainNet, Style) {
     (generator::net(random, style, places, transitions, arcs), style)
 }
 
-/// A net of any size, in half of the rounds with one to three faults.
+/// A net of any size, in either version, in half of the rounds with one to three faults.
 fn any(same: &mut Same, random: &mut Random) {
     let (mut net, style) = any_net(random);
-    let mut case = Case::of(random, style, &net, 24);
+    let version = random.pick(&Version::BOTH);
+    let mut case = Case::of(random, style, &net, version, 24);
     for _ in 0..random.pick(&[0, 0, 0, 0, 1, 1, 2, 3]) {
         damage::damage(random, &mut case, &mut net);
     }
@@ -115,7 +122,8 @@ fn at_limits(same: &mut Same, random: &mut Random, at: usize) {
     let shape = limits::SHAPES[at % limits::SHAPES.len()];
     for style in [Style::Edges, Style::Lively] {
         let mut net = limits::net(random, style, shape);
-        let mut case = Case::of(random, style, &net, 8_192);
+        let version = random.pick(&Version::BOTH);
+        let mut case = Case::of(random, style, &net, version, 8_192);
         case.compare(same);
         demand3::in_step(same, random, style, &net, 16);
         damage::damage(random, &mut case, &mut net);
@@ -127,16 +135,18 @@ fn at_limits(same: &mut Same, random: &mut Random, at: usize) {
 fn cut_everywhere(same: &mut Same, random: &mut Random) {
     let style = random.pick(&STYLES);
     let net = generator::net(random, style, 3, 2, 4);
-    let case = Case::of(random, style, &net, 6);
-    truncation::every_call(same, &case);
     let example = PlainNet::plain(1, &[(5, 3), (OPEN, 0)], &[arc(0, 0, 1, 0, 4), arc(0, 1, 0, 1, OPEN)]);
-    truncation::every_call(same, &Case::of(random, Style::Small, &example, 4));
+    for version in Version::BOTH {
+        let case = Case::of(random, style, &net, version, 6);
+        truncation::every_call(same, &case);
+        truncation::every_call(same, &Case::of(random, Style::Small, &example, version, 4));
+    }
 }
 
-/// The largest net sheet, its weights and the longest list, cut at every offset, for the readers.
-fn largest_cut(same: &mut Same, random: &mut Random) {
+/// The largest net sheet of a version, its weights and the longest list, cut at every offset, for the readers.
+fn largest_cut(same: &mut Same, random: &mut Random, version: Version, length: usize) {
     let net = limits::net(random, Style::Lively, (64, 4, 64, 4, 2_048));
-    let case = Case::of(random, Style::Lively, &net, 8_192);
-    assert_eq!(case.net.len(), pnet::LARGEST_NET);
+    let case = Case::of(random, Style::Lively, &net, version, 8_192);
+    assert_eq!(case.net.len(), length);
     truncation::every_reader(same, &case);
 }

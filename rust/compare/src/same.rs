@@ -5,12 +5,12 @@ use std::fmt::Debug;
 use pnet::{Mode, Refusal};
 
 use crate::hits::{Call, Hits};
-use crate::{guarded, visits};
+use crate::{guarded, version_2, visits};
 
 /// Number, thing, position and amount.
 pub type Plain = (u64, u64, u64, u64);
 
-fn told<V>(result: &Result<V, Refusal>) -> Plain {
+pub fn told<V>(result: &Result<V, Refusal>) -> Plain {
     match result {
         Ok(_) => (0, 0, 0, 0),
         Err(refusal) => (refusal.number(), refusal.thing() as u64, refusal.position(), refusal.amount()),
@@ -26,9 +26,12 @@ fn plain_of<V>(result: &Result<V, reference::Answer>) -> Plain {
 }
 
 /// The modes of a step.
-fn members(modes: &[u16]) -> Vec<Mode> {
+pub fn members(modes: &[u16]) -> Vec<Mode> {
     modes.iter().copied().map(Mode).collect()
 }
+
+/// A call that writes a sheet.
+type Writes<E> = fn(&[u8], &mut [u8]) -> Result<usize, E>;
 
 /// The comparison so far.
 #[derive(Default)]
@@ -76,7 +79,15 @@ impl Same {
     }
 
     pub fn read_net(&mut self, bytes: &[u8]) {
-        self.read(Call::ReadNet, bytes, guarded::read_net(bytes), reference::read_net(bytes));
+        let engine = guarded::read_net(bytes);
+        let answer = told(&engine);
+        self.read(Call::ReadNet, bytes, engine, reference::read_net(bytes));
+        if let Some(&version) = bytes.get(4) {
+            self.hits.of_version(version, answer.0);
+        }
+        if let Some(fault) = engine.err().and_then(|refusal| version_2::fault(bytes, &refusal)) {
+            self.hits.value(fault);
+        }
     }
 
     pub fn read_weights(&mut self, bytes: &[u8], pairs: usize) {
@@ -217,15 +228,36 @@ impl Same {
         self.hold(Call::Size, answer, (answer, value), reference, &[&net]);
     }
 
-    /// The complement, where there is one.
-    pub fn complement(&mut self, net: &[u8], room: usize) -> Option<Vec<u8>> {
+    /// A call that writes a sheet into a slice of this length: what it writes, where there is anything.
+    fn write(
+        &mut self,
+        call: Call,
+        engine: Writes<Refusal>,
+        reference: Writes<reference::Answer>,
+        net: &[u8],
+        room: usize,
+    ) -> Option<Vec<u8>> {
         let (mut ours, mut theirs) = (vec![170; room], vec![170; room]);
-        let engine = guarded::complement(net, &mut ours);
-        let reference = reference::complement(net, &mut theirs);
+        let (engine, reference) = (engine(net, &mut ours), reference(net, &mut theirs));
         let (answer, value) = (told(&engine), engine.ok());
         let reference = (plain_of(&reference), reference.ok(), &theirs);
-        self.hold(Call::Complement, answer, (answer, value, &ours), reference, &[&net, &room]);
+        self.hold(call, answer, (answer, value, &ours), reference, &[&net, &room]);
         value.map(|length| ours[..length].to_vec())
+    }
+
+    /// The complement, where there is one.
+    pub fn complement(&mut self, net: &[u8], room: usize) -> Option<Vec<u8>> {
+        self.write(Call::Complement, guarded::complement, reference::complement, net, room)
+    }
+
+    /// The sheet of version 2, where the net is in version 1.
+    pub fn to_version_2(&mut self, net: &[u8], room: usize) -> Option<Vec<u8>> {
+        self.write(Call::ToVersion2, guarded::to_version_2, reference::to_version_2, net, room)
+    }
+
+    /// The sheet of version 1, where the net is in version 2.
+    pub fn to_version_1(&mut self, net: &[u8], room: usize) -> Option<Vec<u8>> {
+        self.write(Call::ToVersion1, guarded::to_version_1, reference::to_version_1, net, room)
     }
 
     /// The answer, and the pair out of step with its excess, where there is one.

@@ -27,12 +27,20 @@ pub fn bounded(hits: &mut Hits, net: &[u8], movements: &[u8], ran: &Ran, stopped
 
 /// How many arcs each mode has.
 fn arc_counts(net: &[u8]) -> Vec<usize> {
-    let (places, transitions) = (two(&net[5..]), two(&net[7..]));
+    let at = if net[4] == 2 { 6 } else { 5 };
+    let (places, transitions) = (two(&net[at..]), two(&net[at + 2..]));
     let total = |at: usize, fields: usize| net[at..].chunks(2).take(fields).map(two).sum::<usize>();
-    let (colours_at, modes_at) = (9, 9 + 2 * places);
-    let arcs_at = modes_at + 2 * transitions + 8 * total(colours_at, places) + 2;
+    let (colours_at, modes_at) = (at + 4, at + 4 + 2 * places);
+    let mut rest = &net[modes_at + 2 * transitions + 8 * total(colours_at, places)..];
     let mut counts = vec![0; total(modes_at, transitions)];
-    net[arcs_at..].chunks(16).for_each(|arc| counts[two(arc)] += 1);
+    if net[4] == 2 {
+        for count in &mut counts {
+            *count = two(rest);
+            rest = &rest[2 + 14 * *count..];
+        }
+    } else {
+        rest[2..].chunks(16).for_each(|arc| counts[two(arc)] += 1);
+    }
     counts
 }
 

@@ -194,11 +194,27 @@ pub fn first_dead(net: &[u8]) -> Result<Option<(Mode, Pair)>, Refusal> {
     Ok(named.found.then_some((named.mode, named.pair)))
 }
 
-/// Writes the sheet of the net's complement and says how long it is. No byte after it is touched; [`LARGEST_NET`](crate::LARGEST_NET)
-/// bytes are always room enough.
+/// Writes the sheet of the net's complement, of the version given, and says how long it is. No byte after it is touched;
+/// [`LARGEST_NET`](crate::LARGEST_NET) bytes are always room enough.
 pub fn complement(net: &[u8], out: &mut [u8]) -> Result<usize, Refusal> {
     // SAFETY: pointers and lengths are slices', and the one that is written is lent by `&mut`.
     let written = unsafe { pnet_complement(net.as_ptr(), net.len(), out.as_mut_ptr(), out.len()) };
+    written.result(Sheets::net(net)).map(|length| length as usize)
+}
+
+/// Writes the sheet of version 2 of a net in version 1, and says how long it is. No byte after it is touched;
+/// [`LARGEST_NET`](crate::LARGEST_NET) bytes are always room enough. A sheet of any other version than 1 is refused by 2.
+pub fn to_version_2(net: &[u8], out: &mut [u8]) -> Result<usize, Refusal> {
+    // SAFETY: pointers and lengths are slices', and the one that is written is lent by `&mut`.
+    let written = unsafe { pnet_to_version_2(net.as_ptr(), net.len(), out.as_mut_ptr(), out.len()) };
+    written.result(Sheets::net(net)).map(|length| length as usize)
+}
+
+/// Writes the sheet of version 1 of a net in version 2, as [`to_version_2`] does the other way: the bytes that were converted come back
+/// exactly. A sheet of any other version than 2 is refused by 2.
+pub fn to_version_1(net: &[u8], out: &mut [u8]) -> Result<usize, Refusal> {
+    // SAFETY: pointers and lengths are slices', and the one that is written is lent by `&mut`.
+    let written = unsafe { pnet_to_version_1(net.as_ptr(), net.len(), out.as_mut_ptr(), out.len()) };
     written.result(Sheets::net(net)).map(|length| length as usize)
 }
 

@@ -6,11 +6,12 @@
 pub enum Fault {
     /// 1: fewer than 4 bytes, or fewer than 4 + L.
     CutShort,
-    /// 2: the version byte is not 1.
+    /// 2: the version byte is not 1, or 2 in a net sheet; in a conversion, not the version that it converts.
     WrongVersion,
     /// 3: the sheet is not as long as it says.
     WrongLength(Length),
-    /// 4: a count outside its limits, or the running total passes 256; a step that is empty or has more than 64 modes.
+    /// 4: a count outside its limits, or the running total passes 256, or 2,048 of arcs; another rule byte than 0; a step that is empty or has
+    /// more than 64 modes.
     CountOutside,
     /// 5: a number outside its range.
     NumberOutside,
@@ -22,7 +23,7 @@ pub enum Fault {
     Blank,
     /// 9: a count is above a finite K.
     AboveCapacity,
-    /// 10: the complement exceeds the sheet's limits, or the output slice is shorter than it.
+    /// 10: the complement exceeds the sheet's limits, or the output slice is shorter than what is to be written.
     NoRoom,
     /// 11: Pre is above the count.
     Lacking,

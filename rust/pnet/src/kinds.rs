@@ -29,7 +29,7 @@ impl Thing {
     pub(crate) const ALL: [Thing; 4] = [Thing::Net, Thing::Weights, Thing::Movements, Thing::Argument];
 }
 
-/// The bytes of the largest net sheet: always room enough for a complement.
+/// The bytes of the largest net sheet, which is of version 1: always room enough for a complement and for a conversion.
 pub const LARGEST_NET: usize = 35_083;
 
 /// Room for any text of `replay`.

@@ -41,7 +41,9 @@ pub fn left_behind(
     };
     let two = |at: usize| usize::from(u16::from_be_bytes([net[at], net[at + 1]]));
     let four = |sheet: &[u8], at: usize| [sheet[at], sheet[at + 1], sheet[at + 2], sheet[at + 3]];
-    let pairs_at = 9 + 2 * two(5) + 2 * two(7);
+    // In version 2 the rule byte comes before the counts.
+    let counts_at = if net[4] == 2 { 6 } else { 5 };
+    let pairs_at = counts_at + 4 + 2 * two(counts_at) + 2 * two(counts_at + 2);
     let mut complement_counts = &complement_marking[marking.len()..];
     let mut kilograms = 0;
     for (pair, &count) in marking.iter().enumerate() {

@@ -1,6 +1,7 @@
 //! The calls of a P-net engine (Billington, TR 222) whose every function is proved to do what the published definition says.
 //!
-//! Nets, weights and movements are lent as the bytes of their sheets, a marking as a slice of counts, one for each pair.
+//! Nets, weights and movements are lent as the bytes of their sheets, a net's of version 1 or 2, a marking as a slice of counts, one for each
+//! pair.
 //! Every call answers for any bytes and any counts: what it gives, or the first [`Refusal`] in the order of docs/RULES.md.
 //! A refused call writes nothing; a run that stops leaves the marking that its accepted movements gave.
 //!
@@ -53,7 +54,7 @@ mod refusal;
 pub use calls::{
     OutOfStep, Ran, Size, audit, begin, certify, change, complement, exclude, figure, fire, fire_step,
     first_dead, first_marking, is_dead, read_movements, read_net, read_weights, run, size, statement, test,
-    test_step,
+    test_step, to_version_1, to_version_2,
 };
 pub use fault::{Fault, Length};
 pub use kinds::{LARGEST_NET, Mode, Pair, TEXT_ROOM, Thing};

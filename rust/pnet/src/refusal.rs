@@ -76,12 +76,18 @@ impl Refusal {
 
 impl std::error::Error for Refusal {}
 
+/// Where a net sheet has its place count in version 1, and its rule byte in version 2.
+const RULE_OR_PLACES: u64 = 5;
+
 impl fmt::Display for Refusal {
     fn fmt(&self, f: &mut fmt::Formatter) -> fmt::Result {
         let (at, amount) = (self.position, self.amount);
         write!(f, "{}: ", self.number())?;
         match (self.fault, self.thing) {
             (Fault::CutShort, thing) => write!(f, "the {thing} sheet is cut short"),
+            (Fault::WrongVersion, Thing::Net) => {
+                write!(f, "the net sheet is of no version that this call reads")
+            }
             (Fault::WrongVersion, thing) => write!(f, "the {thing} sheet is not of version 1"),
             (Fault::WrongLength(Length::Nothing), thing) => write!(f, "the {thing} sheet has length 0"),
             (Fault::WrongLength(Length::FieldPastEnd), thing) => {
@@ -91,6 +97,9 @@ impl fmt::Display for Refusal {
                 write!(f, "the {thing} sheet has bytes left over from byte {at} on")
             }
             (Fault::CountOutside, Thing::Argument) => write!(f, "the step has no mode, or more than 64"),
+            (Fault::CountOutside, Thing::Net) if at == RULE_OR_PLACES => {
+                write!(f, "the rule or count at byte {at} of the net sheet is outside its limits")
+            }
             (Fault::CountOutside, thing) => {
                 write!(f, "the count at byte {at} of the {thing} sheet is outside its limits")
             }

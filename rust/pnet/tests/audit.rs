@@ -1,12 +1,17 @@
 //! Both markings of a net and its complement, and what was left behind in kilograms.
 
 use pnet::*;
+use reference::Version;
 use reference::build::{OPEN, PlainNet, arc, weights};
 
 /// Pairs of K 5, unbounded and K 7, and one mode that takes 2 from the last and puts them at the one before.
-fn net() -> Vec<u8> {
+fn net_in(version: Version) -> Vec<u8> {
     let arcs = [arc(0, 1, 0, 2, OPEN), arc(0, 2, 2, 0, OPEN)];
-    PlainNet::plain(1, &[(5, 3), (OPEN, 0), (7, 6)], &arcs).sheet()
+    PlainNet::plain(1, &[(5, 3), (OPEN, 0), (7, 6)], &arcs).sheet_in(version)
+}
+
+fn net() -> Vec<u8> {
+    net_in(Version::One)
 }
 
 fn complement_of(net: &[u8]) -> Vec<u8> {
@@ -38,6 +43,7 @@ fn kilograms_are_summed_over_all_pairs_of_finite_capacity() {
     // 1 too many at pair 0, any number at pair 1, 3 too few at pair 2.
     let left = left_behind(&net, &kilograms, &[4, 99, 3], &[3, 0, 6, 2, 1]);
     assert_eq!(left, Ok(100 + 750));
+    assert_eq!(left_behind(&net_in(Version::Two), &kilograms, &[4, 99, 3], &[3, 0, 6, 2, 1]), left);
     let most = left_behind(&net, &weights(&[1_000_000, 0, 1_000_000]), &[OPEN; 3], &[OPEN; 5]);
     assert_eq!(most, Ok(1_000_000 * (4 * i64::from(OPEN) - 5 - 7)));
     let without_modes = PlainNet::plain(0, &[(5, 3)], &[]).sheet();

@@ -8,8 +8,12 @@ fn net(pairs: &[(u32, u32)], arcs: &[reference::build::PlainArc]) -> Vec<u8> {
     PlainNet::plain(1, pairs, arcs).sheet()
 }
 
+fn arcs() -> [reference::build::PlainArc; 2] {
+    [arc(0, 0, 1, 0, 4), arc(0, 1, 0, 1, OPEN)]
+}
+
 fn example() -> Vec<u8> {
-    net(&[(5, 3), (OPEN, 0)], &[arc(0, 0, 1, 0, 4), arc(0, 1, 0, 1, OPEN)])
+    net(&[(5, 3), (OPEN, 0)], &arcs())
 }
 
 fn says<V: std::fmt::Debug>(result: Result<V, Refusal>, words: &str) {
@@ -22,7 +26,8 @@ fn of_a_sheet() {
     says(read_weights(&[0, 0, 0, 1, 7], 2), "2: the weight sheet is not of version 1");
     says(read_movements(&[0; 4]), "3: the movement sheet has length 0");
     says(begin(&example(), &mut [0]), "17: the counts are not one for each pair");
-    says(read_net(&sheet(&[0, 0])), "4: the count at byte 5 of the net sheet is outside its limits");
+    says(read_net(&sheet(&[0, 0])), "4: the rule or count at byte 5 of the net sheet is outside its limits");
+    says(read_net(&sheet(&[0, 1, 0, 65])), "4: the count at byte 7 of the net sheet is outside its limits");
     says(
         read_weights(&weights(&[1_000_001]), 1),
         "5: the number at byte 7 of the weight sheet is outside its range",
@@ -160,6 +165,35 @@ fn of_a_complement() {
     // A mode that can never happen is no reason to refuse the net.
     let retired = net(&[(1_000_000, 0)], &[arc(0, 0, 1, 0, 0)]);
     assert_eq!((is_dead(&retired, Mode(0)), complement(&retired, room)), (Ok(true), Ok(65)));
+}
+
+#[test]
+fn of_version_2_and_conversions() {
+    let (one, room) = (example(), &mut [0; LARGEST_NET]);
+    let length = to_version_2(&one, room).unwrap();
+    let two = room[..length].to_vec();
+    assert_eq!(two, PlainNet::plain(1, &[(5, 3), (OPEN, 0)], &arcs()).sheet_in(reference::Version::Two));
+    assert_eq!(to_version_1(&two, room), Ok(one.len()));
+    assert_eq!(room[..one.len()], one);
+    says(to_version_2(&two, room), "2: the net sheet is of no version that this call reads");
+    says(to_version_1(&one, room), "2: the net sheet is of no version that this call reads");
+    says(
+        to_version_1(&two, &mut room[..64]),
+        "10: what is to be written exceeds the room for it, or a complement the limits of a sheet",
+    );
+    assert_eq!(size(&two), size(&one));
+    let with = |at: usize, byte: u8| {
+        let mut sheet = two.clone();
+        sheet[at] = byte;
+        sheet
+    };
+    says(read_net(&with(4, 3)), "2: the net sheet is of no version that this call reads");
+    says(read_net(&with(5, 9)), "4: the rule or count at byte 5 of the net sheet is outside its limits");
+    says(read_net(&with(32, 9)), "4: the count at byte 32 of the net sheet is outside its limits");
+    says(read_net(&with(35, 7)), "6: the mode or pair at byte 34 of the net sheet is not there");
+    says(read_net(&with(49, 0)), "7: the arc at byte 48 is not above the one before");
+    says(read_net(&[0, 0, 0, 1, 2]), "3: the net sheet ends before the field at byte 5 does");
+    says(size(&[&two[..], &[7]].concat()), "3: the net sheet has bytes left over from byte 62 on");
 }
 
 #[test]

@@ -33,11 +33,12 @@ pub enum Thing {
 pub enum Refusal {
     /// "Fewer than 4 bytes, or fewer than 4 + L."
     Short = 1,
-    /// "Version byte is not 1."
+    /// "Version byte is not 1", nor 2 of a net; "a conversion answers 2 to a sheet of its target version".
     Version = 2,
     /// "L = 0; a field runs past L; bytes left over."
     Field = 3,
-    /// "A count outside its limits, or the running total passes 256."
+    /// "A count outside its limits, or the running total passes 256"; "another rule byte, or the arc count whose running
+    /// total passes 2,048".
     Count = 4,
     /// "A number outside its range."
     Range = 5,

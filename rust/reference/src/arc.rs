@@ -1,9 +1,9 @@
-//! "An arc is mode (2 bytes), pair (2), Pre, Post, I (4 each), 16 bytes."
+//! "An arc is mode (2 bytes), pair (2), Pre, Post, I (4 each), 16 bytes"; in version 2 "14 bytes without the mode".
 
 use crate::answer::{Answer, Refusal};
 use crate::bound::Bound;
 use crate::kinds::{Mode, Pair};
-use crate::limits::{ARC_BYTES, LARGEST};
+use crate::limits::{ARC_BYTES, LARGEST, SHORT_ARC_BYTES};
 use crate::sheet::Sheet;
 
 /// "At each mode and pair stand Pre, Post and an inhibitor I."
@@ -35,9 +35,29 @@ pub fn read_arc(sheet: &mut Sheet, modes: usize, pairs: usize, before: Option<&A
     if mode.index() >= modes {
         return Err(sheet.refuse(Refusal::Absent, offset));
     }
+    rest_of_arc(sheet, offset, mode, pairs, before)
+}
+
+/// An arc of version 2, of the mode under whose count it stands.
+pub fn read_arc_of(sheet: &mut Sheet, mode: Mode, pairs: usize, before: Option<&Arc>) -> Result<Arc, Answer> {
+    let offset = sheet.offset();
+    sheet.must_hold(SHORT_ARC_BYTES)?;
+    rest_of_arc(sheet, offset, mode, pairs, before)
+}
+
+/// An arc from its pair on. An arc before it of a lower mode is never above it: in version 2 "7 now compares pairs within a
+/// mode".
+fn rest_of_arc(
+    sheet: &mut Sheet,
+    offset: usize,
+    mode: Mode,
+    pairs: usize,
+    before: Option<&Arc>,
+) -> Result<Arc, Answer> {
+    let pair_offset = sheet.offset();
     let pair = Pair(sheet.two()?);
     if pair.index() >= pairs {
-        return Err(sheet.refuse(Refusal::Absent, offset + 2));
+        return Err(sheet.refuse(Refusal::Absent, pair_offset));
     }
     if before.is_some_and(|before| (before.mode, before.pair) >= (mode, pair)) {
         return Err(sheet.refuse(Refusal::Order, offset));

@@ -17,6 +17,14 @@ impl Bound {
         if field == UNBOUNDED { Bound::Unbounded } else { Bound::Finite(field) }
     }
 
+    /// The 4-byte field that holds the bound.
+    pub fn field(self) -> u32 {
+        match self {
+            Bound::Finite(number) => number,
+            Bound::Unbounded => UNBOUNDED,
+        }
+    }
+
     /// The least of two bounds.
     pub fn least(self, other: Bound) -> Bound {
         match (self, other) {

@@ -1,6 +1,7 @@
 //! Plain nets, weights and movements, written as sheets. Nothing is checked: a wrong sheet can be built too.
 
-use crate::limits::UNBOUNDED;
+use crate::limits::{RULE, UNBOUNDED};
+use crate::version::Version;
 
 /// A plain net: what a net sheet says, field by field.
 #[derive(Clone, Debug, Default, PartialEq, Eq)]
@@ -46,34 +47,82 @@ impl PlainNet {
         }
     }
 
-    /// The net sheet.
+    /// The net sheet of version 1.
     pub fn sheet(&self) -> Vec<u8> {
+        self.sheet_in(Version::One)
+    }
+
+    /// The net sheet of a version. In version 2 an arc stands with those of its mode, and one whose mode is not there
+    /// nowhere.
+    pub fn sheet_in(&self, version: Version) -> Vec<u8> {
         let mut fields = Vec::new();
-        two(&mut fields, self.colours.len() as u16);
-        two(&mut fields, self.modes.len() as u16);
-        self.colours.iter().chain(&self.modes).for_each(|&count| two(&mut fields, count));
+        if version == Version::Two {
+            fields.push(RULE);
+        }
+        self.put_counts_and_pairs(&mut fields);
+        match version {
+            Version::One => self.put_arcs(&mut fields),
+            Version::Two => self.put_arcs_of_modes(&mut fields),
+        }
+        sheet_in(version, &fields)
+    }
+
+    fn put_counts_and_pairs(&self, fields: &mut Vec<u8>) {
+        two(fields, self.colours.len() as u16);
+        two(fields, self.modes.len() as u16);
+        self.colours.iter().chain(&self.modes).for_each(|&count| two(fields, count));
         for &(capacity, count) in &self.pairs {
-            four(&mut fields, capacity);
-            four(&mut fields, count);
+            four(fields, capacity);
+            four(fields, count);
         }
-        two(&mut fields, self.arcs.len() as u16);
+    }
+
+    fn put_arcs(&self, fields: &mut Vec<u8>) {
+        two(fields, self.arcs.len() as u16);
         for arc in &self.arcs {
-            two(&mut fields, arc.mode);
-            two(&mut fields, arc.pair);
-            [arc.pre, arc.post, arc.inhibitor].into_iter().for_each(|number| four(&mut fields, number));
+            two(fields, arc.mode);
+            arc.put(fields);
         }
-        sheet(&fields)
     }
 
-    /// The offset of an arc's first byte in the sheet.
+    fn put_arcs_of_modes(&self, fields: &mut Vec<u8>) {
+        for mode in 0..self.modes.iter().sum() {
+            let own = || self.arcs.iter().filter(|arc| arc.mode == mode);
+            two(fields, own().count() as u16);
+            own().for_each(|arc| arc.put(fields));
+        }
+    }
+
+    /// The offset of an arc's first byte in the sheet of version 1.
     pub fn arc_offset(&self, arc: usize) -> u64 {
-        let counts = 2 * (self.colours.len() + self.modes.len());
-        (9 + counts + 8 * self.pairs.len() + 2 + 16 * arc) as u64
+        self.pair_offset(self.pairs.len()) + (2 + 16 * arc) as u64
     }
 
-    /// The offset of a pair's K in the sheet; the first marking stands 4 bytes after it.
+    /// The offset of a mode's arc count in the sheet of version 2.
+    pub fn count_offset_2(&self, mode: u16) -> u64 {
+        let before = self.arcs.iter().filter(|arc| arc.mode < mode).count();
+        1 + self.pair_offset(self.pairs.len()) + 2 * u64::from(mode) + 14 * before as u64
+    }
+
+    /// The offset of an arc's first byte in the sheet of version 2.
+    pub fn arc_offset_2(&self, arc: usize) -> u64 {
+        let mode = self.arcs[arc].mode;
+        let before = self.arcs[..arc].iter().filter(|arc| arc.mode == mode).count();
+        self.count_offset_2(mode) + 2 + 14 * before as u64
+    }
+
+    /// The offset of a pair's K in the sheet of version 1, one less than in that of version 2; the first marking stands 4
+    /// bytes after it.
     pub fn pair_offset(&self, pair: usize) -> u64 {
         (9 + 2 * (self.colours.len() + self.modes.len()) + 8 * pair) as u64
+    }
+}
+
+impl PlainArc {
+    /// The arc from its pair on.
+    fn put(&self, fields: &mut Vec<u8>) {
+        two(fields, self.pair);
+        [self.pre, self.post, self.inhibitor].into_iter().for_each(|number| four(fields, number));
     }
 }
 
@@ -82,9 +131,14 @@ pub const OPEN: u32 = UNBOUNDED;
 
 /// The sheet of these fields: "a 4-byte length L, a version byte 1, then its fields".
 pub fn sheet(fields: &[u8]) -> Vec<u8> {
+    sheet_in(Version::One, fields)
+}
+
+/// The sheet of a version of these fields; the first of version 2 is the rule byte.
+pub fn sheet_in(version: Version, fields: &[u8]) -> Vec<u8> {
     let mut sheet = Vec::new();
     four(&mut sheet, fields.len() as u32 + 1);
-    sheet.push(1);
+    sheet.push(version as u8);
     sheet.extend_from_slice(fields);
     sheet
 }

@@ -9,14 +9,12 @@ use crate::kinds::Pair;
 use crate::limits::{ARCS, PLACES, TOTAL, UNBOUNDED};
 use crate::net::Net;
 use crate::net_sheet::whole_net;
+use crate::output::{no_room, written};
 
-/// Writes the complement's sheet: "the call returns the length written and touches no byte after it".
+/// Writes the complement's sheet: it "writes the version and rule it was given".
 pub fn complement(net: &[u8], output: &mut [u8]) -> Result<usize, Answer> {
     let net = whole_net(net)?;
-    let sheet = complemented_within_limits(&net)?.sheet();
-    let place = output.get_mut(..sheet.len()).ok_or(no_room())?;
-    place.copy_from_slice(&sheet);
-    Ok(sheet.len())
+    written(&complemented_within_limits(&net)?.sheet_in(net.version), output)
 }
 
 /// The complement of a net that has one. Complementing: net, 15 at its first arc, 10; "15 is still given, for a dead
@@ -33,11 +31,6 @@ pub fn complemented_within_limits(net: &Net) -> Result<PlainNet, Answer> {
     let pairs = plain.pairs.len() > usize::from(TOTAL);
     let arcs = plain.arcs.len() > usize::from(ARCS);
     if places || pairs || arcs { Err(no_room()) } else { Ok(plain) }
-}
-
-/// "10: complement exceeds the sheet's limits, or the output slice is shorter than it."
-fn no_room() -> Answer {
-    Answer::refused(Refusal::NoRoom, Thing::Net, 0)
 }
 
 /// "Original pairs keep their numbers." "Modes are unchanged. All K and I become unbounded."

@@ -1,6 +1,7 @@
 //! A plain reading of docs/RULES.md: reading a finite P-net, testing and firing one mode or a step of
 //! several at once, running a list of movements, checking a certificate, complementing, auditing a marking
-//! by the complement's, the figure, markings out of reach, locally dead modes, `replay`.
+//! by the complement's, the figure, markings out of reach, locally dead modes, both versions of a net
+//! sheet, `replay`.
 //!
 //! Each call takes sheets as bytes and gives the answer, value and lent slices of docs/RULES.md exactly.
 
@@ -12,6 +13,7 @@ mod bound;
 mod certificate;
 mod change;
 mod complement;
+mod conversion;
 mod dead;
 mod exclusion;
 mod figure;
@@ -22,11 +24,13 @@ mod marking;
 mod movement_sheet;
 mod net;
 mod net_sheet;
+mod output;
 mod replay;
 mod run;
 mod sheet;
 mod size;
 mod step;
+mod version;
 mod weight_sheet;
 
 pub mod build;
@@ -38,6 +42,7 @@ pub use begin::begin;
 pub use certificate::certify;
 pub use change::change;
 pub use complement::complement;
+pub use conversion::{to_version_1, to_version_2};
 pub use dead::{first_dead, is_dead};
 pub use exclusion::exclude;
 pub use figure::figure;
@@ -49,4 +54,5 @@ pub use replay::replay;
 pub use run::{Ran, run};
 pub use size::{Size, size};
 pub use step::{fire_step, test_step};
+pub use version::Version;
 pub use weight_sheet::read_weights;

@@ -26,6 +26,12 @@ pub const ARCS: u16 = 2_048;
 /// "An arc is mode (2 bytes), pair (2), Pre, Post, I (4 each), 16 bytes."
 pub const ARC_BYTES: usize = 16;
 
+/// "Arcs of 14 bytes without the mode", of version 2.
+pub const SHORT_ARC_BYTES: usize = 14;
+
+/// "A rule byte, 0 for now."
+pub const RULE: u8 = 0;
+
 /// "Mode numbers, 2 bytes each, at most 8,192."
 pub const MOVEMENTS: usize = 8_192;
 

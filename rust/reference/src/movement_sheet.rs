@@ -4,6 +4,7 @@ use crate::answer::{Answer, Refusal, Thing};
 use crate::kinds::Mode;
 use crate::limits::MOVEMENTS;
 use crate::sheet::{Read, Sheet, answer_and_taken, whole};
+use crate::version::Version;
 
 /// Reads a movement sheet at the start of a run: the answer, and how many bytes the sheet takes.
 pub fn read_movements(run: &[u8]) -> (Answer, usize) {
@@ -18,7 +19,7 @@ pub fn whole_movements(run: &[u8]) -> Result<Vec<Mode>, Answer> {
 /// The movements at the start of a run of bytes. "A lone last byte (3, at that byte) comes before
 /// too many movements (4, at offset 5)."
 pub fn movements_at(run: &[u8]) -> Read<Vec<Mode>> {
-    let mut sheet = Sheet::open(run, Thing::Movements)?;
+    let mut sheet = Sheet::open(run, Thing::Movements, &[Version::One])?;
     let (offset, bytes) = (sheet.offset(), sheet.left());
     if bytes % 2 == 1 {
         return Err(sheet.refuse(Refusal::Field, offset + bytes - 1));

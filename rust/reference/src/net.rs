@@ -3,10 +3,13 @@
 use crate::arc::{Arc, BLANK, Flow};
 use crate::bound::Bound;
 use crate::kinds::Mode;
+use crate::version::Version;
 
 /// A net that its sheet's reader accepted.
 #[derive(Clone, Debug)]
 pub struct Net {
+    /// The version of its sheet.
+    pub version: Version,
     /// Colours of each place.
     pub colours: Vec<u16>,
     /// Modes of each transition.

@@ -3,33 +3,60 @@
 use std::ops::RangeInclusive;
 
 use crate::answer::{Answer, Refusal, Thing};
-use crate::arc::{Arc, bound, number, read_arc};
+use crate::arc::{Arc, bound, number, read_arc, read_arc_of};
 use crate::bound::Bound;
-use crate::limits::{ARCS, COLOURS, PLACES, TOTAL, TRANSITIONS};
+use crate::kinds::Mode;
+use crate::limits::{ARCS, COLOURS, PLACES, RULE, TOTAL, TRANSITIONS};
 use crate::net::Net;
 use crate::sheet::{Read, Sheet, answer_and_taken, whole};
+use crate::version::Version;
 
 /// Reads a net sheet at the start of a run: the answer, and how many bytes the sheet takes.
 pub fn read_net(run: &[u8]) -> (Answer, usize) {
     answer_and_taken(&net_at(run))
 }
 
-/// A net sheet that is a call's whole argument.
+/// A net sheet that is a call's whole argument: "every other call takes either version".
 pub fn whole_net(run: &[u8]) -> Result<Net, Answer> {
-    whole(run, Thing::Net, net_at(run))
+    whole_net_of(run, &Version::BOTH)
+}
+
+/// A net sheet of one of these versions that is a call's whole argument.
+pub fn whole_net_of(run: &[u8], versions: &[Version]) -> Result<Net, Answer> {
+    whole(run, Thing::Net, net_of(run, versions))
 }
 
 /// The net at the start of a run of bytes.
 pub fn net_at(run: &[u8]) -> Read<Net> {
-    let mut sheet = Sheet::open(run, Thing::Net)?;
+    net_of(run, &Version::BOTH)
+}
+
+fn net_of(run: &[u8], versions: &[Version]) -> Read<Net> {
+    let mut sheet = Sheet::open(run, Thing::Net, versions)?;
+    let version = sheet.version();
+    if version == Version::Two {
+        rule(&mut sheet)?;
+    }
     let places = count(&mut sheet, 1..=PLACES)?;
     let transitions = count(&mut sheet, 0..=TRANSITIONS)?;
     let colours = counts(&mut sheet, places)?;
     let modes = counts(&mut sheet, transitions)?;
     let (capacity, first) = pairs(&mut sheet, colours.iter().sum())?;
-    let mut net = Net { colours, modes, capacity, first, arcs: Vec::new() };
-    net.arcs = arcs(&mut sheet, net.mode_count(), net.pair_count())?;
+    let mut net = Net { version, colours, modes, capacity, first, arcs: Vec::new() };
+    net.arcs = match version {
+        Version::One => arcs(&mut sheet, net.mode_count(), net.pair_count())?,
+        Version::Two => arcs_of_modes(&mut sheet, net.all_modes(), net.pair_count())?,
+    };
     Ok((net, sheet.close()?))
+}
+
+/// "4 for another rule byte."
+fn rule(sheet: &mut Sheet) -> Result<(), Answer> {
+    let offset = sheet.offset();
+    if sheet.one()? != RULE {
+        return Err(sheet.refuse(Refusal::Count, offset));
+    }
+    Ok(())
 }
 
 /// "A count outside its limits": 4 at the count field.
@@ -81,6 +108,27 @@ fn arcs(sheet: &mut Sheet, modes: usize, pairs: usize) -> Result<Vec<Arc>, Answe
     for _ in 0..count {
         let arc = read_arc(sheet, modes, pairs, arcs.last())?;
         arcs.push(arc);
+    }
+    Ok(arcs)
+}
+
+/// "For each mode, a 2-byte arc count and that many arcs": 4 "at the arc count whose running total passes 2,048".
+fn arcs_of_modes(
+    sheet: &mut Sheet,
+    modes: impl Iterator<Item = Mode>,
+    pairs: usize,
+) -> Result<Vec<Arc>, Answer> {
+    let mut arcs: Vec<Arc> = Vec::new();
+    for mode in modes {
+        let offset = sheet.offset();
+        let count = sheet.two()?;
+        if arcs.len() + usize::from(count) > usize::from(ARCS) {
+            return Err(sheet.refuse(Refusal::Count, offset));
+        }
+        for _ in 0..count {
+            let arc = read_arc_of(sheet, mode, pairs, arcs.last())?;
+            arcs.push(arc);
+        }
     }
     Ok(arcs)
 }

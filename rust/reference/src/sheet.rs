@@ -1,6 +1,8 @@
-//! "A sheet is a 4-byte length L (the bytes after it), a version byte 1, then its fields, all big-endian."
+//! "A sheet is a 4-byte length L (the bytes after it), a version byte 1, then its fields, all big-endian." A net's
+//! may be of version 2.
 
 use crate::answer::{Answer, Refusal, Thing};
+use crate::version::Version;
 
 /// One sheet, read field by field from the left.
 pub struct Sheet<'a> {
@@ -9,11 +11,12 @@ pub struct Sheet<'a> {
     /// The offset of the next field, counted from the first byte of the length.
     offset: usize,
     thing: Thing,
+    version: Version,
 }
 
 impl<'a> Sheet<'a> {
-    /// "Order in a sheet: 1, then L = 0, then 2, then the fields left to right."
-    pub fn open(run: &'a [u8], thing: Thing) -> Result<Sheet<'a>, Answer> {
+    /// "Order in a sheet: 1, then L = 0, then 2, then the fields left to right": 2 where its version is none of these.
+    pub fn open(run: &'a [u8], thing: Thing, versions: &[Version]) -> Result<Sheet<'a>, Answer> {
         let refuse = |refusal, position| Answer::refused(refusal, thing, position);
         let length = run.first_chunk::<4>().ok_or(refuse(Refusal::Short, 0))?;
         let length = u32::from_be_bytes(*length);
@@ -24,10 +27,14 @@ impl<'a> Sheet<'a> {
         if length == 0 {
             return Err(refuse(Refusal::Field, 0));
         }
-        if run[4] != 1 {
-            return Err(refuse(Refusal::Version, 4));
-        }
-        Ok(Sheet { bytes: &run[..4 + length as usize], offset: 5, thing })
+        let version = versions.iter().find(|&&version| version as u8 == run[4]);
+        let version = *version.ok_or(refuse(Refusal::Version, 4))?;
+        Ok(Sheet { bytes: &run[..4 + length as usize], offset: 5, thing, version })
+    }
+
+    /// Its version.
+    pub fn version(&self) -> Version {
+        self.version
     }
 
     /// The offset of the next field.
@@ -51,6 +58,11 @@ impl<'a> Sheet<'a> {
             return Err(self.refuse(Refusal::Field, self.offset));
         }
         Ok(())
+    }
+
+    /// The next field, of 1 byte.
+    pub fn one(&mut self) -> Result<u8, Answer> {
+        Ok(u8::from_be_bytes(self.field()?))
     }
 
     /// The next field, of 2 bytes.

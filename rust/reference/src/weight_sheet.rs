@@ -3,6 +3,7 @@
 use crate::answer::{Answer, Refusal, Thing};
 use crate::limits::WEIGHT;
 use crate::sheet::{Read, Sheet, answer_and_taken, whole};
+use crate::version::Version;
 
 /// Reads a weight sheet at the start of a run: the answer, and how many bytes the sheet takes.
 /// "Its reader is also given the net's pair count, for 17."
@@ -17,7 +18,7 @@ pub fn whole_weights(run: &[u8], pairs: usize) -> Result<Vec<i32>, Answer> {
 
 /// The weights at the start of a run of bytes. "In a weight sheet 17 comes before the weights."
 pub fn weights_at(run: &[u8], pairs: usize) -> Read<Vec<i32>> {
-    let mut sheet = Sheet::open(run, Thing::Weights)?;
+    let mut sheet = Sheet::open(run, Thing::Weights, &[Version::One])?;
     let offset = sheet.offset();
     let count = sheet.two()?;
     if usize::from(count) != pairs {

@@ -12,9 +12,9 @@ fn net_answer(bytes: &[u8]) -> Answer {
 
 #[test]
 fn in_a_sheet_1_then_l_0_then_2_then_the_fields() {
-    assert_eq!(net_answer(&[0, 0, 0, 9, 2, 0, 0]), refused(1, NET, 0));
-    assert_eq!(net_answer(&[0, 0, 0, 0, 2]), refused(3, NET, 0));
-    assert_eq!(net_answer(&[0, 0, 0, 2, 2, 0]), refused(2, NET, 4));
+    assert_eq!(net_answer(&[0, 0, 0, 9, 3, 0, 0]), refused(1, NET, 0));
+    assert_eq!(net_answer(&[0, 0, 0, 0, 3]), refused(3, NET, 0));
+    assert_eq!(net_answer(&[0, 0, 0, 2, 3, 0]), refused(2, NET, 4));
     assert_eq!(net_answer(&[0, 0, 0, 2, 1, 0]), refused(3, NET, 5));
     assert_eq!(net_answer(&[0, 0, 0, 3, 1, 0, 0]), refused(4, NET, 5));
 }

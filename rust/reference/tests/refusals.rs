@@ -53,7 +53,10 @@ fn number_1_fewer_than_4_bytes_or_than_4_and_l() {
 #[test]
 fn number_2_version_is_not_1() {
     all_refuse(&[0, 0, 0, 1, 0], 2, 4);
-    all_refuse(&[0, 0, 0, 3, 2, 0, 0], 2, 4);
+    all_refuse(&[0, 0, 0, 3, 3, 0, 0], 2, 4);
+    // Only net sheets have a version 2.
+    assert_eq!(weights_refusal(&with(&example_weights(), 4, &[2]), 2), refused(2, WEIGHTS, 4));
+    assert_eq!(movements_refusal(&with(&example_movements(), 4, &[2])), refused(2, MOVEMENTS, 4));
     assert_eq!(net_refusal(&with(&example().sheet(), 4, &[255])), refused(2, NET, 4));
 }
 

@@ -1,7 +1,7 @@
 //! A marking of a net beside one of its complement: the lowest pair at which the two are out of step.
 
 use crate::answer::{ARGUMENT, Answer, NET, UNBOUNDED};
-use crate::complement::{Mates, dead_at, exceeds, inhibited, mated};
+use crate::complement::{Mates, counts_of, dead_at, exceeds, inhibited, mated};
 use crate::layout::{Arc, Layout, whole_net};
 
 /// The lowest original pair that is out of step and its excess, or none: the two markings differ on it, or it is
@@ -9,7 +9,7 @@ use crate::layout::{Arc, Layout, whole_net};
 pub fn audit(net: &[u8], marking: &[u32], complement_marking: &[u32]) -> Result<Option<(u16, i64)>, Answer> {
     let layout = whole_net(net)?;
     let mates = Mates::of(&layout);
-    if exceeds(&layout, &mates, arc_count(&layout, &mates)?) {
+    if exceeds(&counts_of(&layout, &mates, arc_count(&layout, &mates)?)) {
         return Err(Answer::refused(10, NET, 0));
     }
     if marking.len() != layout.pairs || complement_marking.len() != layout.pairs + mates.count {

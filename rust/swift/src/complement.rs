@@ -2,26 +2,36 @@
 
 use crate::answer::{Answer, NET, UNBOUNDED};
 use crate::layout::{Arc, Layout, pair_of, whole_net};
+use crate::writer::{Counts, Rest};
 
 /// Writes the complement's sheet: "the call returns the length written and touches no byte after it".
 pub fn complement(net: &[u8], output: &mut [u8]) -> Result<usize, Answer> {
     let layout = whole_net(net)?;
     let mates = Mates::of(&layout);
     let arcs = arcs_of(&layout, &mates)?;
-    let places = layout.colours.len() / 2 + mates.places.len();
-    let pairs = layout.pairs + mates.count;
-    let length = 11 + 2 * places + layout.mode_counts.len() + 8 * pairs + 16 * arcs.len();
-    if exceeds(&layout, &mates, arcs.len()) || output.len() < length {
+    let counts = counts_of(&layout, &mates, arcs.len());
+    let length = counts.length(layout.version);
+    if exceeds(&counts) || output.len() < length {
         return Err(Answer::refused(10, NET, 0));
     }
-    write(&layout, &mates, &arcs, &mut output[..length]);
+    write(&layout, &mates, &counts, &arcs, &mut output[..length]);
     Ok(length)
 }
 
+/// The counts of the complement of so many arcs.
+pub fn counts_of(layout: &Layout, mates: &Mates, arcs: usize) -> Counts {
+    Counts {
+        places: layout.colours.len() / 2 + mates.places.len(),
+        transitions: layout.mode_counts.len() / 2,
+        pairs: layout.pairs + mates.count,
+        modes: layout.modes,
+        arcs,
+    }
+}
+
 /// "Complement exceeds the sheet's limits."
-pub fn exceeds(layout: &Layout, mates: &Mates, arcs: usize) -> bool {
-    let places = layout.colours.len() / 2 + mates.places.len();
-    places > 64 || layout.pairs + mates.count > 256 || arcs > 2_048
+pub fn exceeds(counts: &Counts) -> bool {
+    counts.places > 64 || counts.pairs > 256 || counts.arcs > 2_048
 }
 
 /// The complement pairs.
@@ -73,7 +83,7 @@ pub fn dead_at(arc: Arc, capacity: u32) -> bool {
 /// "Blank arcs are left out."
 fn arcs_of(layout: &Layout, mates: &Mates) -> Result<Vec<[u8; 16]>, Answer> {
     let mut arcs = Arcs { bytes: vec![[0; 16]; 2 * layout.arcs.len()], count: 0, inhibited: false };
-    let mut rest = layout.arcs;
+    let mut rest = &layout.arcs[..];
     while let Some(first) = rest.first() {
         let mut own = 0;
         while let Some(bytes) = rest.get(own).filter(|bytes| bytes[..2] == first[..2]) {
@@ -140,17 +150,13 @@ impl Arcs {
 pub fn inhibited(layout: &Layout, mates: &Mates) -> Answer {
     let unbounded = |arc: Arc| mates.of[arc.pair()].0 == UNBOUNDED && arc.inhibitor != UNBOUNDED;
     let at = layout.arcs.iter().map(Arc::of).position(unbounded).expect("an arc was at fault");
-    Answer::refused(15, NET, layout.length - 16 * (layout.arcs.len() - at))
+    Answer::refused(15, NET, layout.arc_offset(at))
 }
 
-/// Writes the sheet into a slice of its length.
-fn write(layout: &Layout, mates: &Mates, arcs: &[[u8; 16]], output: &mut [u8]) {
-    let places = layout.colours.len() / 2 + mates.places.len();
+/// Writes the sheet, of the version given, into a slice of its length.
+fn write(layout: &Layout, mates: &Mates, counts: &Counts, arcs: &[[u8; 16]], output: &mut [u8]) {
     let mut rest = Rest(output);
-    rest.put((rest.0.len() as u32 - 4).to_be_bytes());
-    rest.put([1]);
-    rest.put((places as u16).to_be_bytes());
-    rest.put((layout.mode_counts.len() as u16 / 2).to_be_bytes());
+    rest.head(layout.version, counts);
     rest.copy(layout.colours);
     mates.places.iter().for_each(|place| rest.put(place.to_be_bytes()));
     rest.copy(layout.mode_counts);
@@ -162,8 +168,7 @@ fn write(layout: &Layout, mates: &Mates, arcs: &[[u8; 16]], output: &mut [u8]) {
             rest.put(open_pair(capacity - count));
         }
     }
-    rest.put((arcs.len() as u16).to_be_bytes());
-    rest.copy(arcs.as_flattened());
+    rest.arcs(layout.version, layout.modes, arcs);
 }
 
 /// "All K and I become unbounded."
@@ -182,24 +187,4 @@ fn open_arc(key: u32, pre: u32, post: u32) -> [u8; 16] {
 fn with_open_inhibitor(bytes: &[u8; 16]) -> [u8; 16] {
     let open = u128::from(UNBOUNDED);
     (u128::from_ne_bytes(*bytes) | u128::from_ne_bytes(open.to_be_bytes())).to_ne_bytes()
-}
-
-/// The part of the output that is still to be written.
-struct Rest<'a>(&'a mut [u8]);
-
-impl Rest<'_> {
-    #[inline(always)]
-    fn put<const N: usize>(&mut self, bytes: [u8; N]) {
-        let (place, rest) =
-            std::mem::take(&mut self.0).split_first_chunk_mut().expect("the length is counted");
-        *place = bytes;
-        self.0 = rest;
-    }
-
-    #[inline(always)]
-    fn copy(&mut self, bytes: &[u8]) {
-        let (place, rest) = std::mem::take(&mut self.0).split_at_mut(bytes.len());
-        place.copy_from_slice(bytes);
-        self.0 = rest;
-    }
 }

@@ -45,7 +45,7 @@ pub fn capacities(layout: &Layout) -> [u32; 256] {
 pub fn arc_counts(layout: &Layout) -> [u16; 256] {
     // Arcs rise by mode: the last one that a mode writes is its end.
     let mut counts = [0; 256];
-    for (end, bytes) in (1..).zip(layout.arcs) {
+    for (end, bytes) in (1..).zip(&*layout.arcs) {
         counts[Arc::of(bytes).mode() & 255] = end;
     }
     let mut arcs = 0;

@@ -1,5 +1,5 @@
-//! The reading, running, complementing, auditing, excluding and `replay` of docs/RULES.md, written for speed: a net is decoded
-//! once into flat arrays, and the loops allocate nothing.
+//! The reading, running, complementing, converting, auditing, excluding and `replay` of docs/RULES.md, written for speed: a net is
+//! decoded once into flat arrays, and the loops allocate nothing.
 //!
 //! A sheet is tested as a whole for yes or no; only a refused one is read again to name its fault.
 
@@ -7,6 +7,7 @@ mod answer;
 mod arcs;
 mod audit;
 mod complement;
+mod convert;
 mod exclude;
 mod fault;
 mod kernel;
@@ -19,6 +20,7 @@ mod sheet;
 mod steps;
 mod text;
 mod weights;
+mod writer;
 
 #[cfg(test)]
 #[path = "../../reference/tests/support/generator.rs"]
@@ -27,6 +29,7 @@ mod generator;
 pub use answer::{ARGUMENT, Answer, LARGEST};
 pub use audit::audit;
 pub use complement::complement;
+pub use convert::{to_version_1, to_version_2};
 pub use exclude::exclude;
 pub use layout::{read_net, size};
 pub use replay::replay;

@@ -90,7 +90,7 @@ fn modes_of(layout: &Layout, weights: &[i32; 256]) -> [Mode; 256] {
         let around = u64::from(b' ') | u64::from_le_bytes(*b" 0 \0\0\0\0\0") << (8 * length + 8);
         mode.text = Word(digits << 8 | around, length + 4);
     }
-    for bytes in layout.arcs {
+    for bytes in &*layout.arcs {
         let arc = Arc::of(bytes);
         let flow = i64::from(arc.post) - i64::from(arc.pre);
         modes[arc.mode() & 255].change += i64::from(weights[arc.pair()]) * flow;

@@ -67,7 +67,7 @@ impl Block {
 fn blocks_of(layout: &Layout, width: usize) -> Vec<Block> {
     let capacities = capacities(layout);
     let mut blocks = vec![BLANK; layout.modes * width];
-    for bytes in layout.arcs {
+    for bytes in &*layout.arcs {
         let arc = Arc::of(bytes);
         let rule = Rule::of(arc, capacities[arc.pair()]);
         let (block, lane) = (&mut blocks[arc.mode() * width + arc.pair() / 4], arc.pair() % 4);

@@ -1,9 +1,13 @@
-//! "A sheet is a 4-byte length L (the bytes after it), a version byte 1, then its fields, all big-endian."
+//! "A sheet is a 4-byte length L (the bytes after it), a version byte 1, then its fields, all big-endian." A net's
+//! may be of version 2.
+
+use std::ops::RangeInclusive;
 
 use crate::answer::Answer;
 
-/// The 4 + L bytes of the sheet at the start of a run: "1, then L = 0, then 2".
-pub fn open(run: &[u8], thing: u8) -> Result<&[u8], Answer> {
+/// The 4 + L bytes of the sheet at the start of a run: "1, then L = 0, then 2" where its version is not from the first of
+/// these to the last.
+pub fn open(run: &[u8], thing: u8, versions: RangeInclusive<u8>) -> Result<&[u8], Answer> {
     let Some(length) = run.first_chunk::<4>() else {
         return Err(Answer::refused(1, thing, 0));
     };
@@ -14,7 +18,7 @@ pub fn open(run: &[u8], thing: u8) -> Result<&[u8], Answer> {
     if length == 0 {
         return Err(Answer::refused(3, thing, 0));
     }
-    if run[4] != 1 {
+    if !versions.contains(&run[4]) {
         return Err(Answer::refused(2, thing, 4));
     }
     Ok(&run[..4 + length])

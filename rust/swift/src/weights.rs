@@ -5,7 +5,7 @@ use crate::sheet::{four, open, two};
 
 /// The weights at the start of a run, 0 where there is no pair, and the bytes after their sheet.
 pub fn weights_at(run: &[u8], pairs: usize) -> Result<([i32; 256], &[u8]), Answer> {
-    let sheet = open(run, WEIGHTS)?;
+    let sheet = open(run, WEIGHTS, 1..=1)?;
     match two(sheet, 5) {
         None => return Err(Answer::refused(3, WEIGHTS, 5)),
         Some(count) if count != pairs => return Err(Answer::refused(17, WEIGHTS, 5)),

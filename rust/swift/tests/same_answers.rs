@@ -6,7 +6,8 @@ mod generator;
 use std::collections::BTreeSet;
 
 use generator::{Random, Style, list, marking, net, spoil, spoil_net, total};
-use reference::build::{PlainNet, movements, sheet, weights};
+use reference::Version;
+use reference::build::{PlainNet, movements, sheet_in, weights};
 
 const STYLES: [Style; 3] = [Style::Small, Style::Edges, Style::Lively];
 
@@ -36,13 +37,19 @@ fn any_net(random: &mut Random) -> (PlainNet, Style) {
     (net(random, style, places, transitions, arcs), style)
 }
 
-/// A net's sheet, the net or the sheet spoiled once in so many times.
+/// A net's sheet of either version.
+fn any_sheet(random: &mut Random, net: &PlainNet) -> Vec<u8> {
+    net.sheet_in(random.pick(&Version::BOTH))
+}
+
+/// A net's sheet of either version, the net or the sheet spoiled once in so many times.
 fn sheet_of(random: &mut Random, net: &PlainNet, times: usize) -> Vec<u8> {
     let mut net = net.clone();
     if random.once_in(2 * times) {
         spoil_net(random, &mut net);
     }
-    maybe_spoiled(random, net.sheet(), 2 * times)
+    let sheet = any_sheet(random, &net);
+    maybe_spoiled(random, sheet, 2 * times)
 }
 
 /// A sheet, spoiled once in so many times.
@@ -70,13 +77,31 @@ fn same_run(net: &[u8], list: &[u8], counts: &[u32], seen: &mut BTreeSet<u32>) {
     seen.insert(ran.answer.number);
 }
 
-fn same_complement(net: &[u8], room: usize, seen: &mut BTreeSet<u32>) {
+/// A call that writes a sheet into a slice.
+type Writes<A> = fn(&[u8], &mut [u8]) -> Result<usize, A>;
+
+/// The same length, or refusal, and the same bytes in a slice of this length.
+fn same_sheet(
+    calls: (Writes<swift::Answer>, Writes<reference::Answer>),
+    net: &[u8],
+    room: usize,
+    seen: &mut BTreeSet<u32>,
+) {
     let (mut swiftly, mut plainly) = (vec![170; room], vec![170; room]);
-    let swift = swift::complement(net, &mut swiftly).map_err(of_swift);
-    let plain = reference::complement(net, &mut plainly).map_err(of_reference);
+    let swift = calls.0(net, &mut swiftly).map_err(of_swift);
+    let plain = calls.1(net, &mut plainly).map_err(of_reference);
     assert_eq!(swift, plain, "{net:?}");
     assert!(swiftly == plainly, "{net:?}");
     seen.insert(swift.err().map_or(0, |answer| answer.0));
+}
+
+fn same_complement(net: &[u8], room: usize, seen: &mut BTreeSet<u32>) {
+    same_sheet((swift::complement, reference::complement), net, room, seen);
+}
+
+fn same_conversions(net: &[u8], room: usize, seen: &mut BTreeSet<u32>) {
+    same_sheet((swift::to_version_2, reference::to_version_2), net, room, seen);
+    same_sheet((swift::to_version_1, reference::to_version_1), net, room, seen);
 }
 
 /// The same pair and excess, or the same refusal; the number of a refusal, or 0.
@@ -108,14 +133,15 @@ fn same_replay(input: &[u8]) -> String {
 fn reading_gives_the_same_answer() {
     let (mut random, mut seen) = (Random::new(11), BTreeSet::new());
     for _ in 0..20_000 {
-        let mut sheet = net(&mut random, Style::Small, 4, 3, 12).sheet();
+        let net = net(&mut random, Style::Small, 4, 3, 12);
+        let mut sheet = any_sheet(&mut random, &net);
         spoil(&mut random, &mut sheet);
         same_read(&sheet, &mut seen);
     }
     for _ in 0..20_000 {
         let mut net = net(&mut random, Style::Small, 4, 3, 12);
         spoil_net(&mut random, &mut net);
-        same_read(&net.sheet(), &mut seen);
+        same_read(&any_sheet(&mut random, &net), &mut seen);
     }
     for _ in 0..600 {
         let net = any_net(&mut random).0;
@@ -130,7 +156,8 @@ fn reading_any_bytes_gives_the_same_answer() {
     for _ in 0..20_000 {
         let fields: Vec<u8> =
             (0..random.below(60)).map(|_| [0, random.next() as u8 % 4][random.below(2)]).collect();
-        let bytes = if random.once_in(3) { fields } else { sheet(&fields) };
+        let version = random.pick(&Version::BOTH);
+        let bytes = if random.once_in(3) { fields } else { sheet_in(version, &fields) };
         same_read(&bytes, &mut seen);
     }
     assert!(seen.len() > 5);
@@ -140,7 +167,8 @@ fn reading_any_bytes_gives_the_same_answer() {
 fn every_byte_of_a_sheet_written_over_gives_the_same_answer() {
     let (mut random, mut seen) = (Random::new(13), BTreeSet::new());
     for _ in 0..20 {
-        let sheet = net(&mut random, Style::Small, 4, 3, 12).sheet();
+        let net = net(&mut random, Style::Small, 4, 3, 12);
+        let sheet = any_sheet(&mut random, &net);
         for at in 0..sheet.len() {
             for byte in [0, 1, 2, 15, 16, 64, 65, 127, 128, 255] {
                 let mut spoiled = sheet.clone();
@@ -221,9 +249,22 @@ fn complementing_gives_the_same_sheet() {
         same_complement(&sheet, room, &mut seen);
     }
     for _ in 0..300 {
-        same_complement(&any_net(&mut random).0.sheet(), 36_000, &mut seen);
+        let net = any_net(&mut random).0;
+        same_complement(&any_sheet(&mut random, &net), 36_000, &mut seen);
     }
     assert_eq!(seen, (0..=10).chain([15]).collect());
+}
+
+#[test]
+fn converting_gives_the_same_sheet() {
+    let (mut random, mut seen) = (Random::new(43), BTreeSet::new());
+    for round in 0..6_000 {
+        let net = if round % 20 == 0 { any_net(&mut random).0 } else { any_net_for_lists(&mut random).0 };
+        let room = if random.once_in(8) { random.below(300) } else { 36_000 };
+        let sheet = sheet_of(&mut random, &net, 5);
+        same_conversions(&sheet, room, &mut seen);
+    }
+    assert_eq!(seen, (0..=10).collect());
 }
 
 /// The counts of a net and its complement: in step, or one of them anything.
@@ -284,9 +325,11 @@ fn excluding_gives_the_same_answer() {
 fn complementing_into_every_length_gives_the_same_bytes() {
     let (mut random, mut seen) = (Random::new(18), BTreeSet::new());
     for _ in 0..20 {
-        let sheet = net(&mut random, Style::Small, 3, 2, 6).sheet();
+        let net = net(&mut random, Style::Small, 3, 2, 6);
+        let sheet = any_sheet(&mut random, &net);
         for room in 0..300 {
             same_complement(&sheet, room, &mut seen);
+            same_conversions(&sheet, room, &mut seen);
         }
     }
 }
@@ -386,8 +429,11 @@ fn at_the_complements_limits_the_answers_are_the_same() {
             seen.insert(same_audit(&net.sheet(), &[2; 8], &[[2; 8], [3; 8]].concat()).0);
             // This one is blank at its original pair.
             net.arcs.push(reference::build::arc(128, 7, 0, 0, 4));
-            same_complement(&net.sheet(), 36_000, &mut seen);
-            seen.insert(same_audit(&net.sheet(), &[2; 8], &[[2; 8], [3; 8]].concat()).0);
+            for version in Version::BOTH {
+                let sheet = net.sheet_in(version);
+                same_complement(&sheet, 36_000, &mut seen);
+                seen.insert(same_audit(&sheet, &[2; 8], &[[2; 8], [3; 8]].concat()).0);
+            }
         }
     }
     assert_eq!(seen, [0, 10].into());
@@ -402,8 +448,10 @@ fn at_the_limits_of_lists_and_arcs_the_answers_are_the_same() {
     }
     for arcs in [2_047, 2_048, 2_049] {
         net.arcs = (0..arcs).map(|n| reference::build::arc(n / 20, n % 20, 1, 0, u32::MAX)).collect();
-        same_read(&net.sheet(), &mut seen);
-        same_run(&net.sheet(), &movements(&[0, 50, 102, 128, 0]), &[2; 20], &mut seen);
+        for sheet in Version::BOTH.map(|version| net.sheet_in(version)) {
+            same_read(&sheet, &mut seen);
+            same_run(&sheet, &movements(&[0, 50, 102, 128, 0]), &[2; 20], &mut seen);
+        }
     }
     assert_eq!(seen, [0, 4, 11].into());
 }

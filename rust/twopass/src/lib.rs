@@ -51,7 +51,7 @@ fn visits_of(layout: &Layout) -> Visits {
     let capacities = capacities(layout);
     let mut arcs = Vec::with_capacity(layout.arcs.len());
     let mut spans = [(0, 0); 256];
-    for bytes in layout.arcs {
+    for bytes in &*layout.arcs {
         let arc = Arc::of(bytes);
         let span = &mut spans[arc.mode() & 255];
         if span.1 == 0 {

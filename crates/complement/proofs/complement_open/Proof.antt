@@ -5,6 +5,8 @@ use lib.ListN.{length}
 use native.Mathlib.Omega.{arith}
 use Rattle.model.proofs.Refusals.{answer-none, answer-refused}
 use Rattle.complement.specs.Complemented.{complementSheet, roomRefusal}
+use Rattle.written.proofs.Puts.{room-as, puts-as}
+use Rattle.complement.proofs.SheetParts.{sheet-is}
 use Rattle.complement.proofs.Answers.{room-enough, refused, written}
 use Rattle.complement.proofs.complement_open.Statement.{statement}
 use Rattle.complement.proofs.complement_open.Tie as tie
@@ -18,7 +20,7 @@ put-sheet-requires c κs =
     let start = bounded .before .before .before .before in
     let accepted = answer-none (roomRefusal (start .args .s .now) (length (start .args .out .now))) (answered .complement-answer .ensures) (c .before .before .before .before .enum-told .given .1) in (
       start .pre,
-      (bounded .before .starts .ensures, (bounded .bounded-below .ensures, (found .dead-modes .ensures, (sized .complement-sizes .ensures, record { fits = omega (arith, room-enough _ _ accepted) })))),
+      (bounded .before .starts .ensures, (bounded .bounded-below .ensures, (found .dead-modes .ensures, (sized .complement-sizes .ensures, room-as (sym (sheet-is (start .pre))) (record { fits = omega (arith, room-enough (start .args .s .now) _ accepted) }))))),
     )
 
 returns : tie.Need-returns
@@ -32,9 +34,10 @@ returns-2 : tie.Need-returns-2
 returns-2 c =
     let told = c .before .before .before .before .before .before .before in
     let answered = told .before .before in
-    let a = answered .before .before .before .before .before .before .before .before .before .before .before .before .before .before .args in
+    let start = answered .before .before .before .before .before .before .before .before .before .before .before .before .before .before in
+    let a = start .args in
     let accepted = answer-none (roomRefusal (a .s .now) (length (a .out .now))) (answered .complement-answer .ensures) (told .enum-told .given .1) in
-    written _ accepted (room-enough _ _ accepted) (c .before .before .put-sheet .ensures)
+    written (complementSheet (a .s .now)) accepted (room-enough _ _ accepted) (puts-as (sheet-is (start .pre)) (c .before .before .put-sheet .ensures))
 
 pub complement-open-spec : {M : Type 1} → statement M
 complement-open-spec =

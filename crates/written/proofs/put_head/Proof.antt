@@ -1,21 +1,21 @@
 use borrow.Author.Needs.{needs}
 use Rattle.written.specs.Written.{headBytes}
-use Rattle.written.proofs.Puts.{puts, one}
+use Rattle.written.proofs.Puts.{put-length, room-next, puts-both, long-fits}
 use Rattle.written.proofs.put_head.Statement.{statement}
 use Rattle.written.proofs.put_head.Tie as tie
 
+put32-requires : tie.Need-put32-requires
+unfolding headBytes
+put32-requires c κs = long-fits _ _ (c .before .before .pre .0)
+
+put-version-requires : tie.Need-put-version-requires
+unfolding headBytes
+put-version-requires c κs = room-next _ _ (c .before .before .before .before .before .before .pre .0) (put-length (c .before .before .before .put32 .ensures))
+
 returns : tie.Need-returns
 unfolding headBytes
-returns c = puts (c .before .before .put32 .ensures) (one _ _ 1)
+returns c = puts-both (put-length (c .before .before .before .before .before .before .put32 .ensures)) (c .before .before .put-version .ensures)
 
 pub put-head-spec : {M : Type 1} → statement M
 put-head-spec =
-    tie.close
-    (tie.spec
-    (λ c. search needs)
-    (λ c. search needs)
-    (λ c κs. search needs)
-    (λ c. search needs)
-    (λ c. search needs)
-    (λ c. search needs)
-    returns)
+    tie.close (tie.spec (λ c. search needs) (λ c. search needs) put32-requires put-version-requires (λ c. search needs) returns)

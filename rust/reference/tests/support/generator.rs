@@ -245,16 +245,17 @@ fn spoil_arc(random: &mut Random, net: &mut PlainNet) {
     }
 }
 
-/// One to three changes to a sheet: a byte, a field, the length, bytes cut off or added.
+/// One to three changes to a sheet: a byte, a field, the version, the byte after it, the length, bytes cut off or added.
 pub fn spoil(random: &mut Random, sheet: &mut Vec<u8>) {
     for _ in 0..1 + random.below(3) {
         let at = random.below(sheet.len() + 1);
-        match random.below(7) {
+        match random.below(8) {
             0 => over(sheet, at, &[random.next() as u8]),
             1 => over(sheet, at, &random.pick(&[0u16, 1, 64, 65, 256, 2_048, 2_049]).to_be_bytes()),
             2 => over(sheet, at, &random.pick(&[0, 1, 1_000_000, 1_000_001, OPEN - 1, OPEN]).to_be_bytes()),
             3 => sheet.truncate(at),
             4 => sheet.extend((0..random.below(20)).map(|n| n as u8)),
+            5 => over(sheet, random.pick(&[4, 4, 5]), &[random.pick(&[0, 1, 2, 3, 255])]),
             _ => {
                 if random.once_in(2) {
                     sheet.truncate(at.max(5));

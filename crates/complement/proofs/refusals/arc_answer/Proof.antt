@@ -16,7 +16,7 @@ returns-2 c =
     answer-last-fails
     (inhibits-is (c .before .before .before .before .before .before .before .before .arc .ensures) (sym (c .before .before .before .before .before .before .before .is-finite .ensures) ∙ not-false _ (c .before .before .before .before .before .before .if1 .left))
     (rw (← c .before .before .before .before .capacity .ensures) (ap not (sym (c .before .before .before .is-finite2 .ensures)) ∙ c .before .before .if2 .taken)))
-    (rw (← c .before .arc-offset .ensures .0) (c .refused .ensures))
+    (rw (← c .before .arc-offset .ensures) (c .refused .ensures))
 
 returns-3 : tie.Need-returns-3
 returns-3 c =

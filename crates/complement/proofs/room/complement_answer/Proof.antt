@@ -12,7 +12,7 @@ room-answer-requires : tie.Need-room-answer-requires
 room-answer-requires c κs =
     let pre = c .before .pre in
     let z = sizes (pre .0) in
-    (pre .1 .1 .1 .1, omega (arith, z .transitions, z .wellFormed .transitions .many))
+    (pre .1 .1 .1 .1, (omega (arith, z .transitions, z .wellFormed .transitions .many), z .modesWithin))
 
 returns : tie.Need-returns
 returns c =

@@ -4,10 +4,9 @@ use mathlib.Core.Path.{sym, ap}
 use native.Mathlib.Omega.{arith}
 use Rattle.sheets.specs.Decoded.{netOf}
 use Rattle.opened.proofs.Shapes.{sizes}
-use Rattle.written.proofs.Puts.{put-length}
+use Rattle.written.proofs.Puts.{put-length, room-as, puts-as, pair-fits}
 use Rattle.halves.specs.Pairs.{halfPair}
 use Rattle.halves.proofs.PairHalves.{old-pair}
-use Rattle.halves.proofs.Puts.{room-as, puts-as, pair-fits}
 use Rattle.halves.proofs.pairs.put_half_pair.Statement.{statement}
 use Rattle.halves.proofs.pairs.put_half_pair.Tie as tie
 

@@ -4,8 +4,8 @@ use Prim.Native.Nat.{_≤_, _-_}
 use Rattle.model.specs.Lists.{joined}
 use Rattle.sheets.specs.Decoded.{netOf}
 use Rattle.halves.specs.Pairs.{halfPair}
-use Rattle.halves.specs.Puts.{Puts}
-use Rattle.halves.proofs.Puts.{puts-none, room-more, puts-more, puts-end}
+use Rattle.written.specs.Puts.{Puts}
+use Rattle.written.proofs.Puts.{puts-none, room-more, puts-more, puts-end}
 use Rattle.halves.proofs.pairs.put_half_pairs.Statement.{statement}
 use Rattle.halves.proofs.pairs.put_half_pairs.Tie as tie
 

@@ -2,7 +2,7 @@
 use borrow.Author.Needs.{needs}
 use mathlib.Core.Path.{sym}
 use Rattle.halves.proofs.PairHalves.{pair-parts}
-use Rattle.halves.proofs.Puts.{room-as, puts-as, room-first, room-next, puts-both}
+use Rattle.written.proofs.Puts.{room-as, puts-as, room-first, room-next, puts-both}
 use Rattle.halves.proofs.pairs.put_pairs.Statement.{statement}
 use Rattle.halves.proofs.pairs.put_pairs.Tie as tie
 

@@ -27,7 +27,7 @@ unfolding arcRefusal
 returns-3 c =
     let a = c .before .before .before .before .before .before .before .args in
     answer-passes _ _ (le-ltb (sheetEnd (a .s .now)) (arcAt (a .start) (a .k) + 16) (omega arith))
-    (answer-goes-on _ _ (c .before .before .before .read-arc-names .ensures) (c .before .enum-told2 .given .1) (c .read-arc-numbers .ensures))
+    (answer-goes-on _ _ (c .before .before .before .read-arc-names .ensures) (c .before .enum-told2 .given .1) (c .read-numbers .ensures))
 
 pub read-arc-spec : {M : Type 1} → statement M
 read-arc-spec =
@@ -42,6 +42,7 @@ read-arc-spec =
     (λ c κs. search needs)
     (λ c. search needs)
     returns-2
+    (λ c. search needs)
     (λ c. search needs)
     (λ c κs. search needs)
     returns-3)

@@ -8,16 +8,26 @@ use Rattle.nets.proofs.net.net_fields.Tie as tie
 
 returns : tie.Need-returns
 unfolding netFields
-returns c = answer-stops _ _ (c .before .before .count-fields .ensures) (c .enum-told .given .1)
-
-pair-and-arc-fields-requires : tie.Need-pair-and-arc-fields-requires
-pair-and-arc-fields-requires c κs =
-    counted _ (c .before .before .before .before .pre) (answer-none _ (c .before .before .count-fields .ensures) (c .enum-told2 .given .1))
+returns c = answer-stops _ _ (c .before .before .rule-field .ensures) (c .enum-told .given .1)
 
 returns-2 : tie.Need-returns-2
 unfolding netFields
 returns-2 c =
-    answer-goes-on _ _ (c .before .before .before .count-fields .ensures) (c .before .enum-told2 .given .1) (c .pair-and-arc-fields .ensures)
+    let b = c .before .before .before in
+    answer-goes-on _ _ (b .before .before .rule-field .ensures) (b .enum-told2 .given .1)
+    (answer-stops _ _ (c .before .before .count-fields .ensures) (c .enum-told3 .given .1))
+
+pair-and-arc-fields-requires : tie.Need-pair-and-arc-fields-requires
+pair-and-arc-fields-requires c κs =
+    let b = c .before .before .before in
+    counted _ (b .before .before .before .before .pre) (answer-none _ (c .before .before .count-fields .ensures) (c .enum-told4 .given .1))
+
+returns-3 : tie.Need-returns-3
+unfolding netFields
+returns-3 c =
+    let b = c .before .before .before .before in
+    answer-goes-on _ _ (b .before .before .rule-field .ensures) (b .enum-told2 .given .1)
+    (answer-goes-on _ _ (c .before .before .before .count-fields .ensures) (c .before .enum-told4 .given .1) (c .pair-and-arc-fields .ensures))
 
 pub net-fields-spec : {M : Type 1} → statement M
 net-fields-spec =
@@ -27,5 +37,9 @@ net-fields-spec =
     (λ c. search needs)
     returns
     (λ c. search needs)
+    (λ c κs. search needs)
+    (λ c. search needs)
+    returns-2
+    (λ c. search needs)
     pair-and-arc-fields-requires
-    returns-2)
+    returns-3)

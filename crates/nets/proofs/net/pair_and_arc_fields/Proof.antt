@@ -1,9 +1,27 @@
 -- The pairs, then the arcs.
 use borrow.Author.Needs.{needs}
+use native.Mathlib.Omega.{arith}
+use Rattle.heads.proofs.Heads.{fields-at-most}
 use Rattle.model.proofs.Refusals.{answer-stops, answer-goes-on}
 use Rattle.nets.specs.Nets.{pairAndArcFields}
 use Rattle.nets.proofs.net.pair_and_arc_fields.Statement.{statement}
 use Rattle.nets.proofs.net.pair_and_arc_fields.Tie as tie
+
+read-pairs-requires : tie.Need-read-pairs-requires
+read-pairs-requires c κs =
+    let pre = c .before .before .before .pre in
+    let most = fields-at-most (c .before .before .before .args .s .now) in
+    (pre .sized .head, omega (arith, most, c .before .pairs-at .ensures, c .pair-count .ensures, pre .pairs, pre .sized .places, pre .sized .transitions))
+
+arc-section-requires : tie.Need-arc-section-requires
+arc-section-requires c κs =
+    let b = c .before .before .before .before in
+    let start = b .before .before .before in
+    let pre = start .pre in
+    let most = fields-at-most (start .args .s .now) in
+    let at = b .before .pairs-at .ensures in
+    let count = b .pair-count .ensures in
+    (pre .sized .head, omega (arith, most, at, count, c .mode-count .ensures, pre .pairs, pre .modes, pre .sized .places, pre .sized .transitions))
 
 returns : tie.Need-returns
 unfolding pairAndArcFields
@@ -18,7 +36,7 @@ returns-2 c =
     let start = b .before .before .pairs-at .ensures in
     let count = b .before .pair-count .ensures in
     answer-goes-on _ _ (rw (start, count) at (b .read-pairs .ensures)) (c .before .before .enum-told2 .given .1)
-    (rw (start, count, c .before .mode-count .ensures) at (c .arc-fields .ensures))
+    (rw (start, count, c .before .mode-count .ensures) at (c .arc-section .ensures))
 
 pub pair-and-arc-fields-spec : {M : Type 1} → statement M
 pair-and-arc-fields-spec =
@@ -26,12 +44,12 @@ pair-and-arc-fields-spec =
     (tie.spec
     (λ c κs. search needs)
     (λ c κs. search needs)
-    (λ c κs. search needs)
+    read-pairs-requires
     (λ c. search needs)
     returns
     (λ c. search needs)
     (λ c κs. search needs)
     (λ c. search needs)
     (λ c. search needs)
-    (λ c κs. search needs)
+    arc-section-requires
     returns-2)

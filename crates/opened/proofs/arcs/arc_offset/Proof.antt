@@ -1,14 +1,29 @@
--- The arc is one of the net's.
+-- In version 1 the arc's own mode stands before its 14 bytes.
 use borrow.Author.Needs.{needs}
+use Prim.Native.Nat.{_+_}
+use mathlib.Core.Path.{_≡_, sym, _∙_}
 use native.Mathlib.Omega.{arith}
-use Rattle.opened.proofs.Shapes.{sizes}
+use Rattle.opened.specs.Shape.{arcOffset}
+use Rattle.opened.proofs.Shapes.{shaped}
+use Rattle.opened.proofs.Segments.{own-there, own-mode}
+use Rattle.opened.proofs.Versions.{offset-one, offset-two}
 use Rattle.opened.proofs.arcs.arc_offset.Statement.{statement}
 use Rattle.opened.proofs.arcs.arc_offset.Tie as tie
+
+-- in version 1
+before : (c : tie.After-enum-told) → let a = c .before .before .before .before .args in c .before .before .tail-of .result ≡ arcOffset (a .s .now) (a .arcs .start + a .i) + 2
+before c =
+    let pre = c .before .before .before .before .pre in
+    let o = pre .0 in
+    c .before .before .tail-of .ensures .0 ∙ offset-one _ (o .accepted) _ _ (own-there (pre .1)) (own-mode (pre .1)) (sym (shaped o .version) ∙ c .enum-told .given .1)
+
+returns-2 : tie.Need-returns-2
+returns-2 c =
+    let pre = c .before .before .before .before .pre in
+    let o = pre .0 in
+    c .before .before .tail-of .ensures .0 ∙ offset-two _ (o .accepted) _ _ (own-there (pre .1)) (own-mode (pre .1)) (sym (shaped o .version) ∙ c .enum-told2 .given .1)
 
 pub arc-offset-spec : {M : Type 1} → statement M
 arc-offset-spec =
     tie.close
-    (tie.spec
-    (λ c. let z = sizes (c .before .before .pre .0) in omega (arith, c .before .before .pre .1 .own .fits))
-    (λ c κs. let z = sizes (c .before .before .pre .0) in (c .before .before .pre .0, omega (arith, c .before .before .pre .1 .own .fits)))
-    (λ c. search needs))
+    (tie.spec (λ c κs. search needs) (λ c. search needs) (λ c. omega (arith, before c)) (λ c. search needs) (λ c. omega (arith, before c)) returns-2)

@@ -14,10 +14,10 @@ abbrev μ-loop : tie.MeasureT-loop
 μ-loop s net t span₀ span = span .high - span .low
 
 loop-holds : tie.Need-loop-holds Inv-loop μ-loop
-loop-holds c = rw (sizes (c .before .pre) .arcs) (first-of-all _ _)
+loop-holds c = rw (sizes (c .before .pre .0) .arcs) (first-of-all _ _)
 
 halve-requires : tie.Need-halve-requires Inv-loop μ-loop
-halve-requires c κs = (c .before .before .before .before .pre, (c .before .before .loop .inv, c .if1 .taken))
+halve-requires c κs = let pre = c .before .before .before .before .pre in (pre .0, (pre .1, (c .before .before .loop .inv, c .if1 .taken)))
 
 loop-less : tie.Need-loop-less Inv-loop μ-loop
 loop-less c = c .halve .ensures .narrower

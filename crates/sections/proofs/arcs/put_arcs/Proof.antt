@@ -6,16 +6,15 @@ use native.Mathlib.Omega.{arith}
 use Rattle.model.specs.Lists.{joined}
 use Rattle.sheets.specs.Decoded.{netOf}
 use Rattle.opened.proofs.Shapes.{sizes}
-use Rattle.halves.specs.Puts.{Puts}
+use Rattle.written.specs.Puts.{Puts}
 use Rattle.sections.specs.Arcs.{rowBytes}
 use Rattle.sections.proofs.Read.{entry-dead}
-use Rattle.sections.proofs.ModeHalves.{arc-parts}
-use Rattle.halves.proofs.Puts.{room-as, puts-as, puts-none, room-more, puts-more, puts-end}
+use Rattle.written.proofs.Puts.{room-as, puts-as, puts-none, room-more, puts-more, puts-end}
 use Rattle.sections.proofs.arcs.put_arcs.Statement.{statement}
 use Rattle.sections.proofs.arcs.put_arcs.Tie as tie
 
 abbrev Inv-loop : tie.InvT-loop
-Inv-loop s net starts below dead out₀ at modes next₀ t₀ out next t = (t ≤ modes) × Puts out₀ at (joined t (rowBytes (netOf s))) out next
+Inv-loop s net starts below dead out₀ at modes next₀ t₀ out next t = (t ≤ modes) × Puts out₀ at (joined t (rowBytes (netOf s) (net .version))) out next
 
 abbrev μ-loop : tie.MeasureT-loop
 μ-loop s net starts below dead out₀ at modes next₀ t₀ out next t = modes - t
@@ -25,21 +24,21 @@ put-mode-requires c κs =
     let l = c .before .before .before .before .loop in
     let start = c .before .before .before .before .before .before .before in
     let segment = c .before .arcs-of .ensures in
-    let row = ap (λ m. rowBytes (netOf (start .args .s .now)) (m .0)) (sym (segment .mode)) in
-    let room = room-more _ (l .t) (l .inv .1) _ (room-as (arc-parts (start .pre .0)) (start .pre .1 .1 .1 .1)) (c .before .before .before .loop-test .taken) in
+    let row = ap (λ m. rowBytes (netOf (start .args .s .now)) (start .args .net .version) (m .0)) (sym (segment .mode)) in
+    let room = room-more _ (l .t) (l .inv .1) _ (start .pre .1 .1 .1 .1) (c .before .before .before .loop-test .taken) in
     (start .pre .0, (start .pre .1 .1 .0, (segment .own, (entry-dead (start .pre .0) (start .pre .1 .1 .1 .0) (l .t) (c .before .before .before .loop-test .taken) segment, room-as row room))))
 
 loop-again : tie.Need-loop-again Inv-loop μ-loop
 loop-again c =
     let l = c .before .before .before .before .before .before .before .loop in
     let start = c .before .before .before .before .before .before .before .before .before .before in
-    let row = ap (λ m. rowBytes (netOf (start .args .s .now)) (m .0)) (c .before .before .before .before .arcs-of .ensures .mode) in
+    let row = ap (λ m. rowBytes (netOf (start .args .s .now)) (start .args .net .version) (m .0)) (c .before .before .before .before .arcs-of .ensures .mode) in
     (search needs, puts-more _ (l .t) (l .inv .1) (puts-as row (c .before .before .put-mode .ensures)))
 
 returns : tie.Need-returns Inv-loop μ-loop
 returns c =
     let l = c .before .loop in
-    puts-as (sym (arc-parts (c .before .before .before .before .pre .0))) (puts-end _ (l .t) (l .inv .1) _ (l .inv .0) (c .loop-test .left))
+    puts-end _ (l .t) (l .inv .1) _ (l .inv .0) (c .loop-test .left)
 
 pub put-arcs-spec : {M : Type 1} → statement M
 put-arcs-spec =

@@ -4,14 +4,14 @@ use Prim.Native.Nat.{_≤_, _-_}
 use Rattle.model.specs.Lists.{joined}
 use Rattle.sheets.specs.Decoded.{netOf}
 use Rattle.sections.specs.Arcs.{halfBytes}
-use Rattle.halves.specs.Puts.{Puts}
-use Rattle.halves.proofs.Puts.{puts-none, room-more, puts-more, puts-end}
+use Rattle.written.specs.Puts.{Puts}
+use Rattle.written.proofs.Puts.{puts-none, room-more, puts-more, puts-end}
 use Rattle.sections.proofs.arcs.put_half_arcs.Statement.{statement}
 use Rattle.sections.proofs.arcs.put_half_arcs.Tie as tie
 
 abbrev Inv-loop : tie.InvT-loop
 Inv-loop s net below dead half arcs out₀ at count next₀ i₀ out next i =
-    (i ≤ count) × Puts out₀ at (joined i (halfBytes (netOf s) half (arcs .start))) out next
+    (i ≤ count) × Puts out₀ at (joined i (halfBytes (netOf s) (net .version) half (arcs .start))) out next
 
 abbrev μ-loop : tie.MeasureT-loop
 μ-loop s net below dead half arcs out₀ at count next₀ i₀ out next i = count - i

@@ -1,56 +1,61 @@
--- The halves passed are put.
+-- The arcs, and their count before them where the version has it.
 use borrow.Author.Needs.{needs}
-use Prim.Native.Nat.{_≤_, _-_}
-use mathlib.Core.Path.{sym, ap}
-use Rattle.model.specs.Lists.{joined}
+use mathlib.Core.Path.{refl}
+use native.Mathlib.Omega.{arith}
 use Rattle.sheets.specs.Decoded.{netOf}
-use Rattle.halves.specs.Puts.{Puts}
-use Rattle.halves.proofs.Puts.{room-as, puts-as, puts-none, room-more, puts-more, puts-end}
-use Rattle.sections.specs.Arcs.{halfNo, halfBytes}
-use Rattle.sections.proofs.ModeHalves.{mode-part}
+use Rattle.opened.proofs.Shapes.{sizes}
+use Rattle.written.proofs.Puts.{put-length, puts-before}
+use Rattle.sections.specs.Arcs.{rowArcs}
+use Rattle.sections.proofs.Fields.{bytes-as, ends-as}
+use Rattle.sections.proofs.Rows.{row-few}
+use Rattle.sections.proofs.Counted.{halves-room, own-room, own-few, own-is}
 use Rattle.sections.proofs.arcs.put_mode.Statement.{statement}
 use Rattle.sections.proofs.arcs.put_mode.Tie as tie
 
-abbrev Inv-loop : tie.InvT-loop
-Inv-loop s net below dead arcs out₀ at next₀ h₀ out next h =
-    (h ≤ 2) × Puts out₀ at (joined h (λ h. joined (arcs .count) (halfBytes (netOf s) (halfNo h) (arcs .start)))) out next
+add-start : tie.Need-add-start
+add-start c =
+    let start = c .before .before .before in
+    let room = halves-room (start .args .net .version) (rowArcs (netOf (start .args .s .now)) (start .args .arcs .mode .0)) (start .pre .1 .1 .1 .1) (c .own-size .ensures) refl in
+    omega (arith, room .fits)
 
-abbrev μ-loop : tie.MeasureT-loop
-μ-loop s net below dead arcs out₀ at next₀ h₀ out next h = 2 - h
-
-put-half-arcs-requires : tie.Need-put-half-arcs-requires Inv-loop μ-loop
-put-half-arcs-requires c κs =
-    let l = c .before .before .before .loop in
-    let start = c .before .before .before .before .before .before in
+put-halves-requires : tie.Need-put-halves-requires
+put-halves-requires c κs =
+    let start = c .before .before .before .before in
     let pre = start .pre in
-    let half = ap (λ half. joined (start .args .arcs .count) (halfBytes (netOf (start .args .s .now)) half (start .args .arcs .start))) (sym (c .before .half-no .ensures)) in
-    let room = room-more _ (l .h) (l .inv .1) 2 (room-as (mode-part (pre .0) _ _ _ (pre .1 .1 .0)) (pre .1 .1 .1 .1)) (c .before .before .loop-test .taken) in
-    (pre .0, (pre .1 .0, (pre .1 .1 .0, (pre .1 .1 .1 .0, room-as half room))))
+    let arcs = rowArcs (netOf (start .args .s .now)) (start .args .arcs .mode .0) in
+    (pre .0, (pre .1 .0, (pre .1 .1 .0, (pre .1 .1 .1 .0, halves-room (start .args .net .version) arcs (pre .1 .1 .1 .1) (c .before .own-size .ensures) refl))))
 
-loop-again : tie.Need-loop-again Inv-loop μ-loop
-loop-again c =
-    let l = c .before .before .before .before .before .before .loop in
-    let start = c .before .before .before .before .before .before .before .before .before in
-    let half = ap (λ half. joined (start .args .arcs .count) (halfBytes (netOf (start .args .s .now)) half (start .args .arcs .start))) (c .before .before .before .before .half-no .ensures) in
-    (search needs, puts-more _ (l .h) (l .inv .1) (puts-as half (c .before .before .put-half-arcs .ensures)))
+put-own-requires : tie.Need-put-own-requires
+put-own-requires c κs =
+    let halves = c .before .before .before in
+    let size = halves .before .before in
+    let start = size .before .before .before in
+    let pre = start .pre in
+    let v = start .args .net .version in
+    let net = netOf (start .args .s .now) in
+    let arcs = rowArcs net (start .args .arcs .mode .0) in
+    let z = sizes (pre .0) in
+    let few = row-few net (start .args .arcs .mode .0) in
+    (own-room v arcs (pre .1 .1 .1 .1) (size .own-size .ensures) refl (halves .put-halves .ensures), own-few v arcs (pre .1 .1 .1 .1) (size .own-size .ensures) refl (halves .put-halves .ensures) (omega (arith, few, z .pairs, z .pairsWithin)))
 
-returns : tie.Need-returns Inv-loop μ-loop
+returns : tie.Need-returns
 returns c =
-    let l = c .before .loop in
-    let pre = c .before .before .before .before .pre in
-    puts-as (sym (mode-part (pre .0) _ _ _ (pre .1 .1 .0))) (puts-end _ (l .h) (l .inv .1) 2 (l .inv .0) (c .loop-test .left))
+    let own = c .before .before in
+    let halves = own .before .before .before .before in
+    let size = halves .before .before in
+    let start = size .before .before .before in
+    let arcs = rowArcs (netOf (start .args .s .now)) (start .args .arcs .mode .0) in
+    let count = own-is (start .args .net .version) arcs (start .pre .1 .1 .1 .1) (size .own-size .ensures) refl (halves .put-halves .ensures) in
+    put-length (puts-before (halves .put-halves .ensures) (ends-as (omega (arith, size .own-size .ensures)) (bytes-as count (own .put-own .ensures))))
 
 pub put-mode-spec : {M : Type 1} → statement M
 put-mode-spec =
     tie.close
     (tie.spec
-    Inv-loop
-    μ-loop
-    (λ c. (search needs, puts-none _))
     (λ c κs. search needs)
-    put-half-arcs-requires
+    add-start
+    put-halves-requires
+    (λ c. omega (arith, c .before .before .before .put-halves .ensures .next))
+    put-own-requires
     (λ c. search needs)
-    (λ c. search needs)
-    loop-again
-    (λ c. c .before .loop .inv .1 .kept)
     returns)

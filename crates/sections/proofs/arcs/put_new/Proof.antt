@@ -4,18 +4,18 @@ use mathlib.Core.Path.{ap}
 use mathlib.Core.List.{flatten}
 use native.Mathlib.Omega.{arith}
 use Rattle.opened.proofs.Shapes.{sizes}
-use Rattle.written.specs.Written.{bytes16, bytes32, arcBytes}
+use Rattle.written.specs.Written.{bytes16, bytes32, tailBytes, arcBytes}
 use Rattle.written.proofs.Records.{number-bound}
-use Rattle.written.proofs.Puts.{puts, puts-before}
+use Rattle.written.proofs.Puts.{nothing, puts}
 use Rattle.halves.proofs.Below.{entry-few}
 use Rattle.sections.proofs.Read.{complement-pair-is}
-use Rattle.sections.proofs.Fields.{bytes-as, ends-as}
+use Rattle.sections.proofs.Fields.{bytes-as, ends-as, two-before}
 use Rattle.sections.proofs.arcs.put_new.Statement.{statement}
 use Rattle.sections.proofs.arcs.put_new.Tie as tie
 
 complement-pair-requires : tie.Need-complement-pair-requires
 complement-pair-requires c κs =
-    let start = c .before .before .before .before .before .before .before .before .before .before .before in
+    let start = c .before .before .before .before .before .before .before .before .before .before .before .before in
     let z = sizes (start .pre .0) in
     let arc = c .before .before .before .before .arc in
     let few = entry-few (start .pre .0) (start .pre .1 .0) (arc .result .pair .0) (omega (arith, arc .ensures .pair)) in
@@ -26,51 +26,54 @@ put32-requires-3 c κs =
     let post = c .before .before .before .before in
     let pre = post .before .before .before .before .before in
     let both = puts (pre .put32 .ensures) (post .put322 .ensures) in
-    omega (arith, both .kept, both .next, pre .before .before .before .before .pre .1 .1 .1 .1)
+    omega (arith, both .kept, both .next, pre .before .mode-size .ensures, pre .before .before .before .before .before .pre .1 .1 .1 .1)
 
-put16-requires : tie.Need-put16-requires
-put16-requires c κs =
+put-arc-mode-requires : tie.Need-put-arc-mode-requires
+put-arc-mode-requires c κs =
     let inhibitor = c .before .before .before .before in
     let post = inhibitor .before .before .before .before .before in
     let pre = post .before .before .before .before .before in
     let numbers = puts (pre .put32 .ensures) (puts (post .put322 .ensures) (inhibitor .put323 .ensures)) in
-    omega (arith, numbers .kept, pre .before .before .before .before .pre .1 .1 .1 .1)
+    omega (arith, numbers .kept, pre .before .mode-size .ensures, pre .before .before .before .before .before .pre .1 .1 .1 .1)
 
-put16-requires-2 : tie.Need-put16-requires-2
-put16-requires-2 c κs =
+put16-requires : tie.Need-put16-requires
+put16-requires c κs =
     let mode = c .before .before .before in
     let inhibitor = mode .before .before .before .before .before in
     let post = inhibitor .before .before .before .before .before in
     let pre = post .before .before .before .before .before in
     let numbers = puts (pre .put32 .ensures) (puts (post .put322 .ensures) (inhibitor .put323 .ensures)) in
-    omega (arith, numbers .kept, mode .put16 .ensures .kept, mode .put16 .ensures .next, pre .before .before .before .before .pre .1 .1 .1 .1)
+    omega (arith, numbers .kept, mode .put-arc-mode .ensures .kept, mode .put-arc-mode .ensures .next, pre .before .mode-size .ensures, pre .before .before .before .before .before .pre .1 .1 .1 .1)
 
 returns : tie.Need-returns
-unfolding arcBytes flatten bytes32 bytes16
+unfolding arcBytes tailBytes flatten bytes32 bytes16
 returns c =
     let pair = c .before .before in
     let mode = pair .before .before .before .before in
     let inhibitor = mode .before .before .before .before .before in
     let post = inhibitor .before .before .before .before .before in
     let pre = post .before .before .before .before .before in
-    let start = pre .before .before .before .before in
+    let start = pre .before .before .before .before .before in
     let number = complement-pair-is (post .before .before .arc .ensures) (start .pre .0) (start .pre .1 .0) _ (inhibitor .before .before .complement-pair .ensures) _ (start .pre .1 .1 .1 .0) in
     rw number-bound
-    (puts-before
-    (puts (pre .put32 .ensures) (puts (post .put322 .ensures) (inhibitor .put323 .ensures)))
-    (ends-as (omega arith) (puts (mode .put16 .ensures) (bytes-as (ap bytes16 number) (pair .put162 .ensures)))))
+    (two-before
+    (puts (pre .put32 .ensures) (puts (post .put322 .ensures) (puts (inhibitor .put323 .ensures) nothing)))
+    (mode .put-arc-mode .ensures)
+    (ends-as (omega (arith, pre .before .mode-size .ensures, mode .put-arc-mode .ensures .next)) (bytes-as (ap bytes16 number) (pair .put16 .ensures))))
 
 pub put-new-spec : {M : Type 1} → statement M
 put-new-spec =
     tie.close
     (tie.spec
+    (λ c κs. search needs)
+    (λ c. search needs)
     (λ c. search needs)
     (λ c κs. search needs)
     (λ c κs. search needs)
     (λ c κs. search needs)
     complement-pair-requires
     put32-requires-3
+    put-arc-mode-requires
     put16-requires
-    put16-requires-2
     (λ c. search needs)
     returns)

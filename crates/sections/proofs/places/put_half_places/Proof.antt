@@ -11,9 +11,9 @@ use Rattle.written.specs.Written.{bytes16}
 use Rattle.opened.proofs.Shapes.{sizes}
 use Rattle.sections.specs.Places.{placeBytes}
 use Rattle.model.specs.Nets.{firstPair}
-use Rattle.halves.specs.Puts.{Puts}
+use Rattle.written.specs.Puts.{Puts}
 use Rattle.sections.proofs.PlaceHalves.{half-place, next-first}
-use Rattle.halves.proofs.Puts.{room-as, puts-as, puts-none, room-more, puts-more, puts-end}
+use Rattle.written.proofs.Puts.{room-as, puts-as, puts-none, room-more, puts-more, puts-end}
 use Rattle.sections.proofs.places.put_half_places.Statement.{statement}
 use Rattle.sections.proofs.places.put_half_places.Tie as tie
 

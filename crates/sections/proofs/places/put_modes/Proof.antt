@@ -5,10 +5,9 @@ use mathlib.Core.Path.{sym, ap}
 use Rattle.model.specs.Lists.{joined}
 use Rattle.sheets.specs.Decoded.{netOf}
 use Rattle.written.specs.Written.{bytes16}
-use Rattle.written.proofs.Puts.{put-length}
-use Rattle.halves.specs.Puts.{Puts}
+use Rattle.written.proofs.Puts.{put-length, room-as, puts-as, count-fits, puts-none, room-more, puts-more, puts-end}
+use Rattle.written.specs.Puts.{Puts}
 use Rattle.sections.proofs.PlaceHalves.{transitionBytes, mode-parts}
-use Rattle.halves.proofs.Puts.{room-as, puts-as, count-fits, puts-none, room-more, puts-more, puts-end}
 use Rattle.sections.proofs.places.put_modes.Statement.{statement}
 use Rattle.sections.proofs.places.put_modes.Tie as tie
 

@@ -2,9 +2,8 @@
 use borrow.Author.Needs.{needs}
 use mathlib.Core.Path.{sym}
 use native.Mathlib.Omega.{arith}
-use Rattle.written.proofs.Puts.{nothing, put-length}
+use Rattle.written.proofs.Puts.{nothing, put-length, room-as, puts-as, count-fits}
 use Rattle.sections.proofs.PlaceHalves.{no-place-bytes, one-place-bytes}
-use Rattle.halves.proofs.Puts.{room-as, puts-as, count-fits}
 use Rattle.sections.proofs.places.put_place.Statement.{statement}
 use Rattle.sections.proofs.places.put_place.Tie as tie
 

@@ -2,7 +2,7 @@
 use borrow.Author.Needs.{needs}
 use mathlib.Core.Path.{sym}
 use Rattle.sections.proofs.PlaceHalves.{place-parts}
-use Rattle.halves.proofs.Puts.{room-as, puts-as, room-first, room-next, puts-both}
+use Rattle.written.proofs.Puts.{room-as, puts-as, room-first, room-next, puts-both}
 use Rattle.sections.proofs.places.put_places.Statement.{statement}
 use Rattle.sections.proofs.places.put_places.Tie as tie
 

@@ -11,7 +11,7 @@ use Rattle.opened.proofs.Shapes.{sizes}
 use Rattle.sections.specs.Arcs.{rowArcs}
 use Rattle.sections.proofs.Counts.{count-none, count-more}
 use Rattle.sections.proofs.Read.{entry-dead}
-use Rattle.sections.proofs.ModeHalves.{arcs-count}
+use Rattle.sections.proofs.ModeHalves.{complement-arcs}
 use Rattle.sections.proofs.Surveys.{SurveyedBelow, surveyed-none, surveyed-more, surveyed-all}
 use Rattle.sections.proofs.survey.survey.Statement.{statement}
 use Rattle.sections.proofs.survey.survey.Tie as tie
@@ -54,7 +54,7 @@ returns c =
     let net = netOf (start .args .s .now) in
     let all = surveyed-all net (z .wellFormed) (l .t) (omega (arith, z .modes)) (l .inv .2) in
     let e : l .t ≡ modes net = omega (arith, z .modes) in
-    ((rw e at (l .inv .1)) ∙ sym (arcs-count net), omega (arith, z .arcs, z .arcsWithin, all .0), all .1)
+    ((rw e at (l .inv .1)) ∙ sym (ap length (complement-arcs net)), omega (arith, z .arcs, z .arcsWithin, all .0), all .1)
 
 pub survey-spec : {M : Type 1} → statement M
 survey-spec =

@@ -1,0 +1,74 @@
+-- The order of the refusals, and what an accepted conversion leaves.
+use Prim.Native.Nat.{ℕ, _≤_, _<_}
+use mathlib.Core.Path.{_≡_, refl, sym, _∙_, ap}
+use mathlib.Core.Bool.{not}
+use mathlib.Core.List.{List}
+use mathlib.Core.Logic.{_≢_}
+use mathlib.Core.Option.{Option, none, some}
+use lib.ListN.{length}
+use borrow.Author.Tests.{eq-eqb, ne-eqb, eqb-true, lt-ltb, le-ltb, not-false}
+use native.Mathlib.Omega.{arith}
+use Rattle.model.specs.declared.Thing.the-variants.{Net}
+use Rattle.model.specs.declared.Fault.the-variants.{WrongVersion, NoRoom}
+use Rattle.model.specs.declared.Refusal.{Refusal}
+use Rattle.model.specs.declared.Version.{Version}
+use Rattle.model.specs.Refusals.{wrong}
+use Rattle.model.proofs.First.{then-assoc, then-under, none-then, some-then, left-none, right-none, only-if-none}
+use Rattle.heads.specs.Layout.{version}
+use Rattle.heads.specs.Version.{versionOf}
+use Rattle.heads.specs.Checks.{headRefusal}
+use Rattle.nets.specs.Nets.{netRefusal}
+use Rattle.sheets.specs.Whole.{wholeNet}
+use Rattle.opened.specs.declared.shape.NetShape.{NetShape}
+use Rattle.opened.specs.declared.Opened.the-variants as opening
+use Rattle.opened.specs.Opened.{opened}
+use Rattle.written.specs.Written.{versionNumber}
+use Rattle.written.specs.Puts.{Puts}
+use Rattle.written.proofs.Puts.{from-start}
+use Rattle.written.proofs.Versions.{version-is}
+use Rattle.convert.specs.declared.Converted.the-variants.{Length, Refused}
+use Rattle.convert.specs.Converted.{ofVersion, convertedSheet, tooShort, converted, output}
+
+module _ (v : Version) (s : List ℕ) where
+  -- a sheet of the version that is read, and one of another
+  pub read-on : (headRefusal Net s ≡ none → version s ≡ versionNumber v) → ofVersion v s ≡ wholeNet s
+  unfolding ofVersion wholeNet netRefusal
+  read-on e =
+      then-under (headRefusal Net s) (λ h. none-then (rw (eq-eqb (version s) (versionNumber v) (e h)) refl) refl) ∙ sym (then-assoc (headRefusal Net s) _ _)
+
+  pub stops : headRefusal Net s ≡ none → version s ≢ versionNumber v → ofVersion v s ≡ some (wrong Net (WrongVersion 4))
+  unfolding ofVersion
+  stops h d = none-then h (some-then _ (rw (ne-eqb (version s) (versionNumber v) d) refl))
+
+  -- what is read is a whole sheet of that version
+  number-read : ofVersion v s ≡ none → version s ≡ versionNumber v
+  unfolding ofVersion
+  number-read e = eqb-true _ _ (not-false _ (only-if-none _ _ (left-none _ _ (right-none (headRefusal Net s) _ e))))
+
+  pub read-whole : ofVersion v s ≡ none → wholeNet s ≡ none
+  read-whole e = sym (read-on (λ h. number-read e)) ∙ e
+
+  pub read-version : ofVersion v s ≡ none → versionOf s ≡ v
+  read-version e = version-is v s (number-read e)
+
+pub opens-none : {o : Option Refusal} {r : Refusal} (net : NetShape) → o ≡ some r → opening.Refused r ≡ opened o net
+unfolding opened
+opens-none net e = rw e refl
+
+-- 10, and where there is room
+module _ (target : Version) (s : List ℕ) {room : ℕ} where
+  pub short : room < length (convertedSheet target s) → tooShort target s room ≡ some (wrong Net NoRoom)
+  unfolding tooShort
+  short h = rw (lt-ltb room (length (convertedSheet target s)) h) refl
+
+  pub roomy : length (convertedSheet target s) ≤ room → tooShort target s room ≡ none
+  unfolding tooShort
+  roomy h = rw (le-ltb room (length (convertedSheet target s)) h) refl
+
+-- a refusal, with nothing written, and a sheet from the first byte on
+pub refused : {o : Option Refusal} {r : Refusal} (n : ℕ) (sheet found : List ℕ) → o ≡ some r → (Refused r ≡ converted o n) × (found ≡ output o sheet found)
+refused n sheet found e = rw e (refl, refl)
+
+pub written : {o : Option Refusal} {found now : List ℕ} {after : ℕ} (sheet : List ℕ) → o ≡ none → length sheet ≤ length found → Puts found 0 sheet now after
+    → (Length after ≡ converted o (length sheet)) × (now ≡ output o sheet found)
+written {after = after} sheet e h p = let n : after ≡ length sheet = omega (arith, p .next) in rw e (ap Length n, from-start (p .written) h)

@@ -1,0 +1,4 @@
+pub mod Segments
+pub mod Parts
+pub mod Answers
+pub mod Promises

@@ -1,0 +1,61 @@
+-- The conversions of a net sheet: what they answer, and what they leave in the output slice.
+-- Document 02, P9: "Add conversion from 1 to 2 and back"; "a conversion answers 2 to a sheet of its target version and 10 to a short output".
+use Prim.Native.Nat.{ℕ}
+use mathlib.Core.Bool.{not}
+use mathlib.Core.List.{List, _++_}
+use mathlib.Core.Option.{Option, none, some}
+use lib.Dec.{eqb, ltb}
+use lib.ListN.{length, drop}
+use Rattle.model.specs.declared.Thing.the-variants.{Net}
+use Rattle.model.specs.declared.Fault.the-variants.{WrongVersion, NoRoom}
+use Rattle.model.specs.declared.Refusal.{Refusal}
+use Rattle.model.specs.declared.Version.{Version}
+use Rattle.model.specs.First.{_▸_, onlyIf}
+use Rattle.model.specs.Refusals.{wrong}
+use Rattle.model.specs.Replies.{Reply, yields, refuses}
+use Rattle.heads.specs.Layout.{version}
+use Rattle.heads.specs.Checks.{headRefusal}
+use Rattle.nets.specs.Nets.{netFields}
+use Rattle.sheets.specs.Whole.{bytesAfter}
+use Rattle.sheets.specs.Decoded.{netOf}
+use Rattle.written.specs.Written.{versionNumber, sheetOf}
+use Rattle.convert.specs.declared.Converted.{Converted}
+use Rattle.convert.specs.declared.Converted.the-variants.{Length, Refused}
+
+-- the net's refusals where sheets of one version alone are read: any other version byte is 2, in 2's place ("1, then L = 0, then 2, then the fields")
+unfoldable pub ofVersion : Version → List ℕ → Option Refusal
+ofVersion v s =
+    headRefusal Net s ▸ onlyIf (not (eqb (version s) (versionNumber v))) (wrong Net (WrongVersion 4)) ▸ netFields s ▸ bytesAfter Net s
+
+-- the sheet that is to be written: the same net
+abbrev pub convertedSheet : Version → List ℕ → List ℕ
+convertedSheet target s = sheetOf target (netOf s)
+
+-- "10 to a short output"
+unfoldable pub tooShort : Version → List ℕ → ℕ → Option Refusal
+tooShort target s room = onlyIf (ltb room (length (convertedSheet target s))) (wrong Net NoRoom)
+
+unfoldable pub convertRefusal : Version → Version → List ℕ → ℕ → Option Refusal
+convertRefusal source target s room = ofVersion source s ▸ tooShort target s room
+
+-- the first refusal, if there is one, or the length written
+abbrev pub converted : Option Refusal → ℕ → Converted
+converted none length = Length length
+converted (some r) length = Refused r
+
+-- the number, thing, position and value of each answer
+abbrev pub told : Converted → Reply ℕ
+told (Length length) = yields length
+told (Refused r) = refuses r
+
+-- the sheet from the first byte on and no byte after it touched; "Other refused calls write nothing."
+abbrev pub output : Option Refusal → List ℕ → List ℕ → List ℕ
+output none sheet found = sheet ++ drop (length sheet) found
+output (some r) sheet found = found
+
+module _ (source target : Version) (net out : List ℕ) where
+  abbrev pub conversionOf : Converted
+  conversionOf = converted (convertRefusal source target net (length out)) (length (convertedSheet target net))
+
+  abbrev pub outputOf : List ℕ
+  outputOf = output (convertRefusal source target net (length out)) (convertedSheet target net) out

@@ -1,0 +1,4 @@
+pub mod Converted
+pub mod Contracts
+pub mod Parts
+pub mod Promises

@@ -1,0 +1,102 @@
+// The conversions of a net sheet between its two versions (document 02, P9): the same net, written in the other version.
+mod arcs;
+mod sheet;
+
+use crate::sheet::put_sheet;
+use heads::head::read_head;
+use model::Answer;
+use model::Fault;
+use model::Refusal;
+use model::Thing;
+use model::Version;
+use opened::Opened;
+use opened::open_net;
+use opened::shape::NetShape;
+use written::sheet_size;
+ghost use mathlib.Core.Path.{_≡_};
+ghost use lib.ListN.{length};
+ghost use Rattle.opened.specs.Shape.{shapeOf, Open};
+ghost use Rattle.opened.specs.Opened.{opened};
+ghost use Rattle.written.specs.Written.{versionNumber};
+ghost use Rattle.convert.specs.Converted.{ofVersion, convertedSheet, tooShort, converted, output, conversionOf, outputOf};
+ghost use Rattle.convert.specs.Contracts.{ToVersion1Allows, ToVersion2Allows};
+
+// How many bytes were written, or why none.
+pub enum Converted {
+    Length(usize),
+    Refused(Refusal),
+}
+
+fn version_byte(version: Version) -> u8
+    ensures { λ r. ⌜ r ≡ versionNumber version ⌝ }
+{
+    match version {
+        Version::One => 1,
+        Version::Two => 2,
+    }
+}
+
+// "A conversion answers 2 to a sheet of its target version": it reads its source version alone.
+fn open_version(s: &[u8], source: Version) -> Opened
+    ensures { λ r. ⌜ r ≡ opened (ofVersion source (now (s .entry))) (shapeOf (now (s .entry))) ⌝ }
+{
+    let head = read_head(s, Thing::Net);
+    if let Answer::Refused(refusal) = head {
+        return Opened::Refused(refusal);
+    }
+    if s[4] != version_byte(source) {
+        return Opened::Refused(Refusal {
+            thing: Thing::Net,
+            fault: Fault::WrongVersion(4),
+        });
+    }
+    open_net(s)
+}
+
+// "10 to a short output", or the sheet of the same net.
+fn convert_open(s: &[u8], net: NetShape, target: Version, out: &mut [u8]) -> Converted
+    requires { ⌜ Open (now s) net ⌝ }
+    ensures { λ r. ⌜ r ≡ converted (tooShort target (now (s .entry)) (length (now (out .entry)))) (length (convertedSheet target (now (s .entry)))) ⌝ }
+    ensures { λ _. ⌜ now (out .exit) ≡ output (tooShort target (now (s .entry)) (length (now (out .entry)))) (convertedSheet target (now (s .entry))) (now (out .entry)) ⌝ }
+{
+    let size = sheet_size(
+        target,
+        net.places,
+        net.transitions,
+        net.pairs,
+        net.modes,
+        net.arcs,
+    );
+    if out.len() < size {
+        return Converted::Refused(Refusal {
+            thing: Thing::Net,
+            fault: Fault::NoRoom,
+        });
+    }
+    Converted::Length(put_sheet(s, net, target, size, out))
+}
+
+fn convert(s: &[u8], source: Version, target: Version, out: &mut [u8]) -> Converted
+    ensures { λ r. ⌜ r ≡ conversionOf source target (now (s .entry)) (now (out .entry)) ⌝ }
+    ensures { λ _. ⌜ now (out .exit) ≡ outputOf source target (now (s .entry)) (now (out .entry)) ⌝ }
+{
+    let opened = open_version(s, source);
+    match opened {
+        Opened::Refused(refusal) => Converted::Refused(refusal),
+        Opened::Open(shape) => convert_open(s, shape, target, out),
+    }
+}
+
+// Writes the net of a version 1 sheet in version 2, from the first byte of `out` on.
+pub fn to_version_2(net: &[u8], out: &mut [u8]) -> Converted
+    ensures { λ r. ⌜ ToVersion2Allows (now (net .entry)) (now (out .entry)) (r, now (out .exit)) ⌝ }
+{
+    convert(net, Version::One, Version::Two, out)
+}
+
+// And back: "with the old bytes returned exactly".
+pub fn to_version_1(net: &[u8], out: &mut [u8]) -> Converted
+    ensures { λ r. ⌜ ToVersion1Allows (now (net .entry)) (now (out .entry)) (r, now (out .exit)) ⌝ }
+{
+    convert(net, Version::Two, Version::One, out)
+}

@@ -1,0 +1,38 @@
+-- The byte is there, then it is 0.
+use borrow.Author.Needs.{needs}
+use borrow.Author.Tests.{lt-ltb, le-ltb, eq-eqb, ne-eqb}
+use native.Mathlib.Omega.{arith}
+use Rattle.model.specs.First.{_▸_}
+use Rattle.heads.specs.Bytes.{byteAt}
+use Rattle.heads.specs.Layout.{sheetEnd}
+use Rattle.nets.specs.Nets.{ruleField}
+use Rattle.nets.proofs.net.read_rule.Statement.{statement}
+use Rattle.nets.proofs.net.read_rule.Tie as tie
+
+returns : tie.Need-returns
+unfolding ruleField _▸_
+returns c = let s = c .before .before .before .before .args .s .now in simp (lt-ltb (sheetEnd s) 6 (omega arith)) (c .refused .ensures)
+
+returns-2 : tie.Need-returns-2
+unfolding ruleField _▸_
+returns-2 c =
+    let s = c .before .before .before .before .before .before .args .s .now in
+    simp (le-ltb (sheetEnd s) 6 (omega arith), ne-eqb (byteAt s 5) 0 (c .before .if2 .taken)) (c .refused2 .ensures)
+
+returns-3 : tie.Need-returns-3
+unfolding ruleField _▸_
+returns-3 c =
+    let s = c .before .before .before .before .before .args .s .now in
+    simp (le-ltb (sheetEnd s) 6 (omega arith), eq-eqb (byteAt s 5) 0 (c .if2 .left))
+
+pub read-rule-spec : {M : Type 1} → statement M
+read-rule-spec =
+    tie.close
+    (tie.spec
+    (λ c κs. search needs)
+    (λ c κs. search needs)
+    returns
+    (λ c. search needs)
+    (λ c κs. search needs)
+    returns-2
+    returns-3)

@@ -1,0 +1,189 @@
+-- A call's answer is the net sheet's refusal, then a function of the net that was read; the offset of 15 is all else that it takes from the sheet.
+use Prim.Native.Nat.{ℕ, zero, suc, _≤_}
+use mathlib.Core.Path.{_≡_, refl, sym, _∙_, ap}
+use mathlib.Core.Bool.{Bool, true, false}
+use mathlib.Core.List.{List, _++_}
+use mathlib.Core.Option.{Option, none, some}
+use lib.ListN.{length}
+use borrow.Author.Tests.{le-ltb}
+use Rattle.model.specs.declared.Thing.the-variants.{Net}
+use Rattle.model.specs.declared.Fault.the-variants.{InhibitedUnbounded}
+use Rattle.model.specs.declared.Refusal.{Refusal}
+use Rattle.model.specs.First.{_▸_, first, onlyIf, lowest}
+use Rattle.model.specs.Nets.{PNet, arcNo}
+use Rattle.model.specs.Refusals.{answer, carried, wrong}
+use Rattle.model.specs.Replies.{yields}
+use Rattle.model.specs.Complement.{complement, inhibitsUnbounded, refusal15, complementRefusal}
+use Rattle.model.specs.Audit.{Finding, audited, auditRefusal}
+use Rattle.model.proofs.First.{left-none, none-then, then-none}
+use Rattle.nets.specs.Nets.{netRefusal}
+use Rattle.sheets.specs.Whole.{wholeNet, rest}
+use Rattle.sheets.specs.Decoded.{netOf}
+use Rattle.sheets.proofs.Accepted.{well-formed}
+use Rattle.opened.specs.Shape.{arcOffset}
+use Rattle.heads.specs.Version.{versionOf}
+use Rattle.written.specs.Written.{sheetOf}
+use Rattle.written.specs.Promises.{ReadBack}
+use Rattle.written.proofs.RoundTrip.{written-then-read, read-then-written}
+use Rattle.fire.specs.Calls.{beginRefusal, testRefusal}
+use Rattle.run.specs.Calls.{beforeRun, runOf, visitedBy, certifyRefusal}
+use Rattle.step.specs.Calls.{testStepRefusal}
+use Rattle.weigh.specs.Calls.{figureRefusal, changeRefusal}
+use Rattle.exclude.specs.Calls.{excludeRefusal}
+use Rattle.dead.specs.IsDead.{deadRefusal}
+use Rattle.complement.specs.Complemented as complementing
+use Rattle.audit.specs.Audits as auditing
+use Rattle.statement.specs.Replay.{unlessRefused, weightsText, sheetsText, replayText, stated, statedIn}
+use Rattle.promises.specs.DemandThree.{asWritten}
+use Rattle.promises.specs.EqualNets.{OneNet, OffsetAside, AuditsAlike, Fits, Bytes, AlikeBefore, Alike, EqualNets}
+use Rattle.promises.proofs.TwoRuns.{length-accepted, written}
+
+-- refusals that are equal, or both 15
+data Aside : Option Refusal → Option Refusal → Type 0 where
+  same : (o : Option Refusal) → Aside o o
+  offsets : (i j : ℕ) → Aside (some (wrong Net (InhibitedUnbounded i))) (some (wrong Net (InhibitedUnbounded j)))
+
+aside-then : {o p x y : Option Refusal} → Aside o p → Aside x y → Aside (o ▸ x) (p ▸ y)
+unfolding _▸_
+aside-then (same none) h = h
+aside-then (same (some r)) h = same (some r)
+aside-then (offsets i j) h = offsets i j
+
+aside-15 : (n : ℕ) (test : ℕ → Bool) (x y : ℕ → ℕ)
+    → Aside (lowest n test (λ k. wrong Net (InhibitedUnbounded (x k)))) (lowest n test (λ k. wrong Net (InhibitedUnbounded (y k))))
+unfolding first
+aside-15 zero test x y = same none
+aside-15 (suc n) test x y = aside-then (aside-15 n test x y) (at (test n))
+  where
+    at : (t : Bool) → Aside (onlyIf t (wrong Net (InhibitedUnbounded (x n)))) (onlyIf t (wrong Net (InhibitedUnbounded (y n))))
+    at true = offsets (x n) (y n)
+    at false = same none
+
+aside-complement : (net : PNet) (x y : ℕ → ℕ) → Aside (complementRefusal x net) (complementRefusal y net)
+unfolding complementRefusal refusal15
+aside-complement net x y = aside-then (aside-15 _ (λ k. inhibitsUnbounded net (arcNo (net .arcs) k)) x y) (same _)
+
+aside-carried : {o p : Option Refusal} → Aside o p → OffsetAside (carried (answer o)) (carried (answer p))
+aside-carried (same o) = record { number = refl; thing = refl; amount = refl; position = λ h. refl }
+aside-carried (offsets i j) = record { number = refl; thing = refl; amount = refl; position = λ h. absurd (h refl) }
+
+complement-carried : (o : Option Refusal) (l : ℕ) → complementing.told (complementing.complemented o l) .carried ≡ carried (answer o)
+complement-carried none l = refl
+complement-carried (some r) l = refl
+
+audit-carried : (o : Option Refusal) (f : Option Finding) → auditing.told (auditing.finds o f) .carried ≡ carried (answer o)
+unfolding auditing.finds
+audit-carried none none = refl
+audit-carried none (some f) = refl
+audit-carried (some r) f = refl
+
+audit-value : {o p : Option Refusal} (f : Option Finding) → Aside o p → auditing.told (auditing.finds o f) .value ≡ auditing.told (auditing.finds p f) .value
+unfolding auditing.finds
+audit-value f (same o) = refl
+audit-value f (offsets i j) = refl
+
+-- an output slice that is long enough: 15, and 10 for the limits
+complement-fits : (net out : List ℕ) → wholeNet net ≡ none → Fits net out
+    → complementing.complementingRefusal net (length out) ≡ complementRefusal (arcOffset net) (netOf net)
+unfolding complementing.complementingRefusal complementing.roomRefusal
+complement-fits net out w fits = none-then w (rw (le-ltb (length out) (length (complementing.complementSheet net)) fits) (then-none _))
+
+-- a net sheet with bytes after it, which are handed back
+module _ (a : List ℕ) (bytes : Bytes a) (w : wholeNet a ≡ none) (more : List ℕ) where
+  is-sheet : a ≡ sheetOf (versionOf a) (netOf a)
+  is-sheet = read-then-written a bytes w
+
+  back : ReadBack (versionOf a) (netOf a)
+  unfolding wholeNet
+  back = written-then-read (versionOf a) (netOf a) (well-formed a (left-none (netRefusal a) _ w))
+
+  read-before : netRefusal (a ++ more) ≡ none
+  read-before = ap (λ s. netRefusal (s ++ more)) is-sheet ∙ back .acceptedFirst more
+
+  net-before : netOf (a ++ more) ≡ netOf a
+  net-before = ap (λ s. netOf (s ++ more)) is-sheet ∙ back .sameFirst more
+
+  rest-before : rest (answer (netRefusal (a ++ more))) (a ++ more) ≡ more
+  rest-before = ap (λ s. rest (answer (netRefusal (s ++ more))) (s ++ more)) is-sheet ∙ back .restAfter more
+
+  text-before : length (a ++ more) ≤ 65536 → replayText (a ++ more) ≡ weightsText (netOf a) more
+  unfolding replayText sheetsText unlessRefused
+  text-before h = rw (le-ltb 65536 (length (a ++ more)) h, rest-before, net-before, read-before)
+
+module _ (a b : List ℕ) (one : OneNet a b) where
+  pub whole : wholeNet b ≡ wholeNet a
+  whole = one .second ∙ sym (one .first)
+
+  pub net : netOf b ≡ netOf a
+  net = sym (one .net)
+
+  pub complements : (out out′ : List ℕ) → Fits a out → Fits b out′
+      → OffsetAside (complementing.told (complementing.complementOf a out) .carried) (complementing.told (complementing.complementOf b out′) .carried)
+  complements out out′ f f′ =
+      rw (complement-carried (complementing.complementingRefusal a (length out)), complement-carried, complement-fits a out (one .first) f, complement-fits b out′ (one .second) f′, one .net)
+      (aside-carried (aside-complement (netOf b) (arcOffset a) (arcOffset b)))
+
+  audit-refusals : (m m′ : List ℕ) → Aside (auditing.auditingRefusal a m m′) (auditing.auditingRefusal b m m′)
+  unfolding auditing.auditingRefusal auditRefusal
+  audit-refusals m m′ =
+      rw (one .first, one .second, one .net) (aside-then (same none) (aside-then (aside-complement (netOf b) (arcOffset a) (arcOffset b)) (same _)))
+
+  pub audits : (m m′ : List ℕ) → AuditsAlike (auditing.told (auditing.auditedOf a m m′)) (auditing.told (auditing.auditedOf b m m′))
+  audits m m′ =
+      record {
+        carried = rw (audit-carried (auditing.auditingRefusal a m m′), audit-carried) (aside-carried (audit-refusals m m′));
+        value = rw (one .net) (audit-value (audited (netOf b) m m′) (audit-refusals m m′));
+      }
+
+  one-again : (out out′ : List ℕ) (n n′ : ℕ) → complementing.told (complementing.complementOf a out) ≡ yields n
+      → complementing.told (complementing.complementOf b out′) ≡ yields n′ → OneNet (asWritten a out n) (asWritten b out′ n′)
+  one-again out out′ n n′ e e′ =
+      let w = written a out (length-accepted (complementing.complementingRefusal a (length out)) _ e) e in
+      let w′ = written b out′ (length-accepted (complementing.complementingRefusal b (length out′)) _ e′) e′ in
+      record { first = w .readsBack; second = w′ .readsBack; net = w .same ∙ ap complement (one .net) ∙ sym (w′ .same) }
+
+  pub texts : (more : List ℕ) → Bytes a → Bytes b → length (a ++ more) ≤ 65536 → length (b ++ more) ≤ 65536 → replayText (b ++ more) ≡ replayText (a ++ more)
+  texts more bytes bytes′ l l′ =
+      text-before b bytes′ (one .second) more l′ ∙ ap (λ read. weightsText read more) net ∙ sym (text-before a bytes (one .first) more l)
+
+  pub reads : (more : List ℕ) → Bytes a → Bytes b → netRefusal (b ++ more) ≡ netRefusal (a ++ more)
+  reads more bytes bytes′ = read-before b bytes′ (one .second) more ∙ sym (read-before a bytes (one .first) more)
+
+  before : (more : List ℕ) → Bytes a → Bytes b → AlikeBefore a b more
+  unfolding stated statedIn
+  before more bytes bytes′ =
+      record {
+        readNet = λ o h. rw (reads more bytes bytes′) h;
+        afterNet = λ o h. h ∙ rest-before a bytes (one .first) more ∙ sym (rest-before b bytes′ (one .second) more);
+        statement = λ out l l′ o h. rw (texts more bytes bytes′ l l′) h;
+      }
+
+  alike : Alike a b
+  unfolding beginRefusal testRefusal testStepRefusal beforeRun runOf visitedBy certifyRefusal figureRefusal changeRefusal excludeRefusal deadRefusal
+  alike =
+      record {
+        wholeNet = λ o h. rw whole h;
+        begin = λ m o h. rw (whole, net) h;
+        test = λ m t o h. rw (whole, net) h;
+        fire = λ m t o h. rw (whole, net) h;
+        testStep = λ m modes o h. rw (whole, net) h;
+        fireStep = λ m modes o h. rw (whole, net) h;
+        run = λ movements m o h. rw (whole, net) h;
+        certify = λ movements m o h. rw (whole, net) h;
+        figure = λ weights m o h. rw (whole, net) h;
+        change = λ weights t o h. rw (whole, net) h;
+        exclude = λ weights m o h. rw (whole, net) h;
+        isDead = λ t o h. rw (whole, net) h;
+        firstDead = λ o h. rw (whole, net) h;
+        size = λ o h. rw (whole, net) h;
+        complement = λ out out′ o o′ f f′ h h′.
+            record {
+              carried = rw (h .0, h′ .0) (complements out out′ f f′);
+              written = λ n n′ e e′. rw (h .1, h′ .1) (one-again out out′ n n′ (rw (h .0) at e) (rw (h′ .0) at e′));
+            };
+        audit = λ m m′ o o′ h h′. rw (h, h′) (audits m m′);
+        before = before;
+      }
+
+pub equal-nets : EqualNets
+equal-nets = alike

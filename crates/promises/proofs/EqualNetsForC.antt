@@ -1,0 +1,49 @@
+-- A call for C tells what the library's call answers.
+use mathlib.Core.Path.{refl}
+use mathlib.Core.Option.{Option, none, some}
+use Rattle.model.specs.Replies.{Reply}
+use Rattle.model.specs.Audit.{Finding}
+use Rattle.fire.specs.Calls.{beginRefusal, testRefusal}
+use Rattle.run.specs.Calls.{beforeRun, runOf, visitedBy, certifyRefusal}
+use Rattle.step.specs.Calls.{testStepRefusal}
+use Rattle.weigh.specs.Calls.{figureRefusal, changeRefusal}
+use Rattle.exclude.specs.Calls.{excludeRefusal}
+use Rattle.dead.specs.IsDead.{deadRefusal}
+use Rattle.statement.specs.Replay.{stated, statedIn}
+use Rattle.answers.specs.declared.Answered.{Answered}
+use Rattle.answers.specs.Told.{telling, valueOr, finding, audited}
+use Rattle.promises.specs.EqualNets.{OffsetAside, AuditsAlike}
+use Rattle.promises.specs.EqualNetsForC.{carriedToC, FindingsAlike, EqualNetsForC}
+use Rattle.promises.proofs.EqualNets.{whole, net, complements, audits, texts, reads}
+
+finding-alike : (x y : Answered) (f : Option Finding) → OffsetAside (carriedToC x) (carriedToC y) → FindingsAlike (finding x f) (finding y f)
+finding-alike x y none h = record { answer = h; found = refl; pair = refl; excess = refl }
+finding-alike x y (some f) h = record { answer = h; found = refl; pair = refl; excess = refl }
+
+audits-told : (r q : Reply (Option Finding)) → AuditsAlike r q → FindingsAlike (audited r) (audited q)
+audits-told r q h = rw (h .value) (finding-alike (telling (r .carried)) (telling (q .carried)) (valueOr none (q .value)) (h .carried))
+
+pub equal-nets-for-c : EqualNetsForC
+unfolding beginRefusal testRefusal testStepRefusal beforeRun runOf visitedBy certifyRefusal figureRefusal changeRefusal excludeRefusal deadRefusal stated statedIn
+equal-nets-for-c a b one =
+    let w = whole a b one in
+    let n = net a b one in
+    record {
+      begin = λ m o h. rw (w, n) h;
+      test = λ m t o h. rw (w, n) h;
+      fire = λ m t o h. rw (w, n) h;
+      testStep = λ m modes o h. rw (w, n) h;
+      fireStep = λ m modes o h. rw (w, n) h;
+      run = λ movements m o h. rw (w, n) h;
+      certify = λ movements m o h. rw (w, n) h;
+      figure = λ weights m o h. rw (w, n) h;
+      change = λ weights t o h. rw (w, n) h;
+      exclude = λ weights m o h. rw (w, n) h;
+      isDead = λ t o h. rw (w, n) h;
+      firstDead = λ o h. rw (w, n) h;
+      size = λ o h. rw (w, n) h;
+      complement = λ out out′ o o′ f f′ h h′. rw (h .0, h′ .0) (complements a b one out out′ f f′);
+      audit = λ m m′ o o′ h h′. rw (h, h′) (audits-told _ _ (audits a b one m m′));
+      readNet = λ more bytes bytes′ o o′ h h′. rw (h, h′, reads a b one more bytes bytes′);
+      statement = λ more bytes bytes′ out l l′ o h. rw (texts a b one more bytes bytes′ l l′) h;
+    }

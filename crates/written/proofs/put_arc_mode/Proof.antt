@@ -1,0 +1,19 @@
+use borrow.Author.Needs.{needs}
+use Rattle.written.specs.Written.{modeBytes}
+use Rattle.written.proofs.Puts.{nothing}
+use Rattle.written.proofs.put_arc_mode.Statement.{statement}
+use Rattle.written.proofs.put_arc_mode.Tie as tie
+
+put16-requires : tie.Need-put16-requires
+put16-requires c κs = rw (c .before .enum-told .given .1) at (c .before .before .before .before .pre)
+
+returns : tie.Need-returns
+unfolding modeBytes
+returns c = rw (c .before .before .before .before .enum-told .given .1) (c .before .before .put16 .ensures)
+
+returns-2 : tie.Need-returns-2
+unfolding modeBytes
+returns-2 c = rw (c .enum-told2 .given .1) nothing
+
+pub put-arc-mode-spec : {M : Type 1} → statement M
+put-arc-mode-spec = tie.close (tie.spec (λ c. search needs) put16-requires (λ c. search needs) (λ c. search needs) returns returns-2)

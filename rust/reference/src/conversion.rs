@@ -1,0 +1,45 @@
+//! "Conversion from 1 to 2 and back, with the old bytes returned exactly."
+
+use crate::answer::Answer;
+use crate::build::{PlainArc, PlainNet};
+use crate::net::Net;
+use crate::net_sheet::whole_net_of;
+use crate::output::written;
+use crate::version::Version;
+
+/// Writes the sheet of version 2 of a net in version 1.
+pub fn to_version_2(net: &[u8], output: &mut [u8]) -> Result<usize, Answer> {
+    converted(net, Version::One, Version::Two, output)
+}
+
+/// Writes the sheet of version 1 of a net in version 2.
+pub fn to_version_1(net: &[u8], output: &mut [u8]) -> Result<usize, Answer> {
+    converted(net, Version::Two, Version::One, output)
+}
+
+/// "A conversion answers 2 to a sheet of its target version and 10 to a short output": any version byte but its
+/// source's is 2.
+fn converted(net: &[u8], from: Version, to: Version, output: &mut [u8]) -> Result<usize, Answer> {
+    let net = whole_net_of(net, &[from])?;
+    written(&plain(&net).sheet_in(to), output)
+}
+
+/// What the sheet says, field by field.
+fn plain(net: &Net) -> PlainNet {
+    PlainNet {
+        colours: net.colours.clone(),
+        modes: net.modes.clone(),
+        pairs: net.capacity.iter().map(|capacity| capacity.field()).zip(net.first.iter().copied()).collect(),
+        arcs: net
+            .arcs
+            .iter()
+            .map(|arc| PlainArc {
+                mode: arc.mode.0,
+                pair: arc.pair.0,
+                pre: arc.flow.pre,
+                post: arc.flow.post,
+                inhibitor: arc.flow.inhibitor.field(),
+            })
+            .collect(),
+    }
+}
