@@ -22,9 +22,16 @@ static unsigned u16(const uint8_t *at)
     return at[0] << 8 | at[1];
 }
 
-/* Finds the arcs: they are the last fields of a net sheet, 16 bytes each, mode and pair first. False where the sheet is refused. */
+/* Finds the arcs: in a net sheet of version 1 they are the last fields, 16 bytes each, mode and pair first; one of version 2 is converted.
+ * False where the sheet is refused. */
 static bool look(struct net *net)
 {
+    uint8_t sheet[PNET_LARGEST_NET];
+    struct pnet_counted converted = pnet_to_version_1(net->bytes, net->length, sheet, sizeof sheet);
+    if (converted.answer.number == 0) {
+        memcpy(net->bytes, sheet, converted.value);
+        net->length = converted.value;
+    }
     struct pnet_sized size = pnet_size(net->bytes, net->length);
     if (size.answer.number != 0)
         return false;

@@ -46,4 +46,6 @@ write(
     weights(WEIGHTS, pairs),
     movements(MOVEMENTS, modes),
 )
+# The same net as it is mailed over a slow link.
+(folder / "mailed.sheet").write_bytes(net(pairs, modes, CAPACITIES_AND_FIRST, arcs, version=2))
 (folder / "retired.sheet").write_bytes(net(pairs, with_retired, CAPACITIES_AND_FIRST, arcs + retired))
