@@ -107,7 +107,6 @@ module _ (net : PNet) (wf : WellFormed net) where
       let most = and-both (leb (length (complement net .colours)) 64 && leb (pairs (complement net)) 256) _ e in
       let two = and-both (leb (length (complement net .colours)) 64) _ (most .0) in
       record {
-        rule = wf .rule;
         somePlace = omega (arith, wf .somePlace, length-append (net .colours) (newPlaces (K net) (net .colours)));
         places =
             record {
