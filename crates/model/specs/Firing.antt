@@ -23,7 +23,7 @@ use Rattle.model.specs.Nets.{NetArc, PNet, pairs, modes, pairNo, K, coun
 abbrev pub after : Entry → ℕ → ℕ
 after e m = m - e .pre + e .post
 
--- What each of 11 to 14 compares at one pair, where the mode has e, the capacity is k and the count m: a number, and the bound that it may not be above.
+-- What each of 11 to 14 compares at one pair, where the mode has e, the capacity is k (or what stands for it, `rooms`) and the count m: a number, and the bound that it may not be above.
 pub record Against : Type 0 where
   pub number : ℕ
   pub bound : ℕ∞

@@ -78,7 +78,7 @@ abbrev pub StepsBack : Type 0
 StepsBack = (net : PNet) → Complementable net → (ts : List Mode) (m m′ : List ℕ) → Corresponds net m m′ → stepRefusal (complement net) ts m′ ≡ none
     → (stepRefusal net ts m ≡ none) × Corresponds net (firedTogether net ts m) (firedTogether (complement net) ts m′)
 
--- "the converse for nets with no finite inhibitor"; "its two statements are kept for rule 0 only", and this one must be: see `swap`
+-- "the converse for nets with no finite inhibitor"; "its two statements are kept for rule 0 only", and this one must be: see `WeakSteps`
 abbrev pub StepsForth : Type 0
 StepsForth = (net : PNet) → net .rule ≡ Strong → Complementable net → ((k : ℕ) → k < length (net .arcs) → arcNo (net .arcs) k .entry .inhibitor ≡ ∞)
     → (ts : List Mode) (m m′ : List ℕ) → Corresponds net m m′ → stepRefusal net ts m ≡ none → stepRefusal (complement net) ts m′ ≡ none
