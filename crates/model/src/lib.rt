@@ -68,6 +68,7 @@ pub enum Fault {
     EndsElsewhere(Pair),
     Unbalanced(Mode),
     EqualFigures,
+    RuleLost,
 }
 
 pub struct Refusal {
