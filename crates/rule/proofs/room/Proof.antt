@@ -4,7 +4,7 @@ use Rattle.rule.proofs.room.Statement.{statement}
 use Rattle.rule.proofs.room.Tie as tie
 
 returns : tie.Need-returns
-returns c = rw (c .before .enum-told .given .1)
+returns c = rw (c .enum-told .given .1)
 
 returns-2 : tie.Need-returns-2
 returns-2 c = rw (c .before .enum-told2 .given .1) (c .with-pre .ensures)
