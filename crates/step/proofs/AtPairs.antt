@@ -38,10 +38,9 @@ module _ {s : List ℕ} {net : NetShape} (o : Open s net) where
   stop-is why r m = rw (sizes o .pairs)
 
   -- the sums at a pair are those of at most 64 arcs
-  pub summed : {r : Row} {p : ℕ} {a : Arc} → Below 64 (pairs (netOf s)) r → p < net .pairs → SumIs r p a
-      → Open s net × (a .pair .0 < net .pairs) × (a .pre ≤ 64 * limit)
+  pub summed : {r : Row} {p : ℕ} {a : Arc} → Below 64 (pairs (netOf s)) r → p < net .pairs → SumIs r p a → (a .pair .0 < net .pairs) × (a .pre ≤ 64 * limit)
   summed {p = p} below h sum =
-      (o, omega (arith, ap (λ x. x .0) (sum .pair)), omega (arith, below .each p (rw (sizes o .pairs) at h), ap (λ e. e .pre) (sum .entry)))
+      (omega (arith, ap (λ x. x .0) (sum .pair)), omega (arith, below .each p (rw (sizes o .pairs) at h), ap (λ e. e .pre) (sum .entry)))
 
   module _ {m : List ℕ} (marking : Marking (netOf s) m) {r : Row} {p : ℕ} {a : Arc} where
     -- Post of the sums and the count stay in 32 bits

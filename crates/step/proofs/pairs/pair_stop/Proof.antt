@@ -12,7 +12,7 @@ sum-at-requires c κs = omega (arith, sizes (c .before .before .pre .0) .pairsWi
 room-at-requires : tie.Need-room-at-requires
 room-at-requires c κs =
     let start = c .before .before .before .before in
-    summed (start .pre .0) (start .pre .1 .1 .0) (start .pre .1 .1 .1) (c .before .sum-at .ensures)
+    (start .pre .0, summed (start .pre .0) (start .pre .1 .1 .0) (start .pre .1 .1 .1) (c .before .sum-at .ensures))
 
 mul-t14 : tie.Need-mul-t14
 mul-t14 c = omega (arith, sizes (c .before .before .before .before .before .pre .0) .pairsWithin)
