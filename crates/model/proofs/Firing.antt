@@ -30,7 +30,7 @@ use Rattle.model.proofs.Numbers.{above-true, true-above, not-above, le-
 use Rattle.model.proofs.Decisions.{by-less, by-at-most, by-equal, by-above, by-not}
 use Rattle.model.proofs.RefusalTables.{reads-plain, reads-then, reads-each, four}
 
--- one of 11 to 14 at one pair, where the mode has e, the capacity is k and the count m
+-- one of 11 to 14 at one pair, where the mode has e, 12 compares with k and the count is m
 abbrev pub Stops : Why → Entry → ℕ∞ → ℕ → Type 0
 Stops why e k m = Above (compared why e k m .number) (compared why e k m .bound)
 
@@ -158,7 +158,7 @@ pub mode-missing : (about : Thing) (n : ℕ) (t : Mode) → n ≤ t .0 → absen
 mode-missing about n t h = rw (le-leb n (t .0) h)
 
 module _ (about : Thing) (net : PNet) (t : Mode) (m : List ℕ) where
-  pub there : t .0 < modes net → modeRefusal about net t m ≡ rowRefusal about (pairs net) (K net) (row net t) (count m)
+  pub there : t .0 < modes net → modeRefusal about net t m ≡ rowRefusal about (pairs net) (rooms net (row net t)) (row net t) (count m)
   unfolding modeRefusal
   there h = none-then (mode-there about (modes net) t h) refl
 
@@ -181,10 +181,10 @@ missing-reads about net t = reads-plain _ (by-at-most (modes net) (t .0))
 
 module _ (about : Thing) (net : PNet) (t : Mode) (m : List ℕ) where
   stop-reads : (why : Why)
-      → Reads (each (pairs net) (λ p. tableRow (Stops why (row net t p) (K net p) (count m p)) (carried (Refused (stop about (pairs net) (K net) (row net t) (count m) why p)))))
-      (lowestStop about (pairs net) (K net) (row net t) (count m) why)
+      → Reads (each (pairs net) (λ p. tableRow (Stops why (row net t p) (rooms net (row net t) p) (count m p)) (carried (Refused (stop about (pairs net) (rooms net (row net t)) (row net t) (count m) why p)))))
+      (lowestStop about (pairs net) (rooms net (row net t)) (row net t) (count m) why)
   stop-reads why =
-      reads-each (pairs net) (λ p l. let c = compared why (row net t p) (K net p) (count m p) in reads-plain _ (by-above (c .number) (c .bound)))
+      reads-each (pairs net) (λ p l. let c = compared why (row net t p) (rooms net (row net t) p) (count m p) in reads-plain _ (by-above (c .number) (c .bound)))
 
   mode-reads : Reads (modeTable (thingNumber about) net t m) (modeRefusal about net t m)
   unfolding modeRefusal rowRefusal ruleRefusal
@@ -209,7 +209,7 @@ module _ (about : Thing) (net : PNet) (t : Mode) (m : List ℕ) (e : modeRefusal
   unfolding modeRefusal
   accepted-passes = row-passes about (pairs net) _ (row net t) (count m) .0 (right-none _ _ e)
 
-  pub accepted-allows : Enables (pairs net) (K net) (row net t) (count m)
+  pub accepted-allows : Enables (pairs net) (rooms net (row net t)) (row net t) (count m)
   accepted-allows = passes-enables accepted-passes
 
   pub accepted-enough : (p : ℕ) → p < pairs net → row net t p .pre ≤ count m p
