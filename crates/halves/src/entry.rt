@@ -17,7 +17,7 @@ ghost use Rattle.halves.specs.Entries.{Small, complementAt};
 fn less(a: u32, b: u32) -> u32
     ensures { λ r. ⌜ r ≡ a - b ⌝ }
 {
-    if a <= b {
+    if a < b {
         return 0;
     }
     a - b
