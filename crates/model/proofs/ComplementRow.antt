@@ -54,10 +54,7 @@ above-either (suc a) b = rw (lt-ltb 0 (suc a) (omega arith)) (lt-ltb 0 (max (suc
 
 -- it lacks the larger of the two amounts
 pub lacks-by : (rule : CapacityRule) (k m m′ : ℕ) (e : Entry) → m + m′ ≡ k → complementPre rule k e - m′ ≡ crowdedBy e (roomFor rule (fin k) (e .pre)) m
-lacks-by rule k m m′ e s = apart (claim rule e) (reserve k (e .inhibitor)) m′ _ _ (crowds rule k m m′ e s) (reserves k m m′ (e .inhibitor) s)
-  where
-    apart : (a b c x y : ℕ) → a - c ≡ x → b - c ≡ y → max a b - c ≡ max x y
-    apart a b c x y f g = omega arith
+lacks-by rule k m m′ e s = omega (arith, crowds rule k m m′ e s, reserves k m m′ (e .inhibitor) s)
 
 pub lacks-crowded : (rule : CapacityRule) (k m m′ : ℕ) (e : Entry) → m + m′ ≡ k
     → above (complementPre rule k e) (fin m′) ≡ crowded e (roomFor rule (fin k) (e .pre)) m

@@ -18,7 +18,7 @@ use Rattle.model.specs.Dead.{isDead}
 use Rattle.model.specs.Complement.{complementPair, complementRow, allPairs, complement, refusal15, Corresponds}
 use Rattle.model.specs.DemandThree.{becomes}
 use Rattle.model.proofs.First.{below-or, first-ext}
-use Rattle.model.proofs.Firing.{there, missing, accepted-there, accepted-allows, accepted-enough}
+use Rattle.model.proofs.Firing.{passes-conditions, there, missing, accepted-there, accepted-passes, accepted-enough}
 use Rattle.model.proofs.Markings.{fired-at, fired-length}
 use Rattle.model.proofs.Bounded.{bounded-number}
 use Rattle.model.proofs.ComplementRow.{sum-kept, row-original, row-complement}
@@ -95,7 +95,7 @@ module _ (net : PNet) (wf : WellFormed net) (offset : ℕ → ℕ) (no15 : refus
           let q = complementPair (pairs net) (K net) p in
           let l : q < allPairs net = omega (arith, bounded-number (K net) (pairs net) p k h f) in
           let g = row-complement (net .rule) (isDead net t) (pairs net) (K net) (row net t) p k h f in
-          rw (fired-at net t m p h, count-after q l g, enabled-live net t (count m) (λ _. corresponds-within net m m′ c) (accepted-allows thing net t m e))
+          rw (fired-at net t m p h, count-after q l g, enabled-live net t (count m) (λ _. corresponds-within net m m′ c) (passes-conditions (accepted-passes thing net t m e)))
           (sum-kept (net .rule) k (count m p) (count m′ q) (row net t p) (c .addUp p k h f) (accepted-enough thing net t m e p h)
           (rw (reads l g) at (accepted-enough thing (complement net) t m′ accepts q (inside l))))
 

@@ -20,7 +20,6 @@ use Rattle.model.specs.First.{_▸_, lowest}
 use Rattle.model.specs.Refusals.{line, number, answer}
 use Rattle.model.specs.Numbers.{ℕ∞, ∞, Above, leastOf}
 use Rattle.model.specs.Rows.{Entry, Row, Capacities, Counts}
-use Rattle.model.specs.Billington.{Enables}
 use Rattle.model.specs.Nets.{PNet, pairs, modes, modeNo, K, count, row}
 use Rattle.model.specs.Firing.{stops, stoppedBy, stopped, lowestStop, rooms, modeRefusal}
 use Rattle.model.specs.Dead.{preRoom, Kills, isDead, firstDead}
@@ -28,7 +27,7 @@ use Rattle.model.specs.Complement.{complementPair, complement, refusal15
 use Rattle.model.specs.DemandThree.{Complementable, crowded, crowdedBy, lowestCrowded}
 use Rattle.model.specs.DeadComplement.{Never16, DeadInComplement}
 use Rattle.model.proofs.First.{left-none, none-then, first-found, only-if-some}
-use Rattle.model.proofs.Firing.{rule}
+use Rattle.model.proofs.Firing.{Conditions, row-conditions}
 use Rattle.model.proofs.Dead.{dead-modes, none-dead}
 use Rattle.model.proofs.Possible.{enabled-live}
 use Rattle.model.proofs.ComplementStep.{answerInComplement}
@@ -90,12 +89,12 @@ first-by (some r) b n e = e
 
 module _ (about : Thing) (n : ℕ) (c k : Capacities) (r : Row) (M : Counts) where
   -- what is not enabled in the net lacks something in the complement
-  lacks : ¬ Enables n k r M → number (answer (answerInComplement about n c k r M)) ≡ 11
+  lacks : ¬ Conditions n k r M → number (answer (answerInComplement about n c k r M)) ≡ 11
   lacks never =
       ⊎-elim
       (λ l.
       ap (λ o. number (answer o)) (none-then l refl)
-      ∙ ⊎-elim (λ no. absurd (never (rule about n k r M .0 (uncrowded about n c k r M l no)))) (first-by (lowestCrowded about n c k r M) _ 10)
+      ∙ ⊎-elim (λ no. absurd (never (row-conditions about n k r M .0 (uncrowded about n c k r M l no)))) (first-by (lowestCrowded about n c k r M) _ 10)
       (by-11 n (λ p. crowded (r p) (k p) (M p)) (λ p. stopped about Lacking (complementPair n c p) (crowdedBy (r p) (k p) (M p))) (λ p. refl)))
       (first-by (lowestStop about n k r M Lacking) _ 10)
       (by-11 n (λ p. stops Lacking (r p) (k p) (M p)) (λ p. stopped about Lacking p (stoppedBy Lacking (r p) (k p) (M p))) (λ p. refl))

@@ -11,7 +11,6 @@ use borrow.Author.Tests.{eqb-true, eq-eqb, not-false}
 use Rattle.model.specs.declared.Mode.{Mode}
 use Rattle.model.specs.Numbers.{fin, limit}
 use Rattle.model.specs.Rows.{noArc, Row}
-use Rattle.model.specs.Billington.{Enables}
 use Rattle.model.specs.Allows.{Allows}
 use Rattle.model.specs.Nets.{PNet, pairs, K, count, row}
 use Rattle.model.specs.Markings.{markingRefusal, Marking}
@@ -22,7 +21,7 @@ use Rattle.model.proofs.Numbers.{above-false, false-above, le-le∞}
 use Rattle.model.proofs.Rooms.{within-room, kept-within, allows-is}
 use Rattle.model.proofs.Nets.{entry-unwritten}
 use Rattle.model.proofs.Tables.{table-length, table-at}
-use Rattle.model.proofs.Firing.{enables-passes, accepted-there, accepted-passes, accepted-allows, accepted-enough, passes-accepted}
+use Rattle.model.proofs.Firing.{Conditions, passes-conditions, conditions-pass, accepted-there, accepted-passes, accepted-enough, passes-accepted}
 
 accepted-marking : (net : PNet) (m : List ℕ) → markingRefusal net m ≡ none → Marking net m
 unfolding markingRefusal
@@ -66,11 +65,11 @@ marking-after about net t m e = (λ p h. rw (fired-at net t m p h) (omega (arith
 
 pub mode-rule : ModeRule
 mode-rule about net t m = (
-  λ e. (accepted-there about net t m e, is .0 (accepted-allows about net t m e), λ p h. rw (fired-at net t m p h) (accepted-passes about net t m e .small p h)),
-  λ r. passes-accepted about net t m (r .0) (enables-passes (is .1 (r .1)) (λ p h. rw (fired-at net t m p h) at (r .2 p h))),
+  λ e. (accepted-there about net t m e, is .0 (passes-conditions (accepted-passes about net t m e)), λ p h. rw (fired-at net t m p h) (accepted-passes about net t m e .small p h)),
+  λ r. passes-accepted about net t m (r .0) (conditions-pass (is .1 (r .1)) (λ p h. rw (fired-at net t m p h) at (r .2 p h))),
 )
   where
-    is : Enables (pairs net) (rooms net (row net t)) (row net t) (count m) ↔ Allows (net .rule) (pairs net) (K net) (row net t) (count m)
+    is : Conditions (pairs net) (rooms net (row net t)) (row net t) (count m) ↔ Allows (net .rule) (pairs net) (K net) (row net t) (count m)
     is = allows-is (net .rule) (pairs net) (K net) (row net t) (count m)
 
 pub marking-kept : MarkingKept

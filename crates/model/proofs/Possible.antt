@@ -10,7 +10,6 @@ use Rattle.model.specs.declared.CapacityRule.the-variants.{Strong, Weak}
 use Rattle.model.specs.declared.Mode.{Mode}
 use Rattle.model.specs.Numbers.{ℕ∞, fin, ∞, _≤∞_}
 use Rattle.model.specs.Rows.{Entry, Row, Counts}
-use Rattle.model.specs.Billington.{Enables}
 use Rattle.model.specs.Allows.{Allows}
 use Rattle.model.specs.Nets.{PNet, pairs, K, count, row}
 use Rattle.model.specs.WellFormed.{WellFormed}
@@ -19,10 +18,10 @@ use Rattle.model.specs.Firing.{roomFor, rooms}
 use Rattle.model.specs.Dead.{preRoom, highestPre, Kills, isDead, lowestMarking}
 use Rattle.model.specs.Complement.{reserve, claim, complementPre, complementPost}
 use Rattle.model.specs.Promises.{DeadExactly, DeadOrLive}
-use Rattle.model.proofs.Numbers.{le-not-above, not-above, le-le∞, le-as, below-least-of, room-le}
+use Rattle.model.proofs.Numbers.{le-not-above, not-above, le-le∞, below-least-of}
 use Rattle.model.proofs.Rooms.{room-within, allows-is}
 use Rattle.model.proofs.Tables.{table-at, table-length}
-use Rattle.model.proofs.Firing.{Passes, passes-enables, passes-accepted}
+use Rattle.model.proofs.Firing.{Conditions, Passes, passes-conditions, passes-accepted}
 use Rattle.model.proofs.ComplementNet.{row-small}
 use Rattle.model.proofs.ComplementRow.{reserve-is}
 use Rattle.model.proofs.Dead.{dead-modes}
@@ -33,17 +32,23 @@ pub record Lives (rule : CapacityRule) (e : Entry) (k : ℕ∞) : Type 0 where
   pub room : e .pre + e .post ≤∞ roomFor rule k (e .pre)
   pub low : e .pre ≤∞ e .inhibitor
 
+-- what an arc has at a pair, by its three numbers
+abbrev entry : ℕ → ℕ → ℕ∞ → Entry
+entry pre post i = record { pre = pre; post = post; inhibitor = i }
+
 lives : (rule : CapacityRule) (e : Entry) (k : ℕ∞) → ¬ Kills rule e k → Lives rule e k
 lives rule e k h =
-    let least = below-least-of (e .pre) (preRoom rule e k) (e .inhibitor) .0 (le-not-above (e .pre) (highestPre rule e k) (λ a. h (inl a))) in
-    let both = fits rule k (least .0) (le-not-above (e .post) k (λ a. h (inr a))) in
-    record { within = both .0; room = both .1; low = least .1 }
+    fits rule (e .pre) (e .post) k (e .inhibitor) (le-not-above (e .pre) (highestPre rule e k) (λ a. h (inl a))) (le-not-above (e .post) k (λ a. h (inr a)))
   where
-    fits : (rule : CapacityRule) (k : ℕ∞) → e .pre ≤∞ preRoom rule e k → e .post ≤∞ k → (e .pre ≤∞ k) × (e .pre + e .post ≤∞ roomFor rule k (e .pre))
-    fits Strong (fin k) a b = omega arith
-    fits Strong ∞ a b = (tt, tt)
-    fits Weak (fin k) a b = omega arith
-    fits Weak ∞ a b = (tt, tt)
+    fits : (rule : CapacityRule) (pre post : ℕ) (k i : ℕ∞) → pre ≤∞ highestPre rule (entry pre post i) k → post ≤∞ k → Lives rule (entry pre post i) k
+    fits Strong pre post (fin k) (fin i) a b = record { within = omega arith; room = omega arith; low = omega arith }
+    fits Strong pre post (fin k) ∞ a b = record { within = omega arith; room = omega arith; low = tt }
+    fits Weak pre post (fin k) (fin i) a b = record { within = omega arith; room = omega arith; low = omega arith }
+    fits Weak pre post (fin k) ∞ a b = record { within = omega arith; room = omega arith; low = tt }
+    fits Strong pre post ∞ (fin i) a b = record { within = tt; room = tt; low = a }
+    fits Strong pre post ∞ ∞ a b = record { within = tt; room = tt; low = tt }
+    fits Weak pre post ∞ (fin i) a b = record { within = tt; room = tt; low = a }
+    fits Weak pre post ∞ ∞ a b = record { within = tt; room = tt; low = tt }
 
 -- at the complement of such a pair both numbers are within K
 pub lives-beside : (rule : CapacityRule) (k : ℕ) (e : Entry) → Lives rule e (fin k) → (complementPre rule k e ≤ k) × (complementPost rule false k e ≤ k)
@@ -72,7 +77,7 @@ kills-stops rule e k m pre post dead a b within enough room low =
     go Weak (fin k) within room = omega arith
     go Weak ∞ within room = (tt, tt)
 
--- a row passes at counts that are within K by the weak rule; by document 01's they are within K where it passes
+-- a row has what it takes and room for what it puts, at counts that are within K; by document 01's rule they are
 pub record Fits (net : PNet) (r : Row) (M : Counts) : Type 0 where
   pub within : net .rule ≡ Weak → (p : ℕ) → p < pairs net → M p ≤∞ K net p
   pub enough : (p : ℕ) → p < pairs net → r p .pre ≤ M p
@@ -96,15 +101,8 @@ module _ (net : PNet) (t : Mode) where
 
   -- so what some counts enable is not dead
   pub enabled-live : (M : Counts) → (net .rule ≡ Weak → (p : ℕ) → p < pairs net → M p ≤∞ K net p)
-      → Enables (pairs net) (rooms net (row net t)) (row net t) M → isDead net t ≡ false
-  enabled-live M within h =
-      fits-live (row net t) M
-      (record {
-        within = within;
-        enough = h .enough;
-        room = λ p l. room-le (M p) (row net t p .post) (rooms net (row net t) p) (omega arith) (omega arith) (h .room p l);
-      })
-      (λ p. omega arith) (λ p l. le-as (row net t p .inhibitor) (omega arith) (h .uninhibited p l))
+      → Conditions (pairs net) (rooms net (row net t)) (row net t) M → isDead net t ≡ false
+  enabled-live M within h = fits-live (row net t) M (record { within = within; enough = h .enough; room = h .room }) (λ p. omega arith) (h .low)
 
   pub lives-at : isDead net t ≡ false → (p : ℕ) → p < pairs net → Lives (net .rule) (row net t p) (K net p)
   lives-at alive p h = lives (net .rule) (row net t p) (K net p) (λ k. true≢false (sym (dead-modes net t .1 (p, h, k)) ∙ alive))
@@ -142,4 +140,4 @@ dead-exactly net wf t = (λ d m h. dead-or-live net wf t .dead d (count m) (λ e
   where
     go : (b : Bool) → isDead net t ≡ b → ((m : List ℕ) → Marking net m → ¬ Allows (net .rule) (pairs net) (K net) (row net t) (count m)) → isDead net t ≡ true
     go true e nowhere = e
-    go false e nowhere = absurd (nowhere (lowestMarking net t) (low-marking net t wf e) (allows-is (net .rule) (pairs net) (K net) (row net t) (count (lowestMarking net t)) .0 (passes-enables (low-passes net t wf e))))
+    go false e nowhere = absurd (nowhere (lowestMarking net t) (low-marking net t wf e) (allows-is (net .rule) (pairs net) (K net) (row net t) (count (lowestMarking net t)) .0 (passes-conditions (low-passes net t wf e))))

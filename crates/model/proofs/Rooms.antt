@@ -5,12 +5,12 @@ use mathlib.Core.Logic.{_↔_}
 use native.Mathlib.Omega.{arith}
 use Rattle.model.specs.declared.CapacityRule.{CapacityRule}
 use Rattle.model.specs.declared.CapacityRule.the-variants.{Strong, Weak}
-use Rattle.model.specs.Numbers.{ℕ∞, fin, ∞, _≤∞_, _+∞_}
+use Rattle.model.specs.Numbers.{ℕ∞, fin, ∞, _≤∞_}
 use Rattle.model.specs.Rows.{Entry, Row, Capacities, Counts}
-use Rattle.model.specs.Billington.{Enables}
 use Rattle.model.specs.Allows.{Allows}
 use Rattle.model.specs.Firing.{after, roomFor}
-use Rattle.model.proofs.Numbers.{le-le∞, le-as, le-room, room-le}
+use Rattle.model.proofs.Numbers.{le-le∞}
+use Rattle.model.proofs.Firing.{Conditions, conditions-enable, enables-conditions}
 
 pub within-room : (rule : CapacityRule) (k : ℕ∞) (pre m : ℕ) → m ≤∞ k → m ≤∞ roomFor rule k pre
 within-room Strong k pre m h = h
@@ -33,20 +33,10 @@ kept-within Strong ∞ e m h l = tt
 kept-within Weak (fin k) e m h l = omega arith
 kept-within Weak ∞ e m h l = tt
 
--- a rule allows what source document 000 enables with this room for a capacity
-pub allows-is : (rule : CapacityRule) (n : ℕ) (K : Capacities) (r : Row) (M : Counts) → Enables n (λ p. roomFor rule (K p) (r p .pre)) r M ↔ Allows rule n K r M
-allows-is Strong n K r M = (λ h. h, λ h. h)
+-- what a rule allows is the three conditions with its room
+pub allows-is : (rule : CapacityRule) (n : ℕ) (K : Capacities) (r : Row) (M : Counts) → Conditions n (λ p. roomFor rule (K p) (r p .pre)) r M ↔ Allows rule n K r M
+allows-is Strong n K r M = (conditions-enable, enables-conditions)
 allows-is Weak n K r M = (
-  λ h.
-      record {
-        enough = h .enough;
-        room = λ p l. room-le (M p) (r p .post) (K p +∞ r p .pre) (omega arith) (omega arith) (h .room p l);
-        uninhibited = λ p l. le-as (r p .inhibitor) (omega arith) (h .uninhibited p l);
-      },
-  λ h.
-      record {
-        enough = h .enough;
-        room = λ p l. le-room (M p) (r p .post) (K p +∞ r p .pre) (omega arith) (omega arith) (h .room p l);
-        uninhibited = λ p l. le-as (r p .inhibitor) (omega arith) (h .uninhibited p l);
-      },
+  λ h. record { enough = h .enough; room = h .room; uninhibited = h .low },
+  λ h. record { enough = h .enough; room = h .room; low = h .uninhibited },
 )
