@@ -79,7 +79,20 @@ fn highest_pre(room: u32, inhibitor: u32) -> u32
     least(room, inhibitor)
 }
 
-// "Pre is above the least .., or Post is above K", of an arc at its pair.
+// "Pre is above the least .., or Post is above K", by a rule, of an arc at a pair of this K.
+fn kills_by(rule: CapacityRule, most: u32, arc: Arc) -> bool
+    ensures { λ r. ⌜ r ≡ killsHere rule (netArc arc .entry) (bound most) ⌝ }
+{
+    if above_bound(
+        arc.pre,
+        highest_pre(pre_room(rule, most, arc), arc.inhibitor),
+    ) {
+        return true;
+    }
+    above_bound(arc.post, most)
+}
+
+// An arc that spares its mode by document 01's rule spares it by the weak one: the net's own rule is asked of the others alone.
 fn kills(s: &[u8], net: NetShape, arc: Arc) -> bool
     requires { ⌜ Open (now s) net ⌝ }
     requires { ⌜ arc .pair .0 < net .pairs ⌝ }
@@ -88,13 +101,10 @@ fn kills(s: &[u8], net: NetShape, arc: Arc) -> bool
     let rule = net.rule;
     let pair = arc.pair;
     let most = capacity(s, net, pair);
-    if above_bound(
-        arc.pre,
-        highest_pre(pre_room(rule, most, arc), arc.inhibitor),
-    ) {
-        return true;
+    if !kills_by(CapacityRule::Strong, most, arc) {
+        return false;
     }
-    above_bound(arc.post, most)
+    kills_by(rule, most, arc)
 }
 
 // Dead by the arcs of a mode: looked for there alone, since nothing is above a bound where there is none.
