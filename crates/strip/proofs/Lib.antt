@@ -1,0 +1,4 @@
+pub mod Arcs
+pub mod StripWellFormed
+pub mod Parts
+pub mod Answers

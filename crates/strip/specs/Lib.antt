@@ -1,0 +1,4 @@
+pub mod Strip
+pub mod Stripped
+pub mod Contracts
+pub mod Parts
