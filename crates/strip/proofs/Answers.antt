@@ -1,13 +1,13 @@
 -- The order of the refusals, and what the call leaves.
-use Prim.Native.Nat.{ℕ, _≤_, _<_}
+use Prim.Native.Nat.{ℕ, _+_, _≤_, _<_}
 use mathlib.Core.Path.{_≡_, refl, sym, _∙_, ap}
-use mathlib.Core.Bool.{Bool, true, false, cond, not, false≢true}
+use mathlib.Core.Bool.{Bool, true, false, cond, not, _&&_, false≢true}
 use mathlib.Core.List.{List}
 use mathlib.Core.Option.{Option, none, some}
-use lib.Dec.{eqb, ltb}
+use lib.Dec.{eqb, leb, ltb}
 use lib.ListN.{length}
 use native.Mathlib.Omega.{arith}
-use borrow.Author.Tests.{ltb-false, leb-false, le-leb, lt-leb, not-false}
+use borrow.Author.Tests.{ltb-false, leb-true, leb-false, le-leb, lt-leb, not-false}
 use Rattle.model.specs.declared.Pair.{Pair}
 use Rattle.model.specs.declared.Thing.the-variants.{Net, Argument}
 use Rattle.model.specs.declared.Fault.the-variants.{NotThere, InhibitedUnbounded, NoRoom}
@@ -19,6 +19,7 @@ use Rattle.model.specs.Numbers.{ℕ∞, fin, ∞}
 use Rattle.model.specs.Nets.{pairs, K}
 use Rattle.model.specs.Complement.{finite}
 use Rattle.model.specs.Refusals.{answer, wrong}
+use Rattle.model.proofs.Both.{and-both}
 use Rattle.model.proofs.First.{then-under, left-none, right-none, only-if-none, some-then, none-then}
 use Rattle.fields.specs.Numbers.{bound, unbounded}
 use Rattle.sheets.specs.Decoded.{netOf}
@@ -30,9 +31,9 @@ use Rattle.written.proofs.Puts.{from-start}
 use Rattle.strip.specs.declared.Stripped.the-variants.{Length, Refused}
 use Rattle.strip.specs.Strip.{stripLimits, stripRefusal}
 use Rattle.strip.specs.Stripped.{strippedSheet, tooShort, roomRefusal, stripped, output}
-use Rattle.strip.specs.Parts.{inLimits, sizesRefusal, Strips}
+use Rattle.strip.specs.Parts.{inLimits, Numbers, newSize, sizesRefusal, Strips}
 use Rattle.strip.proofs.StripWellFormed.{few, well-formed-strip}
-use Rattle.strip.proofs.Parts.{transitions-are, modes-are, arcs-are, newSize, size-is, sheet-is}
+use Rattle.strip.proofs.Parts.{transitions-are, modes-are, arcs-are, size-is, sheet-is}
 
 -- a K that is a number is the number that the sheet writes
 finite-number : (x : ℕ) → finite (bound x) ≡ true → bound x ≡ fin x
@@ -42,6 +43,20 @@ finite-number x h = go (eqb x unbounded) h
     go : (t : Bool) → finite (cond t ∞ (fin x)) ≡ true → cond t ∞ (fin x) ≡ fin x
     go true h = absurd (false≢true h)
     go false h = refl
+
+pub numbers-of : (net : NetShape) (k : ℕ) → net .places ≤ 64 → net .pairs ≤ 256 → inLimits net k ≡ true → Numbers net k
+numbers-of net k places pairs e =
+    let three = and-both (leb k 63 && leb (net .transitions + 1) 64 && leb (net .modes + (k + 1)) 256) _ e in
+    let two = and-both (leb k 63 && leb (net .transitions + 1) 64) _ (three .0) in
+    let one = and-both (leb k 63) _ (two .0) in
+    record {
+      deep = leb-true k 63 (one .0);
+      places = places;
+      transitions = leb-true (net .transitions + 1) 64 (one .1);
+      pairs = pairs;
+      modes = leb-true (net .modes + (k + 1)) 256 (two .1);
+      arcs = leb-true (net .arcs + (k + 1)) 2048 (three .1);
+    }
 
 module _ {s : List ℕ} {net : NetShape} (o : Open s net) (p : Pair) where
   limits-are : (k : ℕ) → inLimits net k ≡ stripLimits (netOf s) p k

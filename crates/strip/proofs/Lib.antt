@@ -2,3 +2,6 @@ pub mod Arcs
 pub mod StripWellFormed
 pub mod Parts
 pub mod Answers
+pub mod OldModes
+pub mod Bare
+pub mod Promises

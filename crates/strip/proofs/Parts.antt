@@ -10,7 +10,7 @@ use Rattle.model.specs.declared.Pair.{Pair}
 use Rattle.model.specs.declared.Version.{Version}
 use Rattle.model.specs.Lists.{joined}
 use Rattle.model.specs.Numbers.{fin}
-use Rattle.model.specs.Nets.{PNet, pairs, modes, K}
+use Rattle.model.specs.Nets.{NetArc, PNet, pairs, modes, modeNo, K}
 use Rattle.model.specs.WellFormed.{WellFormed}
 use Rattle.model.proofs.First.{left-none, right-none, only-if-none}
 use Rattle.model.proofs.Joined.{joined-ext, joined-split}
@@ -21,20 +21,22 @@ use Rattle.sheets.specs.Decoded.{netOf}
 use Rattle.opened.specs.declared.shape.NetShape.{NetShape}
 use Rattle.opened.specs.Shape.{Open}
 use Rattle.opened.proofs.Shapes.{shaped, sizes}
-use Rattle.written.specs.Written.{bytes16, headBytes, pairsBytes, totalBytes, groupBytes, ofMode, sectionBytes, fieldsOf, lengthOf, sheetOf}
-use Rattle.written.specs.Puts.{partOf, sheetSize}
+use Rattle.written.specs.Written.{bytes16, headBytes, arcBytes, pairsBytes, totalBytes, ownBytes, groupBytes, ofMode, sectionBytes, fieldsOf, lengthOf, sheetOf}
+use Rattle.written.specs.Puts.{Room, partOf, modeSize, ownSize}
 use Rattle.written.proofs.Stands.{InTurn, stands-both, in-turn, moved}
 use Rattle.written.proofs.BigEndian.{length16}
 use Rattle.written.proofs.Sections.{section-append, section-one}
+use Rattle.written.proofs.Records.{arc-length}
+use Rattle.written.proofs.Versions.{own-length}
 use Rattle.written.proofs.SheetLength.{counts-section, pairs-section, section-by-mode, sheet-length, sheet-size, sheet-least, sheet-most}
 use Rattle.written.proofs.ByMode.{by-mode}
 use Rattle.written.proofs.NetStands.{fields-stand}
 use Rattle.convert.specs.Parts.{modeGroup}
 use Rattle.convert.proofs.Segments.{part-is}
 use Rattle.convert.proofs.Parts.{common-there, rule-is}
-use Rattle.strip.specs.Strip.{strip, boundOf, stripLimits, stripRefusal}
+use Rattle.strip.specs.Strip.{stripEntry, strip, boundOf, stripLimits, stripRefusal}
 use Rattle.strip.specs.Stripped.{strippedSheet}
-use Rattle.strip.specs.Parts.{countsBytes, numbersBytes, recordsBytes, newGroup, Strips}
+use Rattle.strip.specs.Parts.{countsBytes, numbersBytes, recordsBytes, newGroup, Numbers, newSize, Strips}
 use Rattle.strip.proofs.Arcs.{transitions-many, modes-many, arcs-many, old-of, new-of}
 use Rattle.strip.proofs.StripWellFormed.{Few, few, well-formed-strip}
 
@@ -66,6 +68,17 @@ module _ (v : Version) (net : PNet) (p : Pair) (k : ℕ) where
       ∙ joined-split (modes net) (k + 1) groups
       ∙ ap₂ _++_ (joined-ext (modes net) _ _ (λ t l. ap (groupBytes v) (old-of net p k t l))) (joined-ext (k + 1) _ _ (λ n l. ap (groupBytes v) (new-of net p k well n (omega arith)))))
 
+-- room for a new mode's arc, as its put asks for it
+module _ (v : Version) (before : ℕ) (p : Pair) (n : ℕ) where
+  group-length : length (newGroup v before p n) ≡ ownSize v + (modeSize v + 14)
+  unfolding newGroup
+  group-length =
+      let a : NetArc = record { mode = modeNo (before + n); pair = p; entry = stripEntry n } in
+      omega (arith, length-append (ownBytes v 1) (flatMap (arcBytes v) (a ∷ [])), own-length v 1, ap length (section-one (arcBytes v) a), arc-length v a)
+
+  pub group-fits : {out : List ℕ} {at : ℕ} → Room out at (newGroup v before p n) → at + (ownSize v + (modeSize v + 14)) ≤ length out
+  group-fits h = omega (arith, h .fits, group-length)
+
 -- what stands in the sheet that was read
 module _ {s : List ℕ} {net : NetShape} (o : Open s net) where
   numbers-length : length (numbersBytes (netOf s)) ≡ 2 * net .places + 2 * net .transitions
@@ -96,20 +109,8 @@ module _ {s : List ℕ} {net : NetShape} (o : Open s net) where
         let at : fieldsAt s + 4 + (2 * net .places + 2 * net .transitions) ≡ fieldsAt s + length (bytes16 (length colours)) + length (bytes16 (length modesOf)) + length (flatMap bytes16 colours) + length (flatMap bytes16 modesOf) = omega (arith, length16 (length colours), length16 (length modesOf), counts-section colours, counts-section modesOf, z .places, z .transitions) in
         part-is (moved (fieldsAt s + 4 + (2 * net .places + 2 * net .transitions)) at (fields .1 .1 .1 .1 .0)) (8 * net .pairs) (omega (arith, pairs-section (netOf s), z .pairs))
 
--- the numbers that the new sheet has
-pub record Numbers (net : NetShape) (k : ℕ) : Type 0 where
-  pub deep : k ≤ 63
-  pub places : net .places ≤ 64
-  pub transitions : net .transitions + 1 ≤ 64
-  pub pairs : net .pairs ≤ 256
-  pub modes : net .modes + (k + 1) ≤ 256
-  pub arcs : net .arcs + (k + 1) ≤ 2048
-
-abbrev pub newSize : NetShape → ℕ → ℕ
-newSize net k = sheetSize (net .version) (net .places) (net .transitions + 1) (net .pairs) (net .modes + (k + 1)) (net .arcs + (k + 1))
-
 module _ {s : List ℕ} {net : NetShape} (o : Open s net) (p : Pair) (k : ℕ) where
-  places-are : net .places ≡ length (strip (netOf s) p k .colours)
+  pub places-are : net .places ≡ length (strip (netOf s) p k .colours)
   unfolding strip
   places-are = sizes o .places
 

@@ -2,3 +2,4 @@ pub mod Strip
 pub mod Stripped
 pub mod Contracts
 pub mod Parts
+pub mod Promises

@@ -1,6 +1,6 @@
 -- The sheet of a net with a transition appended, in three parts: head and counts, what each place, transition and pair has, and the arcs.
 -- A reader of the promises may skip this file.
-use Prim.Native.Nat.{ℕ, _+_}
+use Prim.Native.Nat.{ℕ, _+_, _≤_}
 use mathlib.Core.Path.{_≡_}
 use mathlib.Core.Bool.{Bool, not, _&&_}
 use mathlib.Core.List.{List, [], _∷_, _++_, flatMap}
@@ -44,10 +44,21 @@ newGroup v before p n = groupBytes v (record { mode = modeNo (before + n); pair 
 abbrev pub inLimits : NetShape → ℕ → Bool
 inLimits net k = leb k 63 && leb (net .transitions + 1) 64 && leb (net .modes + (k + 1)) 256 && leb (net .arcs + (k + 1)) 2048
 
+-- the numbers that the new sheet has, and its length
+pub record Numbers (net : NetShape) (k : ℕ) : Type 0 where
+  pub deep : k ≤ 63
+  pub places : net .places ≤ 64
+  pub transitions : net .transitions + 1 ≤ 64
+  pub pairs : net .pairs ≤ 256
+  pub modes : net .modes + (k + 1) ≤ 256
+  pub arcs : net .arcs + (k + 1) ≤ 2048
+
+abbrev pub newSize : NetShape → ℕ → ℕ
+newSize net k = sheetSize (net .version) (net .places) (net .transitions + 1) (net .pairs) (net .modes + (k + 1)) (net .arcs + (k + 1))
+
 unfoldable pub sizesRefusal : NetShape → ℕ → ℕ → Option Refusal
 sizesRefusal net k room =
-    onlyIf (not (inLimits net k)) (wrong Net NoRoom)
-    ▸ onlyIf (ltb room (sheetSize (net .version) (net .places) (net .transitions + 1) (net .pairs) (net .modes + (k + 1)) (net .arcs + (k + 1)))) (wrong Net NoRoom)
+    onlyIf (not (inLimits net k)) (wrong Net NoRoom) ▸ onlyIf (ltb room (newSize net k)) (wrong Net NoRoom)
 
 -- a net that was read, and a pair of it that is not refused; k is its K
 pub record Strips (s : List ℕ) (net : NetShape) (p : Pair) (k : ℕ) : Type 0 where

@@ -13,7 +13,7 @@ ghost use Prim.Native.Nat.{_≤_};
 ghost use Rattle.model.specs.Refusals.{answer};
 ghost use Rattle.opened.specs.Shape.{Open};
 ghost use Rattle.strip.specs.Stripped.{roomRefusal};
-ghost use Rattle.strip.specs.Parts.{inLimits, sizesRefusal};
+ghost use Rattle.strip.specs.Parts.{inLimits, Numbers, newSize, sizesRefusal};
 
 // A transition has at most 64 modes; the others are the limits of a net sheet.
 fn within_limits(net: NetShape, k: usize) -> bool
@@ -32,6 +32,22 @@ fn within_limits(net: NetShape, k: usize) -> bool
     net.arcs + (k + 1) <= 2048
 }
 
+// How long the sheet with K + 1 modes more is.
+pub(crate) fn new_size(net: NetShape, k: usize) -> usize
+    requires { ⌜ Numbers net k ⌝ }
+    ensures { λ r. ⌜ r ≡ newSize net k ⌝ }
+{
+    let version = net.version;
+    sheet_size(
+        version,
+        net.places,
+        net.transitions + 1,
+        net.pairs,
+        net.modes + (k + 1),
+        net.arcs + (k + 1),
+    )
+}
+
 fn room_answer(net: NetShape, k: usize, room: usize) -> Answer
     requires { ⌜ (net .places ≤ 64) × (net .pairs ≤ 256) ⌝ }
     requires { ⌜ (net .transitions ≤ 64) × (net .modes ≤ 256) × (net .arcs ≤ 2048) ⌝ }
@@ -40,16 +56,7 @@ fn room_answer(net: NetShape, k: usize, room: usize) -> Answer
     if !within_limits(net, k) {
         return refused(Thing::Net, Fault::NoRoom);
     }
-    let version = net.version;
-    let size = sheet_size(
-        version,
-        net.places,
-        net.transitions + 1,
-        net.pairs,
-        net.modes + (k + 1),
-        net.arcs + (k + 1),
-    );
-    if room < size {
+    if room < new_size(net, k) {
         return refused(Thing::Net, Fault::NoRoom);
     }
     Answer::Accepted

@@ -1,5 +1,6 @@
 // The sheet of the net with a transition appended: its parts in turn. What stays is what stands in the sheet that was read.
 use crate::modes::put_new_modes;
+use crate::room::new_size;
 use convert::arcs::put_groups;
 use heads::head::fields_at;
 use model::Pair;
@@ -9,8 +10,6 @@ use written::put_count;
 use written::put_head;
 use written::put_part;
 use written::put_total;
-use written::sheet_size;
-ghost use mathlib.Core.Path.{_≡_};
 ghost use Rattle.sheets.specs.Decoded.{netOf};
 ghost use Rattle.written.specs.Written.{sectionBytes, sheetOf};
 ghost use Rattle.written.specs.Puts.{Room, Puts};
@@ -24,15 +23,7 @@ fn put_counts(s: &[u8], net: NetShape, pair: Pair, k: usize, out: &mut [u8]) -> 
     ensures { λ r. ⌜ Puts (now (out .entry)) 0 (countsBytes (strip (netOf (now (s .entry))) pair k) (net .version)) (now (out .exit)) r ⌝ }
 {
     let version = net.version;
-    let size = sheet_size(
-        version,
-        net.places,
-        net.transitions + 1,
-        net.pairs,
-        net.modes + (k + 1),
-        net.arcs + (k + 1),
-    );
-    let at_places = put_head(out, version, 0, size);
+    let at_places = put_head(out, version, 0, new_size(net, k));
     let at_transitions = put_count(out, at_places, net.places);
     put_count(out, at_transitions, net.transitions + 1)
 }

@@ -1,46 +1,31 @@
+-- K, transitions, modes and arcs in turn.
 use borrow.Author.Needs.{needs}
+use borrow.Author.Tests.{le-leb, lt-leb}
 use Rattle.strip.proofs.room.within_limits.Statement.{statement}
 use Rattle.strip.proofs.room.within_limits.Tie as tie
-use Rattle.strip.proofs.room.within_limits.Reads as reads
-use Rattle.strip.proofs.room.within_limits.Lts as lts
 
 returns : tie.Need-returns
-returns c = ?
-
-add-if2 : tie.Need-add-if2
-add-if2 c = search needs
+returns c = rw (lt-leb _ _ (c .if1 .taken))
 
 returns-2 : tie.Need-returns-2
-returns-2 c = ?
-
-add-if3 : tie.Need-add-if3
-add-if3 c = search needs
-
-add-if3-2 : tie.Need-add-if3-2
-add-if3-2 c = search needs
+returns-2 c = rw (le-leb _ _ (c .before .before .if1 .left), lt-leb _ _ (c .if2 .taken))
 
 returns-3 : tie.Need-returns-3
-returns-3 c = ?
-
-add-result : tie.Need-add-result
-add-result c = search needs
-
-add-result-2 : tie.Need-add-result-2
-add-result-2 c = search needs
+returns-3 c = rw (le-leb _ _ (c .before .before .before .before .if1 .left), le-leb _ _ (c .before .before .if2 .left), lt-leb _ _ (c .if3 .taken))
 
 returns-4 : tie.Need-returns-4
-returns-4 c = ?
+returns-4 c = rw (le-leb _ _ (c .before .before .before .before .before .if1 .left), le-leb _ _ (c .before .before .before .if2 .left), le-leb _ _ (c .before .if3 .left))
 
 pub within-limits-spec : {M : Type 1} → statement M
 within-limits-spec =
     tie.close
     (tie.spec
     returns
-    add-if2
+    (λ c. search needs)
     returns-2
-    add-if3
-    add-if3-2
+    (λ c. search needs)
+    (λ c. search needs)
     returns-3
-    add-result
-    add-result-2
+    (λ c. search needs)
+    (λ c. search needs)
     returns-4)

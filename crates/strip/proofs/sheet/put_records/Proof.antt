@@ -1,65 +1,71 @@
+-- What stands in the sheet that was read, with K + 1 between the old transitions and the pairs.
 use borrow.Author.Needs.{needs}
+use mathlib.Core.Path.{sym, _∙_, ap}
+use Prim.Native.Nat.{_+_, _*_}
+use native.Mathlib.Omega.{arith}
+use Rattle.nets.proofs.Valid.{headed}
+use Rattle.written.specs.Puts.{partOf}
+use Rattle.written.proofs.Puts.{put-length, room-as, puts-as, count-fits, room-first, room-next, puts-both}
+use Rattle.strip.specs.Parts.{recordsBytes}
+use Rattle.strip.proofs.Parts.{records-there, numbers-is, pairs-is, numbers}
 use Rattle.strip.proofs.sheet.put_records.Statement.{statement}
 use Rattle.strip.proofs.sheet.put_records.Tie as tie
-use Rattle.strip.proofs.sheet.put_records.Reads as reads
-use Rattle.strip.proofs.sheet.put_records.Lts as lts
-use Rattle.heads.proofs.head.fields_at.Reads as fields-at-reads
-use Rattle.written.proofs.put_count.Reads as put-count-reads
-use Rattle.written.proofs.put_part.Reads as put-part-reads
-
-fields-at-requires : tie.Need-fields-at-requires
-fields-at-requires c κs = ?
-
-add-numbers : tie.Need-add-numbers
-add-numbers c = search needs
-
-mul-size : tie.Need-mul-size
-mul-size c = ?
-
-mul-size-2 : tie.Need-mul-size-2
-mul-size-2 c = ?
-
-add-size : tie.Need-add-size
-add-size c = ?
 
 put-part-requires : tie.Need-put-part-requires
-put-part-requires c κs = ?
-
-add-put-count : tie.Need-add-put-count
-add-put-count c = ?
+unfolding recordsBytes
+put-part-requires c κs =
+    let start = c .before .before .before .before .before .before in
+    let a = start .args in
+    let o = start .pre .0 .opened in
+    let fields = c .before .before .before .fields-at .ensures in
+    let part = ap (λ f. partOf (a .s .now) (f + 4) (2 * a .net .places + 2 * a .net .transitions)) (fields .0) ∙ numbers-is o (λ i. omega (arith, c .before .before .before .before .before .shared-slice-known .given i)) in
+    (omega (arith, fields .0, records-there o), room-as (sym part) (room-first _ _ (start .pre .1)))
 
 put-count-requires : tie.Need-put-count-requires
-put-count-requires c κs = ?
-
-add-put-part : tie.Need-add-put-part
-add-put-part c = ?
-
-mul-put-part : tie.Need-mul-put-part
-mul-put-part c = ?
+unfolding recordsBytes
+put-count-requires c κs =
+    let start = c .before .before .before .before .before .before .before .before .before .before in
+    let a = start .args in
+    let fields = c .before .before .before .before .before .before .before .fields-at .ensures in
+    let part = ap (λ f. partOf (a .s .now) (f + 4) (2 * a .net .places + 2 * a .net .transitions)) (fields .0) ∙ numbers-is (start .pre .0 .opened) (λ i. omega (arith, c .before .before .before .before .before .before .before .before .before .shared-slice-known .given i)) in
+    (count-fits _ (room-first _ _ (room-next _ _ (start .pre .1) (puts-as part (c .before .before .before .put-part .ensures)))), omega (arith, numbers (start .pre .0)))
 
 put-part-requires-2 : tie.Need-put-part-requires-2
-put-part-requires-2 c κs = ?
-
-same-length : tie.Need-same-length
-same-length c = search needs
+unfolding recordsBytes
+put-part-requires-2 c κs =
+    let start = c .before .before .before .before .before .before .before .before .before .before .before .before .before .before .before in
+    let a = start .args in
+    let o = start .pre .0 .opened in
+    let fields = c .before .before .before .before .before .before .before .before .before .before .before .before .fields-at .ensures in
+    let part = ap (λ f. partOf (a .s .now) (f + 4) (2 * a .net .places + 2 * a .net .transitions)) (fields .0) ∙ numbers-is o (λ i. omega (arith, c .before .before .before .before .before .before .before .before .before .before .before .before .before .before .shared-slice-known .given i)) in
+    let pairs = ap (λ f. partOf (a .s .now) (f + 4 + (2 * a .net .places + 2 * a .net .transitions)) (8 * a .net .pairs)) (fields .0) ∙ pairs-is o (λ i. omega (arith, c .before .before .before .before .before .before .before .before .before .before .before .before .before .before .shared-slice-known .given i)) in
+    (omega (arith, fields .0, records-there o), room-as (sym pairs) (room-next _ _ (room-next _ _ (start .pre .1) (puts-as part (c .before .before .before .before .before .before .before .before .put-part .ensures))) (put-length (c .before .before .before .before .put-count .ensures))))
 
 returns : tie.Need-returns
-returns c = ?
+unfolding recordsBytes
+returns c =
+    let start = c .before .before .before .before .before .before .before .before .before .before .before .before .before .before .before .before .before .before in
+    let a = start .args in
+    let o = start .pre .0 .opened in
+    let fields = c .before .before .before .before .before .before .before .before .before .before .before .before .before .before .before .fields-at .ensures in
+    let part = ap (λ f. partOf (a .s .now) (f + 4) (2 * a .net .places + 2 * a .net .transitions)) (fields .0) ∙ numbers-is o (λ i. omega (arith, c .before .before .before .before .before .before .before .before .before .before .before .before .before .before .before .before .before .shared-slice-known .given i)) in
+    let pairs = ap (λ f. partOf (a .s .now) (f + 4 + (2 * a .net .places + 2 * a .net .transitions)) (8 * a .net .pairs)) (fields .0) ∙ pairs-is o (λ i. omega (arith, c .before .before .before .before .before .before .before .before .before .before .before .before .before .before .before .before .before .shared-slice-known .given i)) in
+    puts-both (puts-as part (c .before .before .before .before .before .before .before .before .before .before .before .put-part .ensures)) (puts-both (put-length (c .before .before .before .before .before .before .before .put-count .ensures)) (puts-as pairs (c .before .before .put-part2 .ensures)))
 
 pub put-records-spec : {M : Type 1} → statement M
 put-records-spec =
     tie.close
     (tie.spec
-    fields-at-requires
-    add-numbers
-    mul-size
-    mul-size-2
-    add-size
+    (λ c κs. headed _ (c .before .before .pre .0 .opened .accepted))
+    (λ c. search needs)
+    (λ c. omega (arith, numbers (c .before .before .before .before .pre .0)))
+    (λ c. omega (arith, numbers (c .before .before .before .before .before .pre .0)))
+    (λ c. omega (arith, numbers (c .before .before .before .before .before .pre .0)))
     put-part-requires
-    add-put-count
+    (λ c. omega (arith, numbers (c .before .before .before .before .before .before .before .before .before .before .pre .0)))
     put-count-requires
-    add-put-part
-    mul-put-part
+    (λ c. omega (arith, numbers (c .before .before .before .before .before .before .before .before .before .before .before .before .before .pre .0), c .before .before .before .before .before .before .before .before .before .before .fields-at .ensures .1))
+    (λ c. omega (arith, numbers (c .before .before .before .before .before .before .before .before .before .before .before .before .before .before .pre .0)))
     put-part-requires-2
-    same-length
+    (λ c. search needs)
     returns)
