@@ -17,13 +17,15 @@ use Rattle.model.specs.declared.Answer.{Answer}
 use Rattle.model.specs.declared.Version.{Version}
 use Rattle.model.specs.declared.Version.the-variants.{One, Two}
 use Rattle.model.specs.First.{_▸_}
+use Rattle.model.specs.Lists.{table}
 use Rattle.model.specs.Refusals.{answer, number, wrong}
-use Rattle.model.specs.Nets.{modeNo}
+use Rattle.model.specs.Nets.{pairNo, modeNo}
 use Rattle.model.proofs.First.{left-none, none-then, some-then}
 use Rattle.heads.specs.Checks.{headRefusal}
 use Rattle.nets.specs.Nets.{netRefusal}
 use Rattle.lists.specs.Weights.{weightsRefusal}
 use Rattle.lists.specs.Movements.{movementsRefusal}
+use Rattle.sheets.specs.Decoded.{netOf}
 use Rattle.sheets.specs.Whole.{wholeNet, wholeWeights, wholeMovements, rest}
 use Rattle.heads.specs.Bytes.{u16At, u32At}
 use Rattle.written.proofs.SheetLength.{sheet-least}
@@ -41,6 +43,9 @@ use Rattle.size.specs.Sizes as sizing
 use Rattle.complement.specs.Complemented as complementing
 use Rattle.convert.specs.Converted.{ofVersion, convertedSheet, convertRefusal, conversionOf}
 use Rattle.convert.specs.Converted as converting
+use Rattle.strip.specs.Strip.{strip, stripRefusal}
+use Rattle.strip.specs.Stripped.{strippedSheet, strippingRefusal, strippedOf}
+use Rattle.strip.specs.Stripped as stripping
 use Rattle.convert.proofs.Answers.{roomy}
 use Rattle.convert.proofs.Promises.{source-only, converted-reads}
 use Rattle.audit.specs.Audits.{finds, auditingRefusal}
@@ -140,6 +145,10 @@ convert-cut : (source target : Version) → convertRefusal source target lone 0 
 unfolding convertRefusal ofVersion
 convert-cut source target = some-then _ (head-cut Net _)
 
+strip-cut : strippingRefusal lone (pairNo 0) 0 ≡ some (cutShort Net)
+unfolding strippingRefusal
+strip-cut = whole-cut _
+
 audit-cut : auditingRefusal lone [] [] ≡ some (cutShort Net)
 unfolding auditingRefusal
 audit-cut = whole-cut _
@@ -213,6 +222,18 @@ converts : (source target : Version) (net : List ℕ) → ofVersion source net �
 unfolding convertRefusal
 converts source target net e = rw (none-then e (roomy target net (slice (length (convertedSheet target net)) .1)))
 
+-- its pair 0 has K 5
+own-strip : stripRefusal own.example (pairNo 0) ≡ none
+unfolding stripRefusal strip table _▸_
+own-strip = refl
+
+strips : stripping.told (strippedOf own.net (pairNo 0) (slice (length (strippedSheet own.net (pairNo 0))) .0)) .carried .number ≡ 0
+unfolding strippingRefusal stripping.roomRefusal
+strips =
+    let room = slice (length (strippedSheet own.net (pairNo 0))) in
+    let accepted : stripRefusal (netOf own.net) (pairNo 0) ≡ none = rw (read-back .same) own-strip in
+    rw (none-then (read-back .accepted) (none-then accepted (rw (le-ltb (length (room .0)) (length (strippedSheet own.net (pairNo 0))) (room .1)) refl)))
+
 pub constant-answers : ConstantAnswers
 unfolding wholeNet wholeWeights wholeMovements beginRefusal testRefusal runOf certifyRefusal figured finds decimal decimalWithin signedDecimal
 constant-answers =
@@ -265,6 +286,10 @@ constant-answers =
           varies _ _ (two, slice (length (convertedSheet One two)) .0) (lone, [])
           (λ o a. ap (λ o. converting.told o .carried .number) (a .0) ∙ converts Two One two (converted-reads One Two own.net own-source .back))
           (λ o a. ap (λ o. converting.told o .carried .number) (a .0) ∙ rw (convert-cut Two One));
+      strip =
+          varies _ _ (own.net, pairNo 0, slice (length (strippedSheet own.net (pairNo 0))) .0) (lone, pairNo 0, [])
+          (λ o a. ap (λ o. stripping.told o .carried .number) (a .0) ∙ strips)
+          (λ o a. ap (λ o. stripping.told o .carried .number) (a .0) ∙ rw strip-cut);
       audit =
           varies _ _ (own.net, 3 ∷ 1 ∷ [], 2 ∷ 1 ∷ 3 ∷ []) (lone, [], []) (λ o a. ap (λ r. r .carried .number) (own-example .audit o a))
           (λ o a. ap (λ o. auditing.told o .carried .number) a ∙ rw audit-cut);

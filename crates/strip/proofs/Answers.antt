@@ -15,7 +15,7 @@ use Rattle.model.specs.declared.Refusal.{Refusal}
 use Rattle.model.specs.declared.Answer.{Answer}
 use Rattle.model.specs.declared.Answer.the-variants as answers
 use Rattle.model.specs.First.{_▸_, onlyIf}
-use Rattle.model.specs.Numbers.{ℕ∞, fin, ∞}
+use Rattle.model.specs.Numbers.{fin, ∞}
 use Rattle.model.specs.Nets.{pairs, K}
 use Rattle.model.specs.Complement.{finite}
 use Rattle.model.specs.Refusals.{answer, wrong}

@@ -1,19 +1,19 @@
 -- Of the new modes the one that the count numbers is enabled, and it leaves the pair bare.
 use Prim.Native.Nat.{ℕ, _+_, _≤_, _<_}
-use mathlib.Core.Path.{_≡_, refl, sym, _∙_, ap, subst}
+use mathlib.Core.Path.{_≡_, refl, sym, _∙_, subst}
 use mathlib.Core.Bool.{Bool, true, false, cond}
 use mathlib.Core.List.{List}
 use mathlib.Core.Logic.{_≢_, ⊎-elim}
 use mathlib.Core.Option.{none}
 use lib.Dec.{eqb}
-use lib.ListN.{length, List·getD-eq-default}
+use lib.ListN.{List·getD-eq-default}
 use native.Mathlib.Omega.{arith}
 use borrow.Author.Tests.{eqb-true, eq-eqb, ne-eqb}
 use Rattle.model.specs.declared.Pair.{Pair}
 use Rattle.model.specs.declared.Thing.{Thing}
-use Rattle.model.specs.Numbers.{fin, _≤∞_, limit}
+use Rattle.model.specs.Numbers.{_≤∞_, limit}
 use Rattle.model.specs.Rows.{Entry, noArc}
-use Rattle.model.specs.Nets.{PNet, pairs, modes, K, count, row}
+use Rattle.model.specs.Nets.{PNet, pairs, K, count, row}
 use Rattle.model.specs.Markings.{Marking}
 use Rattle.model.specs.WellFormed.{WellFormed}
 use Rattle.model.specs.Firing.{after, modeRefusal, fired}
@@ -24,14 +24,7 @@ use Rattle.model.proofs.Markings.{fired-at, fired-length}
 use Rattle.strip.specs.Strip.{stripEntry, newMode, strip}
 use Rattle.strip.specs.Promises.{BareAfter}
 use Rattle.strip.proofs.Arcs.{modes-many, new-row}
-
-same-pairs : (net : PNet) (p : Pair) (k : ℕ) → pairs (strip net p k) ≡ pairs net
-unfolding strip
-same-pairs net p k = refl
-
-same-capacity : (net : PNet) (p : Pair) (k q : ℕ) → K (strip net p k) q ≡ K net q
-unfolding strip
-same-capacity net p k q = refl
+use Rattle.strip.proofs.OldModes.{same-pairs}
 
 module _ (net : PNet) (p : Pair) (k : ℕ) (well : WellFormed net) (there : p .0 < pairs net) (m : List ℕ) (marking : Marking net m) where
   -- what holds of Pre n and I n at the pair, and of no arc elsewhere, holds of the new mode's row

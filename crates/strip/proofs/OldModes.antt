@@ -1,14 +1,14 @@
 -- Old modes have the rows that they had, and so all that follows from a row.
 use Prim.Native.Nat.{ℕ, zero, suc, _+_, _-_, _≤_, _<_}
 use mathlib.Core.Path.{_≡_, refl, sym, _∙_, ap, ap₂, fun-ext}
-use mathlib.Core.Bool.{Bool, true, false, cond, _||_}
+use mathlib.Core.Bool.{Bool, true, false, cond}
 use mathlib.Core.List.{List, [], _∷_, _++_, map}
 use mathlib.Core.Option.{none, Option·map}
 use lib.Dec.{eqb}
 use lib.IntN.{ℤ, pos, _-ℤ_, _*ℤ_}
 use lib.ListN.{length, take, getD}
 use native.Mathlib.Omega.{arith}
-use borrow.Author.Tests.{eqb-true, ne-eqb, lt-ltb, le-ltb}
+use borrow.Author.Tests.{eqb-true, ne-eqb, lt-ltb}
 use Rattle.model.specs.declared.Pair.{Pair}
 use Rattle.model.specs.declared.Mode.{Mode}
 use Rattle.model.specs.declared.Thing.{Thing}
@@ -17,20 +17,20 @@ use Rattle.model.specs.First.{_▸_, first, lowest}
 use Rattle.model.specs.Numbers.{ℕ∞, fin, ∞}
 use Rattle.model.specs.Rows.{noArc}
 use Rattle.model.specs.Nets.{NetArc, PNet, total, pairs, modes, modeNo, pairNo, K, count, row}
-use Rattle.model.specs.Markings.{markingRefusal}
+use Rattle.model.specs.Markings.{unequal, markingRefusal}
 use Rattle.model.specs.WellFormed.{WellFormed}
-use Rattle.model.specs.Firing.{rowRefusal, absent, rooms, modeRefusal, firedRow, fired}
-use Rattle.model.specs.Runs.{goOn, runFrom, run}
+use Rattle.model.specs.Firing.{rowRefusal, rooms, modeRefusal, firedRow, fired}
+use Rattle.model.specs.Runs.{runFrom, run, elsewhere, endsAt, certificateRefusal}
 use Rattle.model.specs.Steps.{beside, together, stepOutside, stepRefusal, firedTogether}
 use Rattle.model.specs.Visits.{arcsAmong, modeArcs, visited}
 use Rattle.model.specs.Figures.{sum, weight, figure, change}
 use Rattle.model.specs.Dead.{highestPre, kills, deadPair, firstDead}
-use Rattle.model.proofs.First.{none-then, then-none, first-ext, first-all, first-split}
+use Rattle.model.proofs.First.{then-none, first-ext, first-all, first-split}
 use Rattle.model.proofs.Numbers.{false-above, below-least}
 use Rattle.model.proofs.Each.{Each}
 use Rattle.model.proofs.Firing.{mode-there, there}
 use Rattle.strip.specs.Strip.{stripEntry, newMode, strip}
-use Rattle.strip.specs.Promises.{Old, OldModesStay, OldModes, NoNewDead}
+use Rattle.strip.specs.Promises.{Old, OldModes, NoNewDead}
 use Rattle.strip.proofs.Arcs.{newArcs, each-new, modes-many, old-row, new-row}
 
 -- arcs of other modes do not count
@@ -74,6 +74,11 @@ module _ (net : PNet) (p : Pair) (k : ℕ) where
   old-run n (t ∷ ts) m old =
       let h = old 0 (omega arith) in
       rw (old-refusal Movements t m h, old-fired t m h, old-run (n + 1) ts (fired net t m) (λ i l. old (suc i) (omega arith)))
+
+  old-certificate : (ts : List Mode) (claim : List ℕ) → Old net ts → certificateRefusal (strip net p k) ts claim ≡ certificateRefusal net ts claim
+  unfolding certificateRefusal endsAt strip
+  old-certificate ts claim old =
+      ap (λ o. unequal net claim ▸ o .refusal ▸ first (pairs net) (elsewhere (o .marking) claim)) (old-run 0 ts (net .start) old)
 
   -- several at once
   old-together : (ts : List Mode) → Old net ts → together (strip net p k) ts ≡ together net ts
@@ -125,6 +130,10 @@ module _ (net : PNet) (p : Pair) (k : ℕ) where
   unfolding deadPair strip
   old-dead t h = ap (λ r. lowest (pairs net) (λ q. kills (r q) (K net q)) (λ q. q)) (old-row net p k t h)
 
+  pub same-pairs : pairs (strip net p k) ≡ pairs net
+  unfolding strip
+  same-pairs = refl
+
   same-markings : (m : List ℕ) → markingRefusal (strip net p k) m ≡ markingRefusal net m
   unfolding markingRefusal strip
   same-markings m = refl
@@ -168,9 +177,11 @@ old-modes net p k =
       runs = old-run net p k 0;
       steps = old-step net p k;
       afterSteps = old-after-step net p k;
+      certificates = old-certificate net p k;
       visits = old-visits net p k;
       changes = old-change net p k;
       dead = old-dead net p k;
+      pairs = same-pairs net p k;
       markings = same-markings net p k;
       figures = same-figures net p k;
       start = same-start net p k;

@@ -1,8 +1,6 @@
 -- What is written is read back as the net with the transition appended.
 use Prim.Native.Nat.{ℕ}
 use mathlib.Core.Path.{_≡_, refl, _∙_, ap}
-use mathlib.Core.List.{List}
-use mathlib.Core.Option.{none}
 use borrow.Author.Tests.{leb-false, not-false}
 use Rattle.model.specs.declared.Pair.{Pair}
 use Rattle.model.specs.Nets.{PNet, K}

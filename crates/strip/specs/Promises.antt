@@ -14,7 +14,7 @@ use Rattle.model.specs.Nets.{PNet, pairs, modes, modeNo, K, count, row}
 use Rattle.model.specs.Markings.{Marking, markingRefusal}
 use Rattle.model.specs.WellFormed.{WellFormed}
 use Rattle.model.specs.Firing.{modeRefusal, fired}
-use Rattle.model.specs.Runs.{run}
+use Rattle.model.specs.Runs.{run, certificateRefusal}
 use Rattle.model.specs.Steps.{stepRefusal, firedTogether}
 use Rattle.model.specs.Visits.{visited}
 use Rattle.model.specs.Figures.{figure, change}
@@ -46,8 +46,8 @@ pub record StripsBare (net : PNet) (p : Pair) (k : ℕ) (m : List ℕ) : Type 0 
 abbrev pub BareAfter : Type 0
 BareAfter = (net : PNet) (p : Pair) (k : ℕ) → WellFormed net → p .0 < pairs net → K net (p .0) ≡ fin k → (m : List ℕ) → Marking net m → StripsBare net p k m
 
--- 3. "Old modes keep their numbers and behaviour": what they have at each pair, their refusals and markings after, in runs and steps of old modes too, with
--- the arcs that such a run visits, their weight changes and their deadness. What names no mode stays: markings, figures, the first marking.
+-- 3. "Old modes keep their numbers and behaviour": what they have at each pair, their refusals and markings after, in runs, certificates and steps of old
+-- modes too, with the arcs that such a run visits, their weight changes and their deadness. What names no mode stays: pairs, markings, figures, the first marking.
 abbrev pub Old : PNet → List Mode → Type 0
 Old net ts = (i : ℕ) → i < length ts → getD ts i (modeNo 0) .0 < modes net
 
@@ -58,9 +58,11 @@ pub record OldModesStay (net : PNet) (p : Pair) (k : ℕ) : Type 0 where
   pub runs : (ts : List Mode) (m : List ℕ) → Old net ts → run (strip net p k) ts m ≡ run net ts m
   pub steps : (ts : List Mode) (m : List ℕ) → Old net ts → stepRefusal (strip net p k) ts m ≡ stepRefusal net ts m
   pub afterSteps : (ts : List Mode) (m : List ℕ) → Old net ts → firedTogether (strip net p k) ts m ≡ firedTogether net ts m
+  pub certificates : (ts : List Mode) (claim : List ℕ) → Old net ts → certificateRefusal (strip net p k) ts claim ≡ certificateRefusal net ts claim
   pub visits : (ts : List Mode) (m : List ℕ) → Old net ts → visited (strip net p k) ts m ≡ visited net ts m
   pub changes : (weights : List ℤ) (t : Mode) → t .0 < modes net → change (strip net p k) weights t ≡ change net weights t
   pub dead : (t : Mode) → t .0 < modes net → deadPair (strip net p k) t ≡ deadPair net t
+  pub pairs : pairs (strip net p k) ≡ pairs net
   pub markings : (m : List ℕ) → markingRefusal (strip net p k) m ≡ markingRefusal net m
   pub figures : (weights : List ℤ) (m : List ℕ) → figure (strip net p k) weights m ≡ figure net weights m
   pub start : strip net p k .start ≡ net .start
