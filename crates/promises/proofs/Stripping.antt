@@ -65,8 +65,8 @@ module _ (net : PNet) (p : Pair) (k : ℕ) where
       rw (stays .refusals Movements t m h, stays .afterwards t m h, stays .figures weights m′, stays .figures weights m, lines-same weights (n + 1) ts m′ (λ i l. old (suc i) (omega arith)))
 
   run-text-same : (weights : List ℤ) (ts : List Mode) → Old net ts → runText (strip net p k) weights ts ≡ runText net weights ts
-  unfolding runText
-  run-text-same weights ts old = rw (stays .start, stays .figures weights (net .start), lines-same weights 0 ts (net .start) old)
+  unfolding runText strip
+  run-text-same weights ts old = rw (stays .figures weights (net .start), lines-same weights 0 ts (net .start) old)
 
   movements-text-same : (weights : List ℤ) (part : List ℕ) → Old net (movementsOf part) → movementsText (strip net p k) weights part ≡ movementsText net weights part
   unfolding movementsText
