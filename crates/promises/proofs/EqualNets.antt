@@ -26,8 +26,8 @@ use Rattle.sheets.proofs.Accepted.{well-formed}
 use Rattle.opened.specs.Shape.{arcOffset}
 use Rattle.heads.specs.Version.{versionOf}
 use Rattle.written.specs.Written.{sheetOf}
-use Rattle.written.specs.Promises.{ReadBack}
-use Rattle.written.proofs.RoundTrip.{written-then-read, read-then-written}
+use Rattle.written.specs.Promises.{HasSheet, ReadBack}
+use Rattle.written.proofs.RoundTrip.{written-then-read, read-then-written, own-sheet}
 use Rattle.fire.specs.Calls.{beginRefusal, testRefusal}
 use Rattle.run.specs.Calls.{beforeRun, runOf, visitedBy, certifyRefusal}
 use Rattle.step.specs.Calls.{testStepRefusal}
@@ -104,11 +104,11 @@ unfolding stripping.strippingRefusal stripping.roomRefusal
 strip-fits net p out w fits = none-then w (rw (le-ltb (length out) (length (stripping.strippedSheet net p)) fits) (then-none _))
 
 -- the text of a sheet with bytes after it is that of its net
-pub text-written : (v : Version) (net : PNet) → WellFormed net → (more : List ℕ) → length (sheetOf v net ++ more) ≤ 65536
+pub text-written : (v : Version) (net : PNet) → WellFormed net → HasSheet v net → (more : List ℕ) → length (sheetOf v net ++ more) ≤ 65536
     → replayText (sheetOf v net ++ more) ≡ weightsText net more
 unfolding replayText sheetsText unlessRefused
-text-written v net well more h =
-    let back = written-then-read v net well in
+text-written v net well has more h =
+    let back = written-then-read v net well has in
     rw (le-ltb 65536 (length (sheetOf v net ++ more)) h, back .restAfter more, back .sameFirst more, back .acceptedFirst more)
 
 -- a net sheet with bytes after it, which are handed back
@@ -121,7 +121,7 @@ module _ (a : List ℕ) (bytes : Bytes a) (w : wholeNet a ≡ none) (more : List
   well = well-formed a (left-none (netRefusal a) _ w)
 
   back : ReadBack (versionOf a) (netOf a)
-  back = written-then-read (versionOf a) (netOf a) well
+  back = written-then-read (versionOf a) (netOf a) well (own-sheet a)
 
   read-before : netRefusal (a ++ more) ≡ none
   read-before = ap (λ s. netRefusal (s ++ more)) is-sheet ∙ back .acceptedFirst more
@@ -131,7 +131,7 @@ module _ (a : List ℕ) (bytes : Bytes a) (w : wholeNet a ≡ none) (more : List
 
   pub text-before : length (a ++ more) ≤ 65536 → replayText (a ++ more) ≡ weightsText (netOf a) more
   text-before h =
-      ap (λ s. replayText (s ++ more)) is-sheet ∙ text-written (versionOf a) (netOf a) well more (subst (λ s. length (s ++ more) ≤ 65536) is-sheet h)
+      ap (λ s. replayText (s ++ more)) is-sheet ∙ text-written (versionOf a) (netOf a) well (own-sheet a) more (subst (λ s. length (s ++ more) ≤ 65536) is-sheet h)
 
 module _ (a b : List ℕ) (one : OneNet a b) where
   pub whole : wholeNet b ≡ wholeNet a

@@ -23,6 +23,7 @@ use Rattle.written.proofs.RoundTrip.{written-then-read}
 use Rattle.strip.specs.Strip.{boundOf}
 use Rattle.strip.specs.Stripped.{strippedNet, strippedSheet, strippingRefusal, stripped, told, strippedOf, outputOf}
 use Rattle.strip.proofs.Arcs.{transitions-many}
+use Rattle.strip.proofs.Promises.{has-sheet}
 use Rattle.promises.specs.Frauds.{StripFrauds}
 use Rattle.promises.proofs.Accepting.{number-none}
 use Rattle.promises.proofs.CopiesNet.{same-transitions}
@@ -48,7 +49,7 @@ module _ (net : List ℕ) (p : Pair) (out : List ℕ) (n : ℕ) (e : told (strip
   written-transitions =
       let r = sheet-reads net p out n e in
       let well : WellFormed (strippedNet net p) = subst WellFormed (r .same) (well-formed (strippedSheet net p) (left-none (netRefusal (strippedSheet net p)) _ (r .accepted))) in
-      let read = written-then-read (versionOf net) (strippedNet net p) well .sameFirst (drop (length (strippedSheet net p)) out) in
+      let read = written-then-read (versionOf net) (strippedNet net p) well (has-sheet net p) .sameFirst (drop (length (strippedSheet net p)) out) in
       sym (transitions-of (outputOf net p out)) ∙ ap (λ s. length (netOf s .modesOf)) (output-is net p out n e) ∙ ap (λ m. length (m .modesOf)) read ∙ one-more
 
   not-copied : take (length net) (outputOf net p out) ≢ net

@@ -32,8 +32,9 @@ use Rattle.sheets.specs.Whole.{wholeNet, rest}
 use Rattle.sheets.specs.Decoded.{netOf, movementsOf, weightsOf}
 use Rattle.sheets.proofs.Accepted.{well-formed}
 use Rattle.written.specs.Written.{sheetOf}
+use Rattle.written.specs.Promises.{HasSheet}
 use Rattle.fire.specs.Calls.{beginRefusal, testRefusal}
-use Rattle.fire.specs.Contracts.{TestAllows, FireAllows}
+use Rattle.fire.specs.Contracts.{FireAllows}
 use Rattle.run.specs.Calls.{beforeRun, runOf, visitedBy, certifyRefusal}
 use Rattle.step.specs.Calls.{stepModes, testStepRefusal}
 use Rattle.weigh.specs.Calls.{figureRefusal, changeRefusal}
@@ -45,6 +46,7 @@ use Rattle.strip.specs.Promises.{Old, OldModesStay, StripsBare}
 use Rattle.strip.proofs.Arcs.{modes-many}
 use Rattle.strip.proofs.OldModes.{old-modes, no-new-dead}
 use Rattle.strip.proofs.Bare.{bare-after}
+use Rattle.strip.proofs.Promises.{has-sheet}
 use Rattle.promises.specs.EqualNets.{Bytes}
 use Rattle.promises.specs.Stripping.{BareCalls, OldCalls, Stripping}
 use Rattle.promises.proofs.Accepting.{number-none}
@@ -130,12 +132,12 @@ module _ (net sheet : List ℕ) (p : Pair) (k : ℕ) (w : wholeNet net ≡ none)
   unfolding isDead
   dead-same t h = ap (λ n. isDead n t) same ∙ ap found (kept .dead t h)
 
-  module _ (well : WellFormed (netOf net)) (well′ : WellFormed (strip (netOf net) p k)) (bounded : K (netOf net) (p .0) ≡ fin k) (v : Version) (is : sheet ≡ sheetOf v (strip (netOf net) p k)) where
+  module _ (well : WellFormed (netOf net)) (well′ : WellFormed (strip (netOf net) p k)) (bounded : K (netOf net) (p .0) ≡ fin k) (v : Version) (has : HasSheet v (strip (netOf net) p k)) (is : sheet ≡ sheetOf v (strip (netOf net) p k)) where
     texts-same : (more : List ℕ) → Bytes net → length (net ++ more) ≤ 65536 → length (sheet ++ more) ≤ 65536
         → Old (netOf net) (movementsOf (rest (answer (weightsRefusal (pairs (netOf net)) more)) more)) → replayText (sheet ++ more) ≡ replayText (net ++ more)
     texts-same more bytes l l′ old =
         ap (λ s. replayText (s ++ more)) is
-        ∙ text-written v (strip (netOf net) p k) well′ more (subst (λ s. length (s ++ more) ≤ 65536) is l′)
+        ∙ text-written v (strip (netOf net) p k) well′ has more (subst (λ s. length (s ++ more) ≤ 65536) is l′)
         ∙ weights-text-same (netOf net) p k more old
         ∙ sym (text-before net bytes w more l)
 
@@ -214,6 +216,6 @@ stripping net p out o n allows e =
       version = rw is (r .version);
       accepted = rw is (r .accepted);
       same = rw is (r .same);
-      bareCalls = rw is (bare-calls net sheet p k w (r .accepted) (r .same) well well′ (pair .1) (versionOf net) refl (pair .0));
-      oldCalls = rw is (old-calls net sheet p k w (r .accepted) (r .same) well well′ (pair .1) (versionOf net) refl);
+      bareCalls = rw is (bare-calls net sheet p k w (r .accepted) (r .same) well well′ (pair .1) (versionOf net) (has-sheet net p) refl (pair .0));
+      oldCalls = rw is (old-calls net sheet p k w (r .accepted) (r .same) well well′ (pair .1) (versionOf net) (has-sheet net p) refl);
     }

@@ -16,9 +16,10 @@ use Rattle.model.specs.Rows.{Entry, noArc}
 use Rattle.model.specs.Nets.{PNet, pairs, K, count, row}
 use Rattle.model.specs.Markings.{Marking}
 use Rattle.model.specs.WellFormed.{WellFormed}
-use Rattle.model.specs.Firing.{after, modeRefusal, fired}
+use Rattle.model.specs.Firing.{after, roomFor, modeRefusal, fired}
 use Rattle.model.proofs.First.{below-or}
 use Rattle.model.proofs.Numbers.{le-le∞}
+use Rattle.model.proofs.Rooms.{within-room}
 use Rattle.model.proofs.Firing.{accepted-passes, passes-accepted}
 use Rattle.model.proofs.Markings.{fired-at, fired-length}
 use Rattle.strip.specs.Strip.{stripEntry, newMode, strip}
@@ -61,8 +62,9 @@ module _ (net : PNet) (p : Pair) (k : ℕ) (well : WellFormed net) (there : p .0
         (record {
           enough = λ q l. by-entry (λ entry. entry .pre ≤ count m q) n q h (λ d. rw (← d) (omega arith)) (omega arith);
           room = λ q l.
-              by-entry (λ entry. count m q + entry .post ≤∞ K net q) n q h (λ d. le-le∞ (count m q + 0) (count m q) (K net q) (omega arith) (marking .within q l))
-              (le-le∞ (count m q + 0) (count m q) (K net q) (omega arith) (marking .within q l));
+              let held = le-le∞ (count m q + 0) (count m q) (K net q) (omega arith) (marking .within q l) in
+              by-entry (λ entry. count m q + entry .post ≤∞ roomFor (net .rule) (K net q) (entry .pre)) n q h (λ d. within-room (net .rule) (K net q) n (count m q + 0) held)
+              (within-room (net .rule) (K net q) 0 (count m q + 0) held);
           low = λ q l. by-entry (λ entry. count m q ≤∞ entry .inhibitor) n q h (λ d. rw (← d) (omega arith)) tt;
           small = λ q l.
               by-entry (λ entry. after entry (count m q) ≤ limit) n q h (λ d. omega (arith, marking .inRange q l)) (omega (arith, marking .inRange q l));

@@ -1,5 +1,5 @@
 -- Old modes have the rows that they had, and so all that follows from a row.
-use Prim.Native.Nat.{ℕ, zero, suc, _+_, _-_, _≤_, _<_}
+use Prim.Native.Nat.{ℕ, zero, suc, _+_, _≤_, _<_}
 use mathlib.Core.Path.{_≡_, refl, sym, _∙_, ap, ap₂, fun-ext}
 use mathlib.Core.Bool.{Bool, true, false, cond}
 use mathlib.Core.List.{List, [], _∷_, _++_, map}
@@ -9,12 +9,14 @@ use lib.IntN.{ℤ, pos, _-ℤ_, _*ℤ_}
 use lib.ListN.{length, take, getD}
 use native.Mathlib.Omega.{arith}
 use borrow.Author.Tests.{eqb-true, ne-eqb, lt-ltb}
+use Rattle.model.specs.declared.CapacityRule.{CapacityRule}
+use Rattle.model.specs.declared.CapacityRule.the-variants.{Strong, Weak}
 use Rattle.model.specs.declared.Pair.{Pair}
 use Rattle.model.specs.declared.Mode.{Mode}
 use Rattle.model.specs.declared.Thing.{Thing}
 use Rattle.model.specs.declared.Thing.the-variants.{Movements, Argument}
 use Rattle.model.specs.First.{_▸_, first, lowest}
-use Rattle.model.specs.Numbers.{ℕ∞, fin, ∞}
+use Rattle.model.specs.Numbers.{ℕ∞, fin, ∞, _≤∞_}
 use Rattle.model.specs.Rows.{noArc}
 use Rattle.model.specs.Nets.{NetArc, PNet, total, pairs, modes, modeNo, pairNo, K, count, row}
 use Rattle.model.specs.Markings.{unequal, markingRefusal}
@@ -24,7 +26,7 @@ use Rattle.model.specs.Runs.{runFrom, run, elsewhere, endsAt, certificateRefusa
 use Rattle.model.specs.Steps.{beside, together, stepOutside, stepRefusal, firedTogether}
 use Rattle.model.specs.Visits.{arcsAmong, modeArcs, visited}
 use Rattle.model.specs.Figures.{sum, weight, figure, change}
-use Rattle.model.specs.Dead.{highestPre, kills, deadPair, firstDead}
+use Rattle.model.specs.Dead.{preRoom, highestPre, kills, deadPair, firstDead}
 use Rattle.model.proofs.First.{then-none, first-ext, first-all, first-split}
 use Rattle.model.proofs.Numbers.{false-above, below-least}
 use Rattle.model.proofs.Each.{Each}
@@ -45,13 +47,21 @@ arcs-before [] ys t h = arcs-none ys t h
 arcs-before (a ∷ xs) ys t h = ap (λ n. cond (eqb (a .mode .0) (t .0)) 1 0 + n) (arcs-before xs ys t h)
 
 -- "Where no arc is written" nothing makes a mode dead
-no-arc-lives : (b : ℕ∞) → kills noArc b ≡ false
-no-arc-lives (fin k) = rw (false-above 0 (highestPre noArc (fin k)) (omega arith), false-above 0 (fin k) (omega arith))
-no-arc-lives ∞ = refl
+zero-below : (b : ℕ∞) → 0 ≤∞ b
+zero-below (fin k) = omega arith
+zero-below ∞ = tt
+
+no-arc-lives : (rule : CapacityRule) (b : ℕ∞) → kills rule noArc b ≡ false
+no-arc-lives rule b = rw (false-above 0 (highestPre rule noArc b) (zero-below (highestPre rule noArc b)), false-above 0 b (zero-below b))
 
 -- Pre n and I n within K
-strip-lives : (n k : ℕ) → n ≤ k → kills (stripEntry n) (fin k) ≡ false
-strip-lives n k h = rw (false-above n (highestPre (stripEntry n) (fin k)) (below-least n (fin (k - 0)) n .1 (omega arith, omega arith)), false-above 0 (fin k) (omega arith))
+strip-lives : (rule : CapacityRule) (n k : ℕ) → n ≤ k → kills rule (stripEntry n) (fin k) ≡ false
+strip-lives rule n k h =
+    rw (false-above n (highestPre rule (stripEntry n) (fin k)) (below-least n (preRoom rule (stripEntry n) (fin k)) n .1 (within rule, omega arith)), false-above 0 (fin k) (omega arith))
+  where
+    within : (rule : CapacityRule) → n ≤∞ preRoom rule (stripEntry n) (fin k)
+    within Strong = omega arith
+    within Weak = h
 
 module _ (net : PNet) (p : Pair) (k : ℕ) where
   there-still : (t : Mode) → t .0 < modes net → t .0 < modes (strip net p k)
@@ -128,7 +138,7 @@ module _ (net : PNet) (p : Pair) (k : ℕ) where
 
   old-dead : (t : Mode) → t .0 < modes net → deadPair (strip net p k) t ≡ deadPair net t
   unfolding deadPair strip
-  old-dead t h = ap (λ r. lowest (pairs net) (λ q. kills (r q) (K net q)) (λ q. q)) (old-row net p k t h)
+  old-dead t h = ap (λ r. lowest (pairs net) (λ q. kills (net .rule) (r q) (K net q)) (λ q. q)) (old-row net p k t h)
 
   pub same-pairs : pairs (strip net p k) ≡ pairs net
   unfolding strip
@@ -148,12 +158,12 @@ module _ (net : PNet) (p : Pair) (k : ℕ) where
 
   -- at its pair and elsewhere no new mode is killed
   module _ (well : WellFormed net) (bounded : K net (p .0) ≡ fin k) where
-    new-lives : (n q : ℕ) → n ≤ k → kills (row (strip net p k) (newMode net n) q) (K net q) ≡ false
+    new-lives : (n q : ℕ) → n ≤ k → kills (net .rule) (row (strip net p k) (newMode net n) q) (K net q) ≡ false
     new-lives n q h = rw (new-row net p k well n q h) (go (eqb (p .0) q) refl)
       where
-        go : (b : Bool) → eqb (p .0) q ≡ b → kills (cond b (stripEntry n) noArc) (K net q) ≡ false
-        go true e = rw (← eqb-true (p .0) q e, bounded) (strip-lives n k h)
-        go false e = no-arc-lives (K net q)
+        go : (b : Bool) → eqb (p .0) q ≡ b → kills (net .rule) (cond b (stripEntry n) noArc) (K net q) ≡ false
+        go true e = rw (← eqb-true (p .0) q e, bounded) (strip-lives (net .rule) n k h)
+        go false e = no-arc-lives (net .rule) (K net q)
 
     new-dead : (n : ℕ) → n ≤ k → deadPair (strip net p k) (newMode net n) ≡ none
     unfolding deadPair strip

@@ -10,7 +10,7 @@ use Rattle.model.specs.declared.Pair.{Pair}
 use Rattle.model.specs.declared.Version.{Version}
 use Rattle.model.specs.Lists.{joined}
 use Rattle.model.specs.Numbers.{fin}
-use Rattle.model.specs.Nets.{NetArc, PNet, pairs, modes, modeNo, K}
+use Rattle.model.specs.Nets.{NetArc, PNet, ruleNumber, pairs, modes, modeNo, K}
 use Rattle.model.specs.WellFormed.{WellFormed}
 use Rattle.model.proofs.First.{left-none, right-none, only-if-none}
 use Rattle.model.proofs.Joined.{joined-ext, joined-split}
@@ -169,9 +169,9 @@ module _ {s : List ℕ} {net : NetShape} {p : Pair} {k : ℕ} (o : Strips s net 
       let z = sizes (o .opened) in
       section-parts (net .version) (netOf s) p k (z .wellFormed) well-stripped ∙ rw (z .arcs, z .modes) refl
 
-  -- the head: rule 0, as every net that was read has, and L
+  -- the head: the net's rule, and L
   pub head-is : {size : ℕ} → size ≡ newSize net k
-      → headBytes (net .version) 0 (size - 4) ≡ headBytes (net .version) (strip (netOf s) p k .rule) (lengthOf (net .version) (strip (netOf s) p k))
+      → headBytes (net .version) (ruleNumber (net .rule)) (size - 4) ≡ headBytes (net .version) (ruleNumber (strip (netOf s) p k .rule)) (lengthOf (net .version) (strip (netOf s) p k))
   unfolding strip
   head-is e =
       ap₂ (headBytes (net .version)) (rule-is (o .opened))

@@ -104,7 +104,6 @@ module _ (net : PNet) (p : Pair) (k : ℕ) (well : WellFormed net) (there : p .0
   unfolding strip
   well-formed-strip =
       record {
-        rule = well .rule;
         somePlace = well .somePlace;
         places = well .places;
         transitions =

@@ -14,7 +14,7 @@ use Rattle.model.specs.declared.Fault.the-variants.{NoRoom}
 use Rattle.model.specs.declared.Refusal.{Refusal}
 use Rattle.model.specs.First.{_▸_, onlyIf}
 use Rattle.model.specs.Numbers.{fin}
-use Rattle.model.specs.Nets.{PNet, modeNo, K}
+use Rattle.model.specs.Nets.{PNet, ruleNumber, modeNo, K}
 use Rattle.model.specs.Refusals.{wrong}
 use Rattle.sheets.specs.Decoded.{netOf}
 use Rattle.opened.specs.declared.shape.NetShape.{NetShape}
@@ -26,7 +26,7 @@ use Rattle.strip.specs.Strip.{stripEntry, stripRefusal}
 module _ (net : PNet) where
   -- "a 4-byte length L .., a version byte ..; Place count ..; transition count"
   unfoldable pub countsBytes : Version → List ℕ
-  countsBytes v = headBytes v (net .rule) (lengthOf v net) ++ (bytes16 (length (net .colours)) ++ bytes16 (length (net .modesOf)))
+  countsBytes v = headBytes v (ruleNumber (net .rule)) (lengthOf v net) ++ (bytes16 (length (net .colours)) ++ bytes16 (length (net .modesOf)))
 
   -- "colours of each place ..; modes of each transition .."
   unfoldable pub numbersBytes : List ℕ

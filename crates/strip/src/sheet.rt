@@ -23,7 +23,8 @@ fn put_counts(s: &[u8], net: NetShape, pair: Pair, k: usize, out: &mut [u8]) -> 
     ensures { λ r. ⌜ Puts (now (out .entry)) 0 (countsBytes (strip (netOf (now (s .entry))) pair k) (net .version)) (now (out .exit)) r ⌝ }
 {
     let version = net.version;
-    let at_places = put_head(out, version, 0, new_size(net, k));
+    let rule = net.rule;
+    let at_places = put_head(out, version, rule, new_size(net, k));
     let at_transitions = put_count(out, at_places, net.places);
     put_count(out, at_transitions, net.transitions + 1)
 }
