@@ -27,7 +27,7 @@ use Rattle.model.specs.First.{_▸_, first, onlyIf}
 use Rattle.model.specs.Refusals.{carries, carried, wrong, thingNumber}
 use Rattle.model.specs.RefusalTables.{Table, row, _then_, each, Reads}
 use Rattle.model.specs.Numbers.{ℕ∞, fin, ∞, aboveBy, limit}
-use Rattle.model.specs.Nets.{PNet, pairs, pairNo, modeNo, count, modes}
+use Rattle.model.specs.Nets.{PNet, pairs, pairNo, modeNo, count, modes, K}
 use Rattle.model.specs.Firing.{stops, stoppedBy, stopped, lowestStop, ruleRefusal, rowRefusal, rooms, modeRefusal, fired}
 use Rattle.model.specs.Steps.{together, stepRefusal}
 use Rattle.model.specs.Runs.{Outcome, goOn, runFrom, run, elsewhere, endsAt, certificateRefusal}
