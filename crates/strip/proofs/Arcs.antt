@@ -13,7 +13,7 @@ use Rattle.model.specs.declared.Pair.{Pair}
 use Rattle.model.specs.declared.Mode.{Mode}
 use Rattle.model.specs.Lists.{table}
 use Rattle.model.specs.Rows.{noArc}
-use Rattle.model.specs.Nets.{NetArc, PNet, modes, arcNo, stands, entryAt, row}
+use Rattle.model.specs.Nets.{NetArc, PNet, pairs, modes, arcNo, stands, entryAt, row}
 use Rattle.model.specs.WellFormed.{WellFormed}
 use Rattle.model.proofs.Each.{Each, each-append, at-each}
 use Rattle.model.proofs.Tables.{table-length}
@@ -79,6 +79,10 @@ module _ (net : PNet) (p : Pair) where
     none-old t h = each-new (λ a. ¬ (a .mode .0 ≡ t)) (k + 1) (λ i l e. omega arith)
 
     -- how many there are
+    pub same-pairs : pairs (strip net p k) ≡ pairs net
+    unfolding strip
+    same-pairs = refl
+
     pub transitions-many : length (strip net p k .modesOf) ≡ length (net .modesOf) + 1
     unfolding strip
     transitions-many = length-append (net .modesOf) ((k + 1) ∷ [])

@@ -24,8 +24,7 @@ use Rattle.model.proofs.Firing.{accepted-passes, passes-accepted}
 use Rattle.model.proofs.Markings.{fired-at, fired-length}
 use Rattle.strip.specs.Strip.{stripEntry, newMode, strip}
 use Rattle.strip.specs.Promises.{BareAfter}
-use Rattle.strip.proofs.Arcs.{modes-many, new-row}
-use Rattle.strip.proofs.OldModes.{same-pairs}
+use Rattle.strip.proofs.Arcs.{same-pairs, modes-many, new-row}
 
 module _ (net : PNet) (p : Pair) (k : ℕ) (well : WellFormed net) (there : p .0 < pairs net) (m : List ℕ) (marking : Marking net m) where
   -- what holds of Pre n and I n at the pair, and of no arc elsewhere, holds of the new mode's row

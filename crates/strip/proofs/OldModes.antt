@@ -33,7 +33,7 @@ use Rattle.model.proofs.Each.{Each}
 use Rattle.model.proofs.Firing.{mode-there, there}
 use Rattle.strip.specs.Strip.{stripEntry, newMode, strip}
 use Rattle.strip.specs.Promises.{Old, OldModes, NoNewDead}
-use Rattle.strip.proofs.Arcs.{newArcs, each-new, modes-many, old-row, new-row}
+use Rattle.strip.proofs.Arcs.{newArcs, each-new, same-pairs, modes-many, old-row, new-row}
 
 -- arcs of other modes do not count
 arcs-none : (ys : List NetArc) (t : Mode) → Each (λ a. ¬ (a .mode .0 ≡ t .0)) ys → arcsAmong ys t ≡ 0
@@ -139,10 +139,6 @@ module _ (net : PNet) (p : Pair) (k : ℕ) where
   old-dead : (t : Mode) → t .0 < modes net → deadPair (strip net p k) t ≡ deadPair net t
   unfolding deadPair strip
   old-dead t h = ap (λ r. lowest (pairs net) (λ q. kills (net .rule) (r q) (K net q)) (λ q. q)) (old-row net p k t h)
-
-  pub same-pairs : pairs (strip net p k) ≡ pairs net
-  unfolding strip
-  same-pairs = refl
 
   same-markings : (m : List ℕ) → markingRefusal (strip net p k) m ≡ markingRefusal net m
   unfolding markingRefusal strip
