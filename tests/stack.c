@@ -3,7 +3,7 @@
  *
  *   cc -I include tests/stack.c target/staticlib/libabi.a -o stack && ./stack
  *
- * Exit status 1 where a call uses more than it may: pnet_run, pnet_statement and pnet_strip 12 KiB, steps 6 KiB, every other 4 KiB.
+ * Exit status 1 where a call uses more than it may: pnet_run and pnet_statement 12 KiB, steps 6 KiB, every other 4 KiB.
  */
 #include <stdio.h>
 #include <string.h>
@@ -139,7 +139,7 @@ static const struct {
     {"pnet_size", size, 0, 4096},               {"pnet_complement", complement, 0, 4096},
     {"pnet_audit", audit, 0, 4096},             {"pnet_statement", statement, 0, 12288},
     {"pnet_exclude", exclude, 22, 4096},        {"pnet_to_version_2", to_version_2, 0, 4096},
-    {"pnet_to_version_1", to_version_1, 0, 4096}, {"pnet_strip", strip, 0, 12288},
+    {"pnet_to_version_1", to_version_1, 0, 4096}, {"pnet_strip", strip, 0, 4096},
 };
 
 /* replay's input: the three sheets one after another. */

@@ -19,7 +19,7 @@ A list has, each with its lines below it, indented; `#` starts a comment, which 
     both NET, COMPLEMENT   a row is a marking, `|` and the counts of its complement pairs, a mode, and `to` the marking after, or the refusals: `13 at 0 amount 1 | 11 at 2 amount 1`.
                         Each is tested and fired, in the net and in its complement: four cases.
 
-Sheets at the limits are made by limits.py, those of both versions by versions.py, those that are stripped by stripping.py, by name; `refit` is the net of examples/refit. A call is added in two places: a row of CALLS, and an arm with its number in crates/cases/src/calls.rt, in the
+Sheets at the limits are made by limits.py, those of both versions by versions.py, those that are stripped by stripping.py, by name; `refit` is the net of examples/refit, `blasted` the same stripped of its pigs forward. A call is added in two places: a row of CALLS, and an arm with its number in crates/cases/src/calls.rt, in the
 group that tells what it tells. A call that tells something new gets a group, a function in src/told.rt and a line in answer_of.
 
 A case in stdin is the length of what follows, then eight parts, a length before each: call, number and room; name; first and second run of bytes, where the modes of
@@ -56,7 +56,7 @@ CALLS = {
     "run": (64, "net", "movements"),
 }
 
-sheets = dict(limits.SHEETS, **versions.SHEETS, **stripping.SHEETS, refit=(top / "examples/refit/net.sheet").read_bytes())
+sheets = dict(limits.SHEETS, **versions.SHEETS, **stripping.SHEETS, **{name: (top / f"examples/refit/{file}.sheet").read_bytes() for name, file in (("refit", "net"), ("blasted", "blasted"))})
 markings = dict(limits.MARKINGS)
 cases = []
 
