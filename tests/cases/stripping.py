@@ -18,7 +18,7 @@ def one_pair(k, modes, arcs=()):
 def many(arcs):
     """64 pairs of K 0, and so many of the 2,048 arcs of 32 modes."""
     every = [(mode, pair, 1, 0, 0) for mode in range(32) for pair in range(64)]
-    return both([64], [32], [(0, 0)] * 64, every[:arcs], 5)
+    return both([64], [32], [(0, 0)] * 64, every[:arcs], 5, version=2)
 
 
 # A full rack: by rule 1 an item of it is swapped.
