@@ -15,17 +15,19 @@ use Rattle.model.specs.declared.Thing.{Thing}
 use Rattle.model.specs.declared.Thing.the-variants.{Net, Weights, Movements, Argument}
 use Rattle.model.specs.declared.Why.{Why}
 use Rattle.model.specs.declared.Why.the-variants.{Lacking, OverCapacity, Inhibited, OverLimit}
-use Rattle.model.specs.declared.Fault.the-variants.{CutShort, WrongVersion, WrongLength, EndsElsewhere}
+use Rattle.model.specs.declared.Fault.the-variants.{CutShort, WrongVersion, WrongLength, EndsElsewhere, RuleLost}
+use Rattle.model.specs.declared.CapacityRule.{CapacityRule}
+use Rattle.model.specs.declared.CapacityRule.the-variants.{Strong, Weak}
 use Rattle.model.specs.declared.Version.{Version}
 use Rattle.model.specs.declared.Version.the-variants.{One, Two}
 use Rattle.model.specs.declared.Refusal.{Refusal}
 use Rattle.model.specs.declared.Answer.the-variants.{Refused}
 use Rattle.model.specs.First.{_▸_, first, onlyIf}
-use Rattle.model.specs.Refusals.{carried, wrong, thingNumber}
+use Rattle.model.specs.Refusals.{carries, carried, wrong, thingNumber}
 use Rattle.model.specs.RefusalTables.{Table, row, _then_, each, Reads}
 use Rattle.model.specs.Numbers.{ℕ∞, fin, ∞, aboveBy, limit}
-use Rattle.model.specs.Nets.{PNet, pairs, pairNo, modeNo, K, count, modes}
-use Rattle.model.specs.Firing.{stops, stoppedBy, stopped, lowestStop, ruleRefusal, rowRefusal, modeRefusal, fired}
+use Rattle.model.specs.Nets.{PNet, pairs, pairNo, modeNo, count, modes}
+use Rattle.model.specs.Firing.{stops, stoppedBy, stopped, lowestStop, ruleRefusal, rowRefusal, rooms, modeRefusal, fired}
 use Rattle.model.specs.Steps.{together, stepRefusal}
 use Rattle.model.specs.Runs.{Outcome, goOn, runFrom, run, elsewhere, endsAt, certificateRefusal}
 use Rattle.model.specs.Complement.{finite, complement, refusal15, sheetLimits, complementRefusal}
@@ -57,7 +59,7 @@ use Rattle.weigh.specs.Calls.{figureRefusal, changeRefusal}
 use Rattle.exclude.specs.Calls.{excludeRefusal}
 use Rattle.dead.specs.IsDead.{deadRefusal}
 use Rattle.complement.specs.Complemented.{complementSheet, roomRefusal, complementingRefusal}
-use Rattle.convert.specs.Converted.{ofVersion, convertedSheet, tooShort, convertRefusal}
+use Rattle.convert.specs.Converted.{ofVersion, convertedSheet, lostRule, tooShort, openRefusal, convertRefusal}
 use Rattle.audit.specs.Audits.{auditingRefusal}
 use Rattle.promises.specs.CallTables.{bytesLeft, wholeNetTable, wholeWeightTable, wholeMovementTable, markingAfter, movesTable, certificateTable, stepTable, roomTable, convertTable, RunReads, CallTables, claimTable}
 
@@ -141,10 +143,10 @@ module _ (net movements marking : List ℕ) where
 
 -- a step: 11 to 14 of its row, in the words of the members
 module _ (net : PNet) (ts : List Mode) (m : List ℕ) where
-  sums-read : (why : Why) {P : ℕ → Type 0} {by : ℕ → ℕ} → ((p : ℕ) → Decided (stops why (together net ts p) (K net p) (count m p)) (P p))
-      → ((p : ℕ) → by p ≡ stoppedBy why (together net ts p) (K net p) (count m p))
+  sums-read : (why : Why) {P : ℕ → Type 0} {by : ℕ → ℕ} → ((p : ℕ) → Decided (stops why (together net ts p) (rooms net (together net ts) p) (count m p)) (P p))
+      → ((p : ℕ) → by p ≡ stoppedBy why (together net ts p) (rooms net (together net ts) p) (count m p))
       → Reads (each (pairs net) (λ p. row (P p) (carried (Refused (stopped Argument why p (by p))))))
-      (lowestStop Argument (pairs net) (K net) (together net ts) (count m) why)
+      (lowestStop Argument (pairs net) (rooms net (together net ts)) (together net ts) (count m) why)
   sums-read why d same = reads-each (pairs net) (λ p l. reads-row _ (d p) (λ h. ap (λ n. carried (Refused (stopped Argument why p n))) (same p)))
 
   step-reads : Reads (stepTable net ts m) (stepRefusal net ts m)
@@ -157,8 +159,9 @@ module _ (net : PNet) (ts : List Mode) (m : List ℕ) where
       (sums-read Lacking (λ p. rw (← pre-is net p ts) (by-less (count m p) (together net ts p .pre)))
       (λ p. ap (λ n. n - count m p) (sym (pre-is net p ts))))
       (reads-then
-      (sums-read OverCapacity (λ p. rw (← post-is net p ts) (by-above (count m p + together net ts p .post) (K net p)))
-      (λ p. ap (λ n. aboveBy (count m p + n) (K net p)) (sym (post-is net p ts))))
+      (sums-read OverCapacity
+      (λ p. rw (← post-is net p ts, ← pre-is net p ts) (by-above (count m p + together net ts p .post) (rooms net (together net ts) p)))
+      (λ p. rw (← post-is net p ts, ← pre-is net p ts)))
       (reads-then (sums-read Inhibited (λ p. by-some net p (count m p) ts) (λ p. ap (aboveBy (count m p)) (sym (low-is net p ts))))
       (sums-read OverLimit
       (λ p. rw (← pre-is net p ts, ← post-is net p ts) (by-less limit (count m p - together net ts p .pre + together net ts p .post)))
@@ -211,7 +214,28 @@ audit-refusal : (net marking beside : List ℕ)
 unfolding complementingRefusal auditingRefusal auditRefusal
 audit-refusal net marking beside = rw (room-refusal net) (then-assoc _ _ _)
 
--- a conversion: 2 has been given for every version byte that the net's own 2 is for
+-- a conversion: 23 where the target version has no rule byte and the rule is the weak one
+lost : Version → CapacityRule → Bool
+lost One Weak = true
+lost One Strong = false
+lost Two rule = false
+
+by-lost : (target : Version) (rule : CapacityRule) → Decided (lost target rule) ((target ≡ One) × (rule ≡ Weak))
+unfolding lost
+by-lost One Weak = record { sound = λ _. (refl, refl); complete = λ _. refl }
+by-lost One Strong = record { sound = λ e. absurd (false≢true e); complete = λ h. let z = h .1 in let y : _≡_ {A = ℕ} 0 1 = cc in absurd (omega arith) }
+by-lost Two rule = record { sound = λ e. absurd (false≢true e); complete = λ h. let z = h .0 in let y : _≡_ {A = ℕ} 0 1 = cc in absurd (omega arith) }
+
+lost-is : (target : Version) (rule : CapacityRule) → onlyIf (lost target rule) (wrong Net RuleLost) ≡ lostRule target rule
+unfolding lost lostRule
+lost-is One Weak = refl
+lost-is One Strong = refl
+lost-is Two rule = refl
+
+lost-reads : (target : Version) (rule : CapacityRule) → Reads (row ((target ≡ One) × (rule ≡ Weak)) (carries 23 0 0)) (lostRule target rule)
+lost-reads target rule = subst (Reads _) (lost-is target rule) (reads-plain _ (by-lost target rule))
+
+-- 2 has been given for every version byte that the net's own 2 is for
 two-once : (a b c rest : Option Refusal) (k e : Bool) (r : Refusal) → (k ≡ true → e ≡ true)
     → (a ▸ b ▸ c ▸ onlyIf k r) ▸ onlyIf e r ▸ rest ≡ (a ▸ b ▸ c ▸ onlyIf e r) ▸ (a ▸ b ▸ c ▸ onlyIf k r) ▸ rest
 unfolding _▸_
@@ -245,10 +269,11 @@ module _ (source target : Version) (s : List ℕ) (room : ℕ) where
       ∙ sym (two-once _ _ _ (netFields s ▸ bytesAfter Net s) _ _ (wrong Net (WrongVersion 4)) (unknown-other source (version s)))
 
   convert-reads : Reads (convertTable s source target room) (convertRefusal source target s room)
-  unfolding convertRefusal tooShort
+  unfolding convertRefusal openRefusal tooShort
   convert-reads =
-      subst (Reads _) (sym (then-assoc sourceHead _ _) ∙ ap (λ o. o ▸ tooShort target s room) source-refusal)
-      (reads-then source-reads (reads-then (net-reads s) (reads-plain _ (by-less room (length (convertedSheet target s))))))
+      subst (Reads _) (sym (then-assoc sourceHead _ _) ∙ ap (λ o. o ▸ openRefusal target s room) source-refusal)
+      (reads-then source-reads
+      (reads-then (net-reads s) (reads-then (lost-reads target (netOf s .rule)) (reads-plain _ (by-less room (length (convertedSheet target s)))))))
 
 pub call-tables : CallTables
 unfolding beginRefusal testRefusal testStepRefusal certifyRefusal figureRefusal changeRefusal excludeRefusal deadRefusal complementingRefusal

@@ -74,7 +74,6 @@ start-accepted = refl
 well-formed : WellFormed example
 well-formed =
     record {
-      rule = refl;
       somePlace = omega arith;
       places = record { many = omega arith; each = each-at (λ c. (1 ≤ c) × (c ≤ 64)) 0 (1 ∷ 1 ∷ []) (omega arith); inTotal = omega arith };
       transitions = record { many = omega arith; each = each-at (λ c. (1 ≤ c) × (c ≤ 64)) 0 (1 ∷ []) (omega arith); inTotal = omega arith };
@@ -91,7 +90,7 @@ well-formed =
     }
 
 pub read-back : ReadBack One example
-read-back = written-then-read One example well-formed
+read-back = written-then-read One example well-formed (λ _. refl)
 
 pub weights-read : wholeWeights 2 sheets.weights ≡ none
 unfolding wholeWeights weightsRefusal weightFields weightRefusal known headRefusal bytesAfter first _▸_ signed u16At u32At

@@ -8,13 +8,14 @@ use mathlib.Core.Option.{none}
 use lib.IntN.{ℤ, pos}
 use lib.ListN.{length, take, getD}
 use Rattle.model.specs.declared.Mode.{Mode}
+use Rattle.model.specs.declared.CapacityRule.the-variants.{Weak}
 use Rattle.model.specs.declared.Version.{Version}
 use Rattle.model.specs.declared.Version.the-variants.{One, Two}
 use Rattle.model.specs.Refusals.{carriesBy, carries}
 use Rattle.model.specs.RefusalTables.{Table, row, _then_, each, Reads, oneEachTable, markingTable, missingTable, modeTable}
 use Rattle.model.specs.Numbers.{ℕ∞, fin, ∞, Above, aboveBy, leastOfAll, limit}
 use Rattle.model.specs.Nets.{NetArc, PNet, total, pairs, modes, modeNo, K, count, arcNo, row as modeRow}
-use Rattle.model.specs.Firing.{fired}
+use Rattle.model.specs.Firing.{roomFor, fired}
 use Rattle.model.specs.Complement.{complement}
 use Rattle.model.specs.Figures.{figure, change}
 use Rattle.heads.specs.Layout.{sheetEnd, version}
@@ -74,6 +75,10 @@ module _ (net : PNet) (ts : List Mode) (m : List ℕ) where
   abbrev summedPost : ℕ → ℕ
   summedPost p = total (map (λ t. modeRow net t p .post) ts)
 
+  -- "P1's steps take the rule with summed Pre and Post"
+  abbrev room : ℕ → ℕ∞
+  room p = roomFor (net .rule) (K net p) (summedPre p)
+
   abbrev leastInhibitor : ℕ → ℕ∞
   leastInhibitor p = leastOfAll (map (λ t. modeRow net t p .inhibitor) ts)
 
@@ -81,10 +86,10 @@ module _ (net : PNet) (ts : List Mode) (m : List ℕ) where
   stepTable =
       row ((length ts ≡ 0) ⊎ (64 < length ts)) (carries 4 3 0)
       then each (length ts) (λ i. missingTable 3 net (member i))
-      -- "summed Pre ≤ M, M + summed Post ≤ K, and M ≤ the least I of its members"
+      -- "summed Pre ≤ M, M + summed Post ≤ K, and M ≤ the least I of its members"; "12 reads by the rule in force"
       then each (pairs net) (λ p. row (count m p < summedPre p) (carriesBy 11 3 p (summedPre p - count m p)))
       then each (pairs net) (λ p.
-      row (Above (count m p + summedPost p) (K net p)) (carriesBy 12 3 p (aboveBy (count m p + summedPost p) (K net p))))
+      row (Above (count m p + summedPost p) (room p)) (carriesBy 12 3 p (aboveBy (count m p + summedPost p) (room p))))
       then each (pairs net) (λ p.
       row ((i : ℕ) × (i < length ts) × Above (count m p) (modeRow net (member i) p .inhibitor))
       (carriesBy 13 3 p (aboveBy (count m p) (leastInhibitor p))))
@@ -157,12 +162,13 @@ module _ (net : List ℕ) where
   abbrev pub complementTable : ℕ → Table
   complementTable room = wholeNetTable net then roomTable net room
 
-  -- a conversion: "2 to a sheet of its target version", before the fields, where any call has 2; then what any call refuses of the net; "10 to a
-  -- short output"
+  -- a conversion: "2 to a sheet of its target version", before the fields, where any call has 2; then what any call refuses of the net; "Converting a rule-1 sheet to
+  -- version 1 is always refused by 23, before 10."; "10 to a short output"
   abbrev pub convertTable : Version → Version → ℕ → Table
   convertTable source target room =
       headTable 0 net (version net ≢ versionNumber source)
       then wholeNetTable net
+      then row ((target ≡ One) × (netOf net .rule ≡ Weak)) (carries 23 0 0)
       then row (room < length (convertedSheet target net)) (carries 10 0 0)
 
   -- an audit: what complementing refuses where there is room for its sheet, "then 17 for the marking and 17 for the complement's marking"

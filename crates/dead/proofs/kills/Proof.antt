@@ -1,19 +1,25 @@
--- Pre is looked at first, then Post.
+-- By document 01's rule, then by the net's own.
 use borrow.Author.Needs.{needs}
+use borrow.Author.Tests.{not-true}
+use mathlib.Core.Path.{sym, _∙_}
+use Rattle.fields.specs.Numbers.{bound}
+use Rattle.sheets.specs.Decoded.{netOf, netArc}
+use Rattle.opened.proofs.Shapes.{shaped}
+use Rattle.dead.proofs.Bounds.{spared}
 use Rattle.dead.proofs.kills.Statement.{statement}
 use Rattle.dead.proofs.kills.Tie as tie
 
 returns : tie.Need-returns
 returns c =
-    let highest = c .before .before in
-    rw (← highest .before .capacity .ensures, ← highest .highest-pre .ensures, ← c .before .above-bound .ensures, c .if1 .taken)
+    let start = c .before .before .before .before .before .args in
+    let most = c .before .before .capacity .result in
+    rw (← c .before .before .capacity .ensures)
+    (sym (spared (netOf (start .s .now) .rule) (netArc (start .arc) .entry) (bound most) (sym (c .before .kills-by .ensures) ∙ not-true _ (c .if1 .taken))))
 
 returns-2 : tie.Need-returns-2
 returns-2 c =
-    let highest = c .before .before .before in
-    rw (← highest .before .capacity .ensures, ← highest .highest-pre .ensures, ← c .before .before .above-bound .ensures, c .before .if1 .left)
-    (c .above-bound2 .ensures)
+    let capacity = c .before .before .before in
+    rw (← shaped (capacity .before .before .before .pre .0) .rule, ← capacity .capacity .ensures) (c .kills-by2 .ensures)
 
 pub kills-spec : {M : Type 1} → statement M
-kills-spec =
-    tie.close (tie.spec (λ c κs. search needs) (λ c κs. search needs) (λ c κs. search needs) returns (λ c κs. search needs) returns-2)
+kills-spec = tie.close (tie.spec (λ c κs. search needs) (λ c κs. search needs) returns (λ c κs. search needs) returns-2)
