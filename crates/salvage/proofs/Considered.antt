@@ -1,5 +1,5 @@
 -- The modes considered: where they stand, how many they are, and the first of them.
-use Prim.Native.Nat.{ℕ, _≤_, _<_}
+use Prim.Native.Nat.{ℕ, _-_, _/_, _≤_, _<_, min}
 use mathlib.Core.Path.{_≡_, refl, sym, _∙_, ap}
 use mathlib.Core.List.{List}
 use mathlib.Core.Option.{none}
@@ -11,7 +11,7 @@ use Rattle.model.specs.Nets.{modeNo}
 use Rattle.model.specs.Lists.{table}
 use Rattle.model.proofs.First.{left-none, right-none, only-if-none}
 use Rattle.model.proofs.Tables.{table-length, table-at}
-use Rattle.heads.specs.Layout.{bodyLength, version, movementsAt}
+use Rattle.heads.specs.Layout.{bodyLength, sheetEnd, version, movementsAt}
 use Rattle.lists.specs.Movements.{mostMovements}
 use Rattle.sheets.specs.Listed.{modeAt, modesFrom, ModesStand}
 use Rattle.sheets.proofs.Lists.{modes-from-length}
@@ -37,6 +37,10 @@ take-table d k n f h =
     (λ i b. let i<k : i < k = omega arith in getD-take k (table n f) i d i<k ∙ table-at n f d i (omega arith) ∙ sym (table-at k f d i i<k))
 
 module _ (s : List ℕ) where
+  pub considered-are : (end n : ℕ) → end ≡ min (sheetEnd s) (length s) → n ≡ min 8192 ((end - 5) / 2) → n ≡ considered s
+  unfolding considered
+  considered-are end n e q = omega arith
+
   pub modes-are : modesIn s ≡ modesFrom s movementsAt (considered s)
   unfolding modesIn modesFrom modeAt
   modes-are = refl
