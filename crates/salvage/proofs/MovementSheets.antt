@@ -28,7 +28,7 @@ use Rattle.written.proofs.Sections.{table-is, section-length, section-each, sec
 use Rattle.written.proofs.Puts.{part-is}
 use Rattle.salvage.specs.MovementSheet.{listedBytes, movementSheet}
 use Rattle.salvage.specs.Salvaged.{considered, modesIn, sheetOfFirst}
-use Rattle.salvage.specs.Promises.{WrittenThenRead, ReadThenWritten}
+use Rattle.salvage.specs.Promises.{ListWrittenThenRead, ListReadThenWritten}
 use Rattle.salvage.proofs.Considered.{first-long, first-modes}
 
 listed-length : (t : Mode) → length (listedBytes t) ≡ 2
@@ -120,8 +120,8 @@ module _ (s : List ℕ) (modes : List Mode) (few : length modes ≤ mostMovement
       none-then (none-then (head-accepts (omega (arith, length-read))) fields-accept)
       (rw (le-ltb (sheetEnd s) (length s) (omega (arith, length-read))))
 
-pub written-then-read : WrittenThenRead
-written-then-read modes few each =
+pub list-written-then-read : ListWrittenThenRead
+list-written-then-read modes few each =
     let sheet = movementSheet modes in
     record {
       accepted = whole-accepts sheet modes few (stands-self sheet) (sheet-length modes);
@@ -151,8 +151,8 @@ listed s e =
       few = ltb-false _ _ (only-if-none _ _ (right-none _ _ fields));
     }
 
-pub read-then-written : ReadThenWritten
-read-then-written s bytes e =
+pub list-read-then-written : ListReadThenWritten
+list-read-then-written s bytes e =
     let is = listed s e in
     let count = modes-from-length s movementsAt (movementCount s) in
     rw (movements-are s)

@@ -35,9 +35,9 @@ use Rattle.salvage.specs.declared.Report.{Report}
 use Rattle.salvage.specs.declared.Salvaged.the-variants.{Written}
 use Rattle.salvage.specs.MovementSheet.{movementSheet}
 use Rattle.salvage.specs.Salvaged.{damagedRefusal, considered, modesIn, salvaged, output, trial, kept, report, freshSheet, salvageRefusal}
-use Rattle.salvage.specs.Promises.{AllBytes, ReadBack, RunStops, Salvages, SalvagedRuns, WholeComesBack}
+use Rattle.salvage.specs.Promises.{AllBytes, ListBack, RunStops, Salvages, SalvagedRuns, WholeComesBack}
 use Rattle.salvage.proofs.Considered.{modes-are, modes-length, first-modes, most-considered}
-use Rattle.salvage.proofs.MovementSheets.{written-then-read, read-then-written, Listed, listed}
+use Rattle.salvage.proofs.MovementSheets.{list-written-then-read, list-read-then-written, Listed, listed}
 use Rattle.salvage.proofs.Answers.{kept-part, first-length, roomy}
 
 -- a list that leads to m′, and one movement more that is refused there
@@ -55,11 +55,11 @@ module _ (s : List ℕ) (bytes : AllBytes s) where
       let byte = every-byte s bytes in
       rw (modes-from-at s movementsAt k (modeNo 0) i h) (omega (arith, byte (movementAt i), byte (movementAt i + 1)))
 
-  first-back : (k : ℕ) → k ≤ considered s → ReadBack (take k (modesIn s))
+  first-back : (k : ℕ) → k ≤ considered s → ListBack (take k (modesIn s))
   first-back k h =
       let long = modes-from-length s movementsAt k in
       rw (first-modes s k h)
-      (written-then-read (modesFrom s movementsAt k) (omega (arith, long, most-considered s)) (λ i l. small k i (omega (arith, long))))
+      (list-written-then-read (modesFrom s movementsAt k) (omega (arith, long, most-considered s)) (λ i l. small k i (omega (arith, long))))
 
 -- a run of a sheet as written, from the first marking
 module _ (net : List ℕ) (accepted : wholeNet net ≡ none) where
@@ -67,7 +67,7 @@ module _ (net : List ℕ) (accepted : wholeNet net ≡ none) where
   unfolding beforeRun
   sheet-begins s e = none-then accepted (none-then e (marking-test (netOf net) (netOf net .start) .1 (start-marks net accepted)))
 
-  sheet-runs : (modes : List Mode) → ReadBack modes → runOf net (movementSheet modes) (netOf net .start) .refusal ≡ run (netOf net) modes (netOf net .start) .refusal
+  sheet-runs : (modes : List Mode) → ListBack modes → runOf net (movementSheet modes) (netOf net .start) .refusal ≡ run (netOf net) modes (netOf net .start) .refusal
   unfolding runOf
   sheet-runs modes back = rw (sheet-begins (movementSheet modes) (back .accepted), back .same) refl
 
@@ -90,14 +90,14 @@ module _ (net : List ℕ) (accepted : wholeNet net ≡ none) where
     unfolding trial
     next-refused h = runs (netOf net) (modesIn s) (netOf net .start) .refused (rw modes-length h)
 
-    back : ReadBack (take k (modesIn s))
+    back : ListBack (take k (modesIn s))
     back = first-back s bytes k (kept-part net s)
 
     -- the first dropped mode added
     abbrev oneMore : List Mode
     oneMore = take k (modesIn s) ++ getD (modesIn s) k (modeNo 0) ∷ []
 
-    more-back : k < considered s → ReadBack oneMore
+    more-back : k < considered s → ListBack oneMore
     more-back h = rw (← take-suc (modesIn s) k (modeNo 0) (rw modes-length h)) (first-back s bytes (suc k) (omega arith))
 
     more-stops : (o : Option Refusal) → trial net s .refusal ≡ o → k < considered s → (r : Refusal) × (answer o ≡ answers.Refused r) × RunStops net oneMore r
@@ -126,7 +126,7 @@ module _ (net : List ℕ) (accepted : wholeNet net ≡ none) where
         }
 
 -- a report is told only where nothing is refused
-report-told : (o : Option Refusal) {x y : Report} → Written x ≡ salvaged o y → (o ≡ none) × (x ≡ y)
+pub report-told : (o : Option Refusal) {x y : Report} → Written x ≡ salvaged o y → (o ≡ none) × (x ≡ y)
 report-told none e = (refl, cc)
 report-told (some r) e = let z : _≡_ {A = ℕ} 0 1 = cc in absurd (omega arith)
 
@@ -141,7 +141,23 @@ salvaged-runs net s out left told bytes allows =
     subst (λ told. Salvages net s (take (told .length) left) told) (sym (accepted .1))
     (rw written (salvages net (left-none _ _ (accepted .0)) s bytes))
 
--- a sheet that is whole and runs whole
+-- a sheet that is whole: all its modes are considered, and nothing of it is refused
+module _ (s : List ℕ) (e : wholeMovements s ≡ none) where
+  is : Listed s
+  is = listed s e
+
+  pub all-considered : considered s ≡ movementCount s
+  unfolding considered
+  all-considered = omega (arith, is .long, is .even, is .few)
+
+  pub same-modes : modesIn s ≡ movementsOf s
+  same-modes = modes-are s ∙ ap (modesFrom s movementsAt) all-considered ∙ sym (movements-are s)
+
+  pub not-damaged : damagedRefusal s ≡ none
+  unfolding damagedRefusal _▸_
+  not-damaged = rw (le-ltb (length s) 5 (omega (arith, is .long, is .even)), ne-eqb (bodyLength s) 0 (λ z. omega (arith, is .even)), eq-eqb (version s) 1 (is .version)) refl
+
+-- .. and that runs whole
 module _ (net s : List ℕ) (bytes : AllBytes s) (e : runOf net s (netOf net .start) .refusal ≡ none) where
   begun : beforeRun net s (netOf net .start) ≡ none
   begun = runs-leave net s (netOf net .start) .whole .0 e .0
@@ -154,19 +170,9 @@ module _ (net s : List ℕ) (bytes : AllBytes s) (e : runOf net s (netOf net .st
   unfolding beforeRun
   sheet-accepted = left-none _ _ (right-none (wholeNet net) _ begun)
 
-  is : Listed s
-  is = listed s sheet-accepted
-
-  all-considered : considered s ≡ movementCount s
-  unfolding considered
-  all-considered = omega (arith, is .long, is .even, is .few)
-
-  same-modes : modesIn s ≡ movementsOf s
-  same-modes = modes-are s ∙ ap (modesFrom s movementsAt) all-considered ∙ sym (movements-are s)
-
   none-stops : trial net s .refusal ≡ none
   unfolding trial runOf
-  none-stops = rw same-modes (rw begun at e)
+  none-stops = rw (same-modes s sheet-accepted) (rw begun at e)
 
   all-kept : kept net s ≡ length (modesIn s)
   all-kept = kept-whole net net-accepted s bytes .0 none-stops ∙ sym (modes-length s)
@@ -174,23 +180,19 @@ module _ (net s : List ℕ) (bytes : AllBytes s) (e : runOf net s (netOf net .st
   fresh-is : freshSheet net s ≡ s
   fresh-is =
       ap (λ k. movementSheet (take k (modesIn s))) all-kept
-      ∙ ap movementSheet (take-length (modesIn s) ∙ same-modes)
-      ∙ sym (read-then-written s bytes sheet-accepted)
-
-  not-damaged : damagedRefusal s ≡ none
-  unfolding damagedRefusal _▸_
-  not-damaged = rw (le-ltb (length s) 5 (omega (arith, is .long, is .even)), ne-eqb (bodyLength s) 0 (λ z. omega (arith, is .even)), eq-eqb (version s) 1 (is .version)) refl
+      ∙ ap movementSheet (take-length (modesIn s) ∙ same-modes s sheet-accepted)
+      ∙ sym (list-read-then-written s bytes sheet-accepted)
 
   none-refused : (room : ℕ) → length s ≤ room → salvageRefusal net s room ≡ none
   unfolding salvageRefusal
   none-refused room h =
       let part = kept-part net s in
-      none-then net-accepted (none-then not-damaged (roomy s (kept net s) part (omega (arith, first-length s (kept net s) part, ap length fresh-is))))
+      none-then net-accepted (none-then (not-damaged s sheet-accepted) (roomy s (kept net s) part (omega (arith, first-length s (kept net s) part, ap length fresh-is))))
 
   report-is : record { length = length s; kept = length (movementsOf s); dropped = 0; stop = answers.Accepted } ≡ report net s
   report-is =
       let long : length s ≡ length (freshSheet net s) = ap length (sym fresh-is) in
-      let many : length (movementsOf s) ≡ kept net s = ap length (sym same-modes) ∙ sym all-kept in
+      let many : length (movementsOf s) ≡ kept net s = ap length (sym (same-modes s sheet-accepted)) ∙ sym all-kept in
       let fewer : 0 ≡ report net s .dropped = omega (arith, all-kept, modes-length s) in
       let stop : answers.Accepted ≡ report net s .stop = ap answer (sym none-stops) in
       λ i. record { length = long i; kept = many i; dropped = fewer i; stop = stop i }

@@ -24,15 +24,15 @@ abbrev pub AllBytes : List ℕ → Type 0
 AllBytes s = (i : ℕ) → i < length s → byteAt s i < 256
 
 -- Both directions of a movement sheet. A list that is written can be read back, and an accepted sheet is the sheet of the list that was read from it.
-pub record ReadBack (modes : List Mode) : Type 0 where
+pub record ListBack (modes : List Mode) : Type 0 where
   pub accepted : wholeMovements (movementSheet modes) ≡ none
   pub same : movementsOf (movementSheet modes) ≡ modes
 
-abbrev pub WrittenThenRead : Type 0
-WrittenThenRead = (modes : List Mode) → length modes ≤ mostMovements → ((k : ℕ) → k < length modes → getD modes k (modeNo 0) .0 < 65536) → ReadBack modes
+abbrev pub ListWrittenThenRead : Type 0
+ListWrittenThenRead = (modes : List Mode) → length modes ≤ mostMovements → ((k : ℕ) → k < length modes → getD modes k (modeNo 0) .0 < 65536) → ListBack modes
 
-abbrev pub ReadThenWritten : Type 0
-ReadThenWritten = (s : List ℕ) → AllBytes s → wholeMovements s ≡ none → s ≡ movementSheet (movementsOf s)
+abbrev pub ListReadThenWritten : Type 0
+ListReadThenWritten = (s : List ℕ) → AllBytes s → wholeMovements s ≡ none → s ≡ movementSheet (movementsOf s)
 
 -- A sheet with these modes is accepted, and a run of it from the net's first marking stops by r.
 pub record RunStops (net : List ℕ) (modes : List Mode) (r : Refusal) : Type 0 where
