@@ -59,8 +59,7 @@ CALLS = {
     "salvage_stop": (81, "net", "movements"),
 }
 
-sheets = dict(limits.SHEETS, **versions.SHEETS, **stripping.SHEETS, **{name: (top / f"examples/refit/{file}.sheet").read_bytes() for name, file in (("refit", "net"), ("blasted", "blasted"))})
-sheets = dict(limits.SHEETS, **versions.SHEETS, **damaged.SHEETS, refit=(top / "examples/refit/net.sheet").read_bytes())
+sheets = dict(limits.SHEETS, **versions.SHEETS, **stripping.SHEETS, **damaged.SHEETS, **{name: (top / f"examples/refit/{file}.sheet").read_bytes() for name, file in (("refit", "net"), ("blasted", "blasted"))})
 markings = dict(limits.MARKINGS)
 cases = []
 

@@ -65,8 +65,10 @@ stripped-kept net p out h = go (strippingRefusal net p (length out)) h
     go : (o : Option Refusal) → stripping.told (stripped o (length sheet)) .carried .number ≢ 0 → stripping.output o sheet out ≡ out
     go none h = absurd (h refl)
     go (some r) h = refl
+
 salvaged-kept : (net damaged out : List ℕ) → salvaging.told (salvaging.salvageOf net damaged out) .carried .number ≢ 0 → salvaging.outputOf net damaged out ≡ out
 salvaged-kept net damaged out h = go (salvaging.salvageRefusal net damaged (length out)) (salvaging.report net damaged) h
+  where
     go : (o : Option Refusal) (report : Report) → salvaging.told (salvaging.salvaged o report) .carried .number ≢ 0
         → salvaging.output o (salvaging.freshSheet net damaged) out ≡ out
     go none report h = absurd (h refl)
