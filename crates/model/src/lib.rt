@@ -62,6 +62,8 @@ pub enum Fault {
     EndsElsewhere(Pair),
     Unbalanced(Mode),
     EqualFigures,
+    FigurePast,
+    RecordOutside,
 }
 
 pub struct Refusal {
