@@ -1,12 +1,12 @@
 -- One ship into the record: the chain of its refusals, and what 25 leaves of a record.
 use Prim.Native.Nat.{ℕ, _+_, _≤_, _<_}
 use mathlib.Core.Path.{_≡_, refl, sym, _∙_, ap}
-use mathlib.Core.Bool.{Bool, true, false, _||_}
+use mathlib.Core.Bool.{Bool, true, false, false≢true, true≢false, _||_}
 use mathlib.Core.Option.{Option, none, some}
 use lib.Dec.{ltb}
 use lib.IntN.{ℤ, pos, negsuc, natAbs}
 use native.Mathlib.Omega.{arith}
-use borrow.Author.Tests.{ltb-false, lt-ltb, le-ltb}
+use borrow.Author.Tests.{ltb-true, ltb-false, lt-ltb, le-ltb}
 use Rattle.model.specs.declared.Thing.the-variants.{Net, Argument}
 use Rattle.model.specs.declared.Fault.the-variants.{CountOutside, FigurePast, RecordOutside}
 use Rattle.model.specs.declared.Refusal.{Refusal}
@@ -16,6 +16,7 @@ use Rattle.model.specs.First.{_▸_}
 use Rattle.model.specs.Nets.{pairs}
 use Rattle.model.specs.Refusals.{wrong, answer}
 use Rattle.model.proofs.Both.{or-neither}
+use Rattle.model.proofs.Decisions.{Decided}
 use Rattle.model.proofs.First.{none-then, some-then}
 use Rattle.sheets.specs.Whole.{wholeNet, wholeWeights, wholeMovements}
 use Rattle.sheets.specs.Decoded.{netOf}
@@ -23,12 +24,17 @@ use Rattle.fleet.specs.declared.Fleet.{Fleet}
 use Rattle.fleet.specs.declared.Entered.{Entered}
 use Rattle.fleet.specs.declared.voyage.Voyage.{Voyage}
 use Rattle.fleet.specs.Ships.{Ship, voyageOf, withVoyage}
-use Rattle.fleet.specs.Calls.{mostFigure, isPast, isOutside, isOutOfBounds, isTooHeavy, recordRefusal, roomRefusal, figureRefusal, shipRefusal, enteredBy, entered}
-use Rattle.fleet.specs.Parts.{InBounds}
+use Rattle.fleet.specs.Calls.{mostFigure, isPast, isOutside, isOutOfBounds, Figure, Past, InBounds, isTooHeavy, recordRefusal, roomRefusal, figureRefusal, shipRefusal, enteredBy, entered}
 
-inside : (z : ℤ) → isOutside z ≡ false → natAbs z ≤ mostFigure
-inside (pos n) e = ltb-false mostFigure n (or-neither (ltb n 0) _ e .1)
+inside : (z : ℤ) → isOutside z ≡ false → Figure z
+inside (pos n) e = (n, refl, ltb-false mostFigure n (or-neither (ltb n 0) _ e .1))
 inside (negsuc n) e = let f : _≡_ {A = ℕ} 0 1 = cc in absurd (omega arith)
+
+not-outside : {z : ℤ} → Figure z → isOutside z ≡ false
+not-outside h = rw (h .1, le-ltb (h .0) 0 (omega arith), le-ltb mostFigure (h .0) (h .2))
+
+pub figure-size : {z : ℤ} → Figure z → natAbs z ≤ mostFigure
+figure-size h = rw (h .1) (h .2)
 
 pub within : (f : Fleet) → isOutOfBounds f ≡ false → InBounds f
 within f e =
@@ -51,6 +57,40 @@ within f e =
       added = inside (f .added) (a .1);
       removed = inside (f .removed) (r .1);
     }
+
+pub not-out : (f : Fleet) → InBounds f → isOutOfBounds f ≡ false
+not-out f held =
+    rw (
+      le-ltb 1000 (f .ships) (held .ships),
+      le-ltb 8192000 (f .movements) (held .movements),
+      le-ltb 1000 (f .by6) (held .by6),
+      le-ltb 1000 (f .by11) (held .by11),
+      le-ltb 1000 (f .by12) (held .by12),
+      le-ltb 1000 (f .by13) (held .by13),
+      le-ltb 1000 (f .by14) (held .by14),
+      not-outside (held .added),
+      not-outside (held .removed),
+    )
+
+-- the tests of 25 and of 24 decide what they say
+pub by-bounds : (f : Fleet) → Decided (isOutOfBounds f) (¬ InBounds f)
+by-bounds f =
+    record {
+      sound = λ e held. true≢false (sym e ∙ not-out f held);
+      complete = λ out. go (isOutOfBounds f) refl out;
+    }
+  where
+    go : (b : Bool) → isOutOfBounds f ≡ b → ¬ InBounds f → isOutOfBounds f ≡ true
+    go true e out = e
+    go false e out = absurd (out (within f e))
+
+pub by-past : (z : ℤ) → Decided (isPast z) (Past z)
+by-past (pos n) =
+    record {
+      sound = λ e. (n, refl, ltb-true mostFigure n e);
+      complete = λ h. lt-ltb mostFigure n (let same : n ≡ h .0 = cc (h .1) in omega (arith, h .2));
+    }
+by-past (negsuc n) = record { sound = λ e. absurd (false≢true e); complete = λ h. let f : _≡_ {A = ℕ} 0 1 = cc (h .1) in absurd (omega arith) }
 
 module _ (f : Fleet) where
   pub record-stops : isOutOfBounds f ≡ true → recordRefusal f ≡ some (wrong Net RecordOutside)

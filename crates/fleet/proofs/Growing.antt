@@ -7,7 +7,7 @@ use mathlib.Core.Option.{Option, none, some}
 use lib.Dec.{eqb}
 use lib.IntN.{ℤ, pos, negsuc, _+ℤ_}
 use native.Mathlib.Omega.{arith}
-use borrow.Author.Tests.{ltb-false, le-ltb}
+use borrow.Author.Tests.{ltb-false}
 use Rattle.model.specs.declared.Refusal.{Refusal}
 use Rattle.model.proofs.Both.{or-neither}
 use Rattle.model.proofs.First.{left-none, right-none, only-if-none}
@@ -18,7 +18,7 @@ use Rattle.sheets.proofs.Lists.{movements-within}
 use Rattle.fleet.specs.declared.Fleet.{Fleet}
 use Rattle.fleet.specs.declared.voyage.Voyage.{Voyage}
 use Rattle.fleet.specs.Ships.{Ship, shipAdded, shipRemoved, voyageOf, refusedBy, withVoyage}
-use Rattle.fleet.specs.Calls.{isPast, isOutside, isOutOfBounds, roomRefusal, figureRefusal, shipRefusal, entered}
+use Rattle.fleet.specs.Calls.{mostFigure, isPast, Figure, InBounds, roomRefusal, figureRefusal, shipRefusal, entered}
 use Rattle.fleet.specs.Promises.{zeros, afterAll}
 
 pub record Grown (f : Fleet) : Type 0 where
@@ -29,8 +29,8 @@ pub record Grown (f : Fleet) : Type 0 where
   pub by12 : f .by12 ≤ f .ships
   pub by13 : f .by13 ≤ f .ships
   pub by14 : f .by14 ≤ f .ships
-  pub added : isOutside (f .added) ≡ false
-  pub removed : isOutside (f .removed) ≡ false
+  pub added : Figure (f .added)
+  pub removed : Figure (f .removed)
 
 pub grown-zeros : Grown zeros
 grown-zeros =
@@ -42,8 +42,8 @@ grown-zeros =
       by12 = omega arith;
       by13 = omega arith;
       by14 = omega arith;
-      added = refl;
-      removed = refl;
+      added = (0, refl, omega arith);
+      removed = (0, refl, omega arith);
     }
 
 at-most-one : (n : ℕ) (v : Voyage) → refusedBy n v ≤ 1
@@ -54,9 +54,8 @@ at-most-one n v = go (eqb _ n)
     go false = omega arith
 
 -- a figure that grows, and is not past 10^18
-still-inside : (z : ℤ) (n : ℕ) → isOutside z ≡ false → isPast (z +ℤ pos n) ≡ false → isOutside (z +ℤ pos n) ≡ false
-still-inside (pos a) n e p = rw (le-ltb (a + n) 0 (omega arith), p)
-still-inside (negsuc a) n e p = let f : _≡_ {A = ℕ} 0 1 = cc in absurd (omega arith)
+still-inside : {z : ℤ} (n : ℕ) → Figure z → isPast (z +ℤ pos n) ≡ false → Figure (z +ℤ pos n)
+still-inside n h p = (h .0 + n, rw (h .1), ltb-false mostFigure (h .0 + n) (rw (h .1) at p))
 
 module _ (f : Fleet) (s : Ship) (grown : Grown f) (e : shipRefusal f s ≡ none) where
   grown-more : Grown (withVoyage f (voyageOf s))
@@ -75,8 +74,8 @@ module _ (f : Fleet) (s : Ship) (grown : Grown f) (e : shipRefusal f s ≡ none)
         by12 = omega (arith, grown .by12, at-most-one 12 (voyageOf s));
         by13 = omega (arith, grown .by13, at-most-one 13 (voyageOf s));
         by14 = omega (arith, grown .by14, at-most-one 14 (voyageOf s));
-        added = still-inside (f .added) (shipAdded s) (grown .added) (heavy .0);
-        removed = still-inside (f .removed) (shipRemoved s) (grown .removed) (heavy .1);
+        added = still-inside (shipAdded s) (grown .added) (heavy .0);
+        removed = still-inside (shipRemoved s) (grown .removed) (heavy .1);
       }
 
 grown-entered : (f : Fleet) (s : Ship) → Grown f → Grown (entered f s .fleet)
@@ -92,16 +91,16 @@ unfolding afterAll
 grown-after f [] grown = grown
 grown-after f (s ∷ ships) grown = grown-after (entered f s .fleet) ships (grown-entered f s grown)
 
-pub grown-within : (f : Fleet) → Grown f → isOutOfBounds f ≡ false
-grown-within f grown =
-    rw (
-      le-ltb 1000 (f .ships) (grown .ships),
-      le-ltb 8192000 (f .movements) (omega (arith, grown .movements, grown .ships)),
-      le-ltb 1000 (f .by6) (omega (arith, grown .by6, grown .ships)),
-      le-ltb 1000 (f .by11) (omega (arith, grown .by11, grown .ships)),
-      le-ltb 1000 (f .by12) (omega (arith, grown .by12, grown .ships)),
-      le-ltb 1000 (f .by13) (omega (arith, grown .by13, grown .ships)),
-      le-ltb 1000 (f .by14) (omega (arith, grown .by14, grown .ships)),
-      grown .added,
-      grown .removed,
-    )
+pub grown-within : {f : Fleet} → Grown f → InBounds f
+grown-within grown =
+    record {
+      ships = grown .ships;
+      movements = omega (arith, grown .movements, grown .ships);
+      by6 = omega (arith, grown .by6, grown .ships);
+      by11 = omega (arith, grown .by11, grown .ships);
+      by12 = omega (arith, grown .by12, grown .ships);
+      by13 = omega (arith, grown .by13, grown .ships);
+      by14 = omega (arith, grown .by14, grown .ships);
+      added = grown .added;
+      removed = grown .removed;
+    }

@@ -83,7 +83,7 @@ fleet-statement ships =
       totalled = is;
       balances = balance is;
       few = omega (arith, grown .ships, ap (λ (f : Fleet). f .ships) is);
-      inBounds = grown-within (afterAll zeros ships) grown;
+      inBounds = grown-within grown;
     }
   where
     balance : afterAll zeros ships ≡ totals (counted zeros ships)

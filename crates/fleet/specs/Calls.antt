@@ -1,7 +1,8 @@
 -- One ship into a record that the caller lends: what is refused, and what the record is after it.
 -- "Refusals: 25 for a lent record with ships or a refusal count above 1,000, movements above 8,192,000, or a figure below 0 or above 10^18; 4 for ship 1,001;
 -- those of the sheets; then 24 where a figure would pass 10^18."
-use Prim.Native.Nat.{ℕ, _+_}
+use Prim.Native.Nat.{ℕ, _+_, _≤_, _<_}
+use mathlib.Core.Path.{_≡_}
 use mathlib.Core.Bool.{Bool, _||_}
 use mathlib.Core.Option.{Option, none, some}
 use lib.Dec.{ltb}
@@ -33,6 +34,24 @@ abbrev pub isOutOfBounds : Fleet → Bool
 isOutOfBounds f =
     ltb 1000 (f .ships) || ltb 8192000 (f .movements) || ltb 1000 (f .by6) || ltb 1000 (f .by11) || ltb 1000 (f .by12) || ltb 1000 (f .by13)
     || ltb 1000 (f .by14) || isOutside (f .added) || isOutside (f .removed)
+
+-- the same as propositions: a figure that is neither below 0 nor above 10^18, one that is above, and a record that 25 does not refuse
+abbrev pub Figure : ℤ → Type 0
+Figure z = (n : ℕ) × (z ≡ pos n) × (n ≤ mostFigure)
+
+abbrev pub Past : ℤ → Type 0
+Past z = (n : ℕ) × (z ≡ pos n) × (mostFigure < n)
+
+pub record InBounds (f : Fleet) : Type 0 where
+  pub ships : f .ships ≤ 1000
+  pub movements : f .movements ≤ 8192000
+  pub by6 : f .by6 ≤ 1000
+  pub by11 : f .by11 ≤ 1000
+  pub by12 : f .by12 ≤ 1000
+  pub by13 : f .by13 ≤ 1000
+  pub by14 : f .by14 ≤ 1000
+  pub added : Figure (f .added)
+  pub removed : Figure (f .removed)
 
 -- 25, of the record as it was found
 unfoldable pub recordRefusal : Fleet → Option Refusal

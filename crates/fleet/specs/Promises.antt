@@ -1,7 +1,6 @@
 -- What is promised of a fleet statement. The terms stand in proofs/Totals.antt.
 use Prim.Native.Nat.{_≤_}
 use mathlib.Core.Path.{_≡_}
-use mathlib.Core.Bool.{false}
 use mathlib.Core.List.{List, [], _∷_}
 use mathlib.Core.Option.{Option, none, some}
 use lib.ListN.{length}
@@ -9,7 +8,7 @@ use lib.IntN.{ℤ, pos, _+ℤ_, _-ℤ_}
 use Rattle.model.specs.declared.Refusal.{Refusal}
 use Rattle.fleet.specs.declared.Fleet.{Fleet}
 use Rattle.fleet.specs.Ships.{Ship, startFigure, lastFigure, totals}
-use Rattle.fleet.specs.Calls.{isOutOfBounds, shipRefusal, entered}
+use Rattle.fleet.specs.Calls.{InBounds, shipRefusal, entered}
 
 -- "a record of zeros"
 abbrev pub zeros : Fleet
@@ -42,8 +41,8 @@ pub record Stated (ships : List Ship) : Type 0 where
   pub balances : sumOf startFigure (counted zeros ships) +ℤ (afterAll zeros ships .added -ℤ afterAll zeros ships .removed) ≡ sumOf lastFigure (counted zeros ships)
   -- "At most 1,000 ships"
   pub few : length (counted zeros ships) ≤ 1000
-  -- no ship finds a record that 25 refuses
-  pub inBounds : isOutOfBounds (afterAll zeros ships) ≡ false
+  -- no record leaves its bounds, so that no ship finds one that 25 refuses
+  pub inBounds : InBounds (afterAll zeros ships)
 
 abbrev pub FleetStatement : Type 0
 FleetStatement = (ships : List Ship) → Stated ships

@@ -10,8 +10,8 @@ ghost use lib.Dec.{eqb};
 ghost use lib.IntN.{natAbs, _+ℤ_};
 ghost use Rattle.model.specs.Refusals.{number};
 ghost use Rattle.fleet.specs.Ships.{withVoyage};
-ghost use Rattle.fleet.specs.Calls.{mostFigure};
-ghost use Rattle.fleet.specs.Parts.{InBounds, Light, heaviest};
+ghost use Rattle.fleet.specs.Calls.{Figure, InBounds};
+ghost use Rattle.fleet.specs.Parts.{Light, heaviest};
 
 fn number_of(answer: Answer) -> u64
     ensures { λ r. ⌜ r ≡ number answer ⌝ }
@@ -36,7 +36,7 @@ fn raise(count: u64, number: u64, counted: u64) -> u64
 
 // The sum may pass 10^18, and does not wrap: 24 is tested after it.
 fn add_figure(figure: i64, more: i64) -> i64
-    requires { ⌜ natAbs figure ≤ mostFigure ⌝ }
+    requires { ⌜ Figure figure ⌝ }
     requires { ⌜ natAbs more ≤ heaviest ⌝ }
     ensures { λ r. ⌜ r ≡ figure +ℤ more ⌝ }
 {

@@ -24,8 +24,7 @@ ghost use Rattle.sheets.specs.Whole.{wholeWeights, wholeMovements};
 ghost use Rattle.sheets.specs.Decoded.{netOf};
 ghost use Rattle.opened.specs.Shape.{Open};
 ghost use Rattle.fleet.specs.Ships.{ship};
-ghost use Rattle.fleet.specs.Calls.{figureRefusal, enteredBy, entered};
-ghost use Rattle.fleet.specs.Parts.{InBounds};
+ghost use Rattle.fleet.specs.Calls.{InBounds, figureRefusal, enteredBy, entered};
 ghost use Rattle.fleet.specs.Contracts.{AddShipAllows};
 
 // "one running record that the caller lends": ships counted, movements accepted, movements refused by each number, kilograms added and removed.

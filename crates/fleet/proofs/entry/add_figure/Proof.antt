@@ -7,6 +7,7 @@ use mir.Facts.{toZ-ofZ}
 use native.Mathlib.Omega.{arith}
 use Rattle.model.proofs.Integers.{size-add}
 use Rattle.weigh.proofs.Sizes.{fits-size}
+use Rattle.fleet.proofs.Entering.{figure-size}
 use Rattle.fleet.proofs.entry.add_figure.Statement.{statement}
 use Rattle.fleet.proofs.entry.add_figure.Tie as tie
 use Rattle.fleet.proofs.entry.add_figure.Reads as reads
@@ -17,7 +18,7 @@ module _ (c : lts.Start reads.Pre reads.Post) where
   read = rw (toZ-ofZ (c .fits .figure), toZ-ofZ (c .fits .more))
 
   sum-fits : SFits w64 (c .args .figure +ℤ c .args .more)
-  sum-fits = fits-size w64 (c .args .figure +ℤ c .args .more) (omega (arith, size-add (c .args .figure) (c .args .more), c .pre .0, c .pre .1))
+  sum-fits = fits-size w64 (c .args .figure +ℤ c .args .more) (omega (arith, size-add (c .args .figure) (c .args .more), figure-size (c .pre .0), c .pre .1))
 
 add-result : tie.Need-add-result
 add-result c = rw (read c) (sum-fits c)

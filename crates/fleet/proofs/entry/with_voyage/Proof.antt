@@ -6,6 +6,13 @@ use Rattle.fleet.specs.Ships.{withVoyage}
 use Rattle.fleet.proofs.entry.with_voyage.Statement.{statement}
 use Rattle.fleet.proofs.entry.with_voyage.Tie as tie
 
+add-figure-requires : tie.Need-add-figure-requires
+add-figure-requires c κs =
+    let start = c .before .before .before .before .before .before .before .before .before .before in (
+      rw (toZ-ofZ {w = w64} (record { sfits = c .before .struct-told .given .1 .1 .1 .1 .1 .1 .1 .0 .1 })) (start .pre .0 .added),
+      rw (toZ-ofZ {w = w64} (record { sfits = c .struct-told2 .given .1 .1 .0 .1 })) (start .pre .1 .added),
+    )
+
 add-figure-requires-2 : tie.Need-add-figure-requires-2
 add-figure-requires-2 c κs =
     let start = c .before .before .before .before .before .before .before .before .before .before .before .before .before in (
@@ -48,4 +55,4 @@ pub with-voyage-spec : {M : Type 1} → statement M
 with-voyage-spec =
     tie.close
     (tie.spec (λ c κs. search needs) (λ c. search needs) (λ c. search needs) (λ c κs. search needs) (λ c κs. search needs) (λ c κs. search needs) (λ c κs. search needs)
-    (λ c κs. search needs) (λ c κs. search needs) add-figure-requires-2 returns)
+    (λ c κs. search needs) add-figure-requires add-figure-requires-2 returns)
