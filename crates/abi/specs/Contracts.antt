@@ -19,6 +19,9 @@ use Rattle.size.specs.Sizes as size
 use Rattle.complement.specs.Complemented as complement
 use Rattle.convert.specs.Converted as convert
 use Rattle.audit.specs.Audits as audit
+use Rattle.fleet.specs.declared.Fleet.{Fleet}
+use Rattle.fleet.specs.Ships.{ship}
+use Rattle.fleet.specs.Calls.{entered}
 use Rattle.statement.specs.Replay.{stated, statedIn}
 use Rattle.answers.specs.declared.Answered.{Answered}
 use Rattle.answers.specs.declared.Counted.{Counted}
@@ -93,6 +96,10 @@ module _ (net : List ℕ) where
 
   abbrev pub AuditAllows : List ℕ → List ℕ → Audited → Type 0
   AuditAllows marking beside told = told ≡ audited (audit.told (audit.auditedOf net marking beside))
+
+abbrev pub FleetAddAllows : Fleet → List ℕ → List ℕ → List ℕ → Answered × Fleet → Type 0
+FleetAddAllows found net weights movements o =
+    (o .0 ≡ answered (entered found (ship net weights movements) .answer)) × (o .1 ≡ entered found (ship net weights movements) .fleet)
 
 abbrev pub StatementAllows : List ℕ → List ℕ → Counted × List ℕ → Type 0
 StatementAllows input out o = (o .0 ≡ counted (textTold (stated input out))) × (o .1 ≡ statedIn input out)

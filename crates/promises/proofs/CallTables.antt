@@ -54,12 +54,16 @@ use Rattle.fire.specs.Calls.{beginRefusal, testRefusal}
 use Rattle.run.specs.Calls.{beforeRun, runOf, certifyRefusal}
 use Rattle.step.specs.Calls.{stepModes, testStepRefusal}
 use Rattle.weigh.specs.Calls.{figureRefusal, changeRefusal}
+use Rattle.fleet.specs.declared.Fleet.{Fleet}
+use Rattle.fleet.specs.Ships.{Ship, voyageOf, withVoyage}
+use Rattle.fleet.specs.Calls.{recordRefusal, roomRefusal as shipRoom, figureRefusal as shipFigures, shipRefusal}
+use Rattle.fleet.proofs.Entering.{by-bounds, by-past}
 use Rattle.exclude.specs.Calls.{excludeRefusal}
 use Rattle.dead.specs.IsDead.{deadRefusal}
 use Rattle.complement.specs.Complemented.{complementSheet, roomRefusal, complementingRefusal}
 use Rattle.convert.specs.Converted.{ofVersion, convertedSheet, tooShort, convertRefusal}
 use Rattle.audit.specs.Audits.{auditingRefusal}
-use Rattle.promises.specs.CallTables.{bytesLeft, wholeNetTable, wholeWeightTable, wholeMovementTable, markingAfter, movesTable, certificateTable, stepTable, roomTable, convertTable, RunReads, CallTables, claimTable}
+use Rattle.promises.specs.CallTables.{bytesLeft, wholeNetTable, wholeWeightTable, wholeMovementTable, markingAfter, movesTable, certificateTable, stepTable, roomTable, convertTable, RunReads, CallTables, claimTable, addShipTable}
 
 -- a sheet's table, then left-over bytes
 whole-reads : (thing : Thing) (s : List ℕ) {table : Table} {o : Option Refusal} → Reads table o → Reads (table then bytesLeft (thingNumber thing) s) (o ▸ bytesAfter thing s)
@@ -171,6 +175,16 @@ claim-reads net weights claim =
     reads-then (reads-each (modes net) (λ t l. reads-plain _ (by-not (by-same (change net weights (modeNo t)) (pos 0)))))
     (reads-plain _ (by-same (figure net weights claim) (figure net weights (net .start))))
 
+-- a ship: the record, the room for it, its sheets, then the figures
+ship-reads : (found : Fleet) (s : Ship) → Reads (addShipTable found s) (shipRefusal found s)
+unfolding shipRefusal recordRefusal shipRoom shipFigures withVoyage voyageOf
+ship-reads found s =
+    reads-then (reads-plain _ (by-bounds found))
+    (reads-then (reads-plain _ (by-less 1000 (found .ships + 1)))
+    (reads-then (net-reads (s .net))
+    (reads-then (weights-reads (pairs (netOf (s .net))) (s .weights))
+    (reads-then (movements-reads (s .movements)) (reads-plain _ (by-or (by-past _) (by-past _)))))))
+
 -- complementing
 by-finite : (x : ℕ∞) → Decided (finite x) ((i : ℕ) × (x ≡ fin i))
 by-finite (fin i) = record { sound = λ _. (i, refl); complete = λ _. refl }
@@ -271,6 +285,7 @@ call-tables =
           reads-then (net-reads net) (reads-then (weights-reads (pairs (netOf net)) weights) (refusal-table .marking (netOf net) marking));
       change = λ net weights t.
           reads-then (net-reads net) (reads-then (weights-reads (pairs (netOf net)) weights) (missing-reads Argument (netOf net) t));
+      addShip = ship-reads;
       exclude = λ net weights claim.
           reads-then (net-reads net)
           (reads-then (weights-reads (pairs (netOf net)) weights)

@@ -11,6 +11,7 @@ use Rattle.promises.proofs.ArcsVisited.{visit-frauds}
 use Rattle.promises.proofs.StepFrauds.{first-member-alone}
 use Rattle.promises.proofs.AuditFrauds.{always-in-step}
 use Rattle.promises.proofs.Exclusion.{exclusion-frauds}
+use Rattle.promises.proofs.FleetOfCalls.{fleet-frauds}
 
 pub frauds : Frauds
 frauds =
@@ -26,4 +27,5 @@ frauds =
       stepping = first-member-alone;
       auditing = always-in-step;
       excluding = exclusion-frauds;
+      counting = fleet-frauds;
     }
