@@ -173,9 +173,9 @@ def sheet(fields, version=1):
     return struct.pack(">IB", 1 + len(fields), version) + fields
 
 
-def encode_net(colours, modes, pairs, arcs, version=1):
-    """The bytes alone, arcs in their order, with nothing checked: for tests of what the engine refuses. In version 2 an arc whose mode is not
-    there has no place, and is left out."""
+def encode_net(colours, modes, pairs, arcs, version=1, rule=0):
+    """The bytes alone, arcs in their order, with nothing checked: for tests of what the engine refuses. Version 2 alone has a rule byte,
+    and there an arc whose mode is not there has no place, and is left out."""
     fields = struct.pack(">HH", len(colours), len(modes))
     fields += b"".join(struct.pack(">H", count) for count in colours + modes)
     fields += b"".join(struct.pack(">II", *pair) for pair in pairs)
@@ -185,8 +185,7 @@ def encode_net(colours, modes, pairs, arcs, version=1):
     for mode in range(sum(modes)):
         own = [arc[1:] for arc in sorted(arcs) if arc[0] == mode]
         fields += struct.pack(">H", len(own)) + b"".join(struct.pack(">HIII", *arc) for arc in own)
-    rule = b"\0"
-    return sheet(rule + fields, 2)
+    return sheet(bytes([rule]) + fields, 2)
 
 
 def encode_weights(kilograms):

@@ -6,7 +6,9 @@
 
 A list has, each with its lines below it, indented; `#` starts a comment, which says where an expected value stands:
 
-    net NAME            places (colours of each), transitions (modes of each), `pair 0: K 5, first 3`, `mode 0, pair 0: Pre 1, Post 0, I 4`
+    net NAME            places (colours of each), transitions (modes of each), `pair 0: K 5, first 3`, `mode 0, pair 0: Pre 1, Post 0, I 4`; with `rule 1`, its rule byte, a
+                        sheet of version 2
+    bytes NAME          a sheet, written out in hexadecimal
     weights, movements, marking NAME: numbers
     case NAME           `call fire, net P1, marking 3 1, mode 0`, of a step `modes 0 1` or `modes 65 times 0`, of an audit `beside 3 1 2`, the complement's
                         marking; what it answers, `accepted` or
@@ -87,8 +89,9 @@ def parse_net(name, lines):
         else:
             word, *numbers = line.split()
             given[word] = [int(n) for n in numbers]
+    version = dict(version=2, rule=given.pop("rule")[0]) if "rule" in given else {}
     assert len(given) == 2 and sum(given["places"]) == len(pairs), lines
-    sheets[name] = net(given["places"], given["transitions"], pairs, arcs)
+    sheets[name] = net(given["places"], given["transitions"], pairs, arcs, **version)
 
 
 def pack(numbers):
@@ -163,6 +166,8 @@ def parse(block):
     name, _, numbers = name.partition(":") if kind in ("weights", "movements", "marking") else (name, "", "")
     if kind == "net":
         parse_net(name, lines)
+    elif kind == "bytes":
+        sheets[name] = bytes.fromhex(" ".join(lines))
     elif kind == "marking":
         markings[name] = counts(" ".join([numbers, *lines]))
     elif kind in ("weights", "movements"):

@@ -4,7 +4,7 @@ use mathlib.Core.Path.{_≡_, refl, sym, _∙_, ap}
 use mathlib.Core.List.{List, _++_, append-assoc, append-nil, flatten}
 use lib.ListN.{length}
 use native.Mathlib.Omega.{arith}
-use Rattle.model.specs.Nets.{PNet, modes}
+use Rattle.model.specs.Nets.{PNet, ruleNumber, modes}
 use Rattle.model.specs.Complement.{complement}
 use Rattle.model.specs.declared.Version.{Version}
 use Rattle.model.specs.declared.Version.the-variants.{One, Two}
@@ -60,10 +60,10 @@ module _ {s : List ℕ} {net : NetShape} (o : Open s net) {of : Sizes} (are : Si
     pub length-is : size - 4 ≡ lengthOf (net .version) (complement (netOf s))
     length-is = omega (arith, size-is, sheet-length (net .version) (complement (netOf s)))
 
--- a net that was read has rule 0, and its complement the same
-pub rule-is : {s : List ℕ} {net : NetShape} → Open s net → 0 ≡ complement (netOf s) .rule
+-- the complement keeps the rule
+pub rule-is : {s : List ℕ} {net : NetShape} → Open s net → ruleNumber (net .rule) ≡ ruleNumber (complement (netOf s) .rule)
 unfolding complement
-rule-is o = sym (sizes o .wellFormed .rule)
+rule-is o = ap ruleNumber (shaped o .rule)
 
 -- of the sheet that the call speaks of
 pub sheet-is : {s : List ℕ} {net : NetShape} → Open s net → sheetOf (net .version) (complement (netOf s)) ≡ complementSheet s

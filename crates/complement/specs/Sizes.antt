@@ -14,7 +14,7 @@ use Rattle.model.specs.declared.Answer.{Answer}
 use Rattle.model.specs.declared.Answer.the-variants.{Accepted, Refused}
 use Rattle.model.specs.declared.Version.{Version}
 use Rattle.model.specs.First.{_▸_, onlyIf}
-use Rattle.model.specs.Nets.{PNet, pairs}
+use Rattle.model.specs.Nets.{PNet, ruleNumber, pairs}
 use Rattle.model.specs.Complement.{complement}
 use Rattle.model.specs.Refusals.{wrong}
 use Rattle.written.specs.Puts.{sheetSize}
@@ -50,7 +50,7 @@ firstOf (Refused r) that = Refused r
 
 -- "a 4-byte length L .., a version byte ..; Place count ..; transition count"
 abbrev pub countsBytes : Version → PNet → List ℕ
-countsBytes v net = headBytes v (net .rule) (lengthOf v net) ++ (bytes16 (length (net .colours)) ++ bytes16 (length (net .modesOf)))
+countsBytes v net = headBytes v (ruleNumber (net .rule)) (lengthOf v net) ++ (bytes16 (length (net .colours)) ++ bytes16 (length (net .modesOf)))
 
 -- "colours of each place ..; modes of each transition ..; for each pair K and the first marking"
 abbrev pub recordsBytes : PNet → List ℕ

@@ -60,7 +60,8 @@ fn put_counts(s: &[u8], net: NetShape, sizes: Sizes, out: &mut [u8]) -> usize
         net.modes,
         sizes.arcs,
     );
-    let at_places = put_head(out, version, 0, size);
+    let rule = net.rule;
+    let at_places = put_head(out, version, rule, size);
     let at_transitions = put_count(out, at_places, sizes.places);
     put_count(out, at_transitions, net.transitions)
 }

@@ -12,13 +12,19 @@ use Rattle.model.specs.declared.Thing.the-variants.{Net}
 use Rattle.model.specs.declared.Fault.the-variants.{WrongVersion, NoRoom}
 use Rattle.model.specs.declared.Refusal.{Refusal}
 use Rattle.model.specs.declared.Version.{Version}
+use Rattle.model.specs.declared.Version.the-variants.{One, Two}
+use Rattle.model.specs.declared.CapacityRule.{CapacityRule}
+use Rattle.model.specs.declared.CapacityRule.the-variants.{Strong, Weak}
 use Rattle.model.specs.Refusals.{wrong}
 use Rattle.model.proofs.First.{then-assoc, then-under, none-then, some-then, left-none, right-none, only-if-none}
 use Rattle.heads.specs.Layout.{version}
 use Rattle.heads.specs.Version.{versionOf}
+use Rattle.heads.specs.Rule.{ruleOf}
 use Rattle.heads.specs.Checks.{headRefusal}
 use Rattle.nets.specs.Nets.{netRefusal}
 use Rattle.sheets.specs.Whole.{wholeNet}
+use Rattle.sheets.specs.Decoded.{netOf}
+use Rattle.sheets.proofs.Meaning.{rule-is}
 use Rattle.opened.specs.declared.shape.NetShape.{NetShape}
 use Rattle.opened.specs.declared.Opened.the-variants as opening
 use Rattle.opened.specs.Opened.{opened}
@@ -27,7 +33,7 @@ use Rattle.written.specs.Puts.{Puts}
 use Rattle.written.proofs.Puts.{from-start}
 use Rattle.written.proofs.Versions.{version-is}
 use Rattle.convert.specs.declared.Converted.the-variants.{Length, Refused}
-use Rattle.convert.specs.Converted.{ofVersion, convertedSheet, tooShort, converted, output}
+use Rattle.convert.specs.Converted.{ofVersion, convertedSheet, lostRule, tooShort, openRefusal, converted, output}
 
 module _ (v : Version) (s : List ℕ) where
   -- a sheet of the version that is read, and one of another
@@ -55,15 +61,27 @@ pub opens-none : {o : Option Refusal} {r : Refusal} (net : NetShape) → o ≡ s
 unfolding opened
 opens-none net e = rw e refl
 
--- 10, and where there is room
-module _ (target : Version) (s : List ℕ) {room : ℕ} where
-  pub short : room < length (convertedSheet target s) → tooShort target s room ≡ some (wrong Net NoRoom)
-  unfolding tooShort
-  short h = rw (lt-ltb room (length (convertedSheet target s)) h) refl
+-- 23 is for version 1 and the weak rule alone, and what has been read of a version can be written in it
+pub kept : (v : Version) (rule : CapacityRule) → lostRule v rule ≡ none → v ≡ One → rule ≡ Strong
+unfolding lostRule
+kept v Strong e q = refl
+kept One Weak e q = let z : _≡_ {A = ℕ} 0 1 = cc in absurd (omega arith)
+kept Two Weak e q = let z : _≡_ {A = ℕ} 0 1 = cc in absurd (omega arith)
 
-  pub roomy : length (convertedSheet target s) ≤ room → tooShort target s room ≡ none
-  unfolding tooShort
-  roomy h = rw (le-ltb room (length (convertedSheet target s)) h) refl
+pub own-rule : (v : Version) (s : List ℕ) → versionOf s ≡ v → lostRule v (netOf s .rule) ≡ none
+unfolding lostRule ruleOf
+own-rule One s e = rw (rule-is s, e) refl
+own-rule Two s e = refl
+
+-- 10 where the rule is kept, and where there is room
+module _ (target : Version) (s : List ℕ) {room : ℕ} where
+  pub short : lostRule target (netOf s .rule) ≡ none → room < length (convertedSheet target s) → openRefusal target s room ≡ some (wrong Net NoRoom)
+  unfolding openRefusal tooShort
+  short k h = none-then k (rw (lt-ltb room (length (convertedSheet target s)) h) refl)
+
+  pub roomy : lostRule target (netOf s .rule) ≡ none → length (convertedSheet target s) ≤ room → openRefusal target s room ≡ none
+  unfolding openRefusal tooShort
+  roomy k h = none-then k (rw (le-ltb room (length (convertedSheet target s)) h) refl)
 
 -- a refusal, with nothing written, and a sheet from the first byte on
 pub refused : {o : Option Refusal} {r : Refusal} (n : ℕ) (sheet found : List ℕ) → o ≡ some r → (Refused r ≡ converted o n) × (found ≡ output o sheet found)

@@ -6,7 +6,7 @@ use lib.ListN.{length, length-append}
 use native.Mathlib.Omega.{arith}
 use Rattle.model.specs.declared.Version.{Version}
 use Rattle.model.specs.Lists.{joined}
-use Rattle.model.specs.Nets.{PNet, pairs}
+use Rattle.model.specs.Nets.{PNet, ruleNumber, pairs}
 use Rattle.heads.specs.Bytes.{byteAt}
 use Rattle.heads.specs.Layout.{fieldsAt}
 use Rattle.heads.specs.Version.{versionOf}
@@ -30,18 +30,17 @@ module _ (v : Version) (net : PNet) where
   unfolding commonBytes flatten
   fields-parts = simp (append-assoc, append-nil)
 
-  pub sheet-parts : sheetOf v net ≡ headBytes v (net .rule) (lengthOf v net) ++ (commonBytes net ++ sectionBytes v net)
+  pub sheet-parts : sheetOf v net ≡ headBytes v (ruleNumber (net .rule)) (lengthOf v net) ++ (commonBytes net ++ sectionBytes v net)
   unfolding sheetOf
-  sheet-parts = ap (λ fields. headBytes v (net .rule) (lengthOf v net) ++ fields) fields-parts
+  sheet-parts = ap (λ fields. headBytes v (ruleNumber (net .rule)) (lengthOf v net) ++ fields) fields-parts
 
 common-length : (net : PNet) → length (commonBytes net) ≡ 4 + 2 * length (net .colours) + 2 * length (net .modesOf) + 8 * pairs net
 unfolding commonBytes bytes16
 common-length net = simp length-append (omega (arith, counts-section (net .colours), counts-section (net .modesOf), pairs-section net))
 
 module _ {s : List ℕ} {net : NetShape} (o : Open s net) where
-  -- a net that was read has rule 0
-  pub rule-is : 0 ≡ netOf s .rule
-  rule-is = sym (sizes o .wellFormed .rule)
+  pub rule-is : ruleNumber (net .rule) ≡ ruleNumber (netOf s .rule)
+  rule-is = ap ruleNumber (shaped o .rule)
 
   ordered : ByMode (netOf s)
   ordered = by-mode (netOf s) (sizes o .wellFormed)

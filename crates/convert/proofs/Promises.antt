@@ -8,7 +8,7 @@ use lib.Seq.{take-at}
 use native.Mathlib.Omega.{arith}
 use Rattle.model.specs.declared.Refusal.{Refusal}
 use Rattle.model.specs.declared.Version.{Version}
-use Rattle.model.proofs.First.{left-none, none-then}
+use Rattle.model.proofs.First.{left-none, right-none, none-then}
 use Rattle.heads.specs.Bytes.{byteAt}
 use Rattle.nets.specs.Nets.{netRefusal}
 use Rattle.sheets.specs.Whole.{wholeNet}
@@ -19,9 +19,9 @@ use Rattle.written.specs.Promises.{ReadBack}
 use Rattle.written.proofs.Versions.{number-is, version-is}
 use Rattle.written.proofs.RoundTrip.{known-holds, read-then-written, written-then-read}
 use Rattle.convert.specs.declared.Converted.the-variants.{Length}
-use Rattle.convert.specs.Converted.{ofVersion, convertedSheet, convertRefusal, converted, output, conversionOf, outputOf}
+use Rattle.convert.specs.Converted.{ofVersion, lostRule, convertedSheet, openRefusal, convertRefusal, converted, output, conversionOf, outputOf}
 use Rattle.convert.specs.Promises.{SourceOnly, ConvertedReads, Returned, ThereAndBack}
-use Rattle.convert.proofs.Answers.{read-on, stops, read-whole, read-version, roomy}
+use Rattle.convert.proofs.Answers.{read-on, stops, read-whole, read-version, kept, own-rule, roomy}
 
 pub source-only : SourceOnly
 unfolding wholeNet netRefusal
@@ -33,8 +33,8 @@ source-only =
 
 pub converted-reads : ConvertedReads
 unfolding wholeNet
-converted-reads source target s e =
-    let back : ReadBack target (netOf s) = written-then-read target (netOf s) (well-formed s (left-none _ _ (read-whole source s e))) in
+converted-reads source target s e k =
+    let back : ReadBack target (netOf s) = written-then-read target (netOf s) (well-formed s (left-none _ _ (read-whole source s e))) (kept target (netOf s .rule) k) in
     record {
       version = back .version;
       accepted = back .accepted;
@@ -48,15 +48,23 @@ length-told none e = (refl, cc)
 length-told (some r) e = let z : _≡_ {A = ℕ} 0 1 = cc in absurd (omega arith)
 
 module _ (source target : Version) (s : List ℕ) (bytes : (i : ℕ) → i < length s → byteAt s i < 256) (e : ofVersion source s ≡ none) where
-  sheet-back : convertedSheet source (convertedSheet target s) ≡ s
-  sheet-back =
-      ap (sheetOf source) (converted-reads source target s e .same)
+  sheet-back : lostRule target (netOf s .rule) ≡ none → convertedSheet source (convertedSheet target s) ≡ s
+  sheet-back k =
+      ap (sheetOf source) (converted-reads source target s e k .same)
       ∙ ap (λ v. sheetOf v (netOf s)) (sym (read-version source s e))
       ∙ sym (read-then-written s bytes (read-whole source s e))
 
-  accepts-back : (room : ℕ) → length s ≤ room → convertRefusal target source (convertedSheet target s) room ≡ none
+  accepts-back : lostRule target (netOf s .rule) ≡ none → (room : ℕ) → length s ≤ room → convertRefusal target source (convertedSheet target s) room ≡ none
   unfolding convertRefusal
-  accepts-back room h = none-then (converted-reads source target s e .back) (roomy source (convertedSheet target s) (omega (arith, ap length sheet-back)))
+  accepts-back k room h =
+      let reads = converted-reads source target s e k in
+      let own = ap (λ net. lostRule source (net .rule)) (reads .same) ∙ own-rule source s (read-version source s e) in
+      none-then (reads .back) (roomy source (convertedSheet target s) own (omega (arith, ap length (sheet-back k))))
+
+  -- where a length is told the rule was kept
+  told-kept : (out : List ℕ) (n : ℕ) → Length n ≡ conversionOf source target s out → lostRule target (netOf s .rule) ≡ none
+  unfolding convertRefusal openRefusal
+  told-kept out n told = left-none _ _ (right-none (ofVersion source s) _ (length-told (convertRefusal source target s (length out)) told .0))
 
   taken : (out left : List ℕ) (n : ℕ) → Length n ≡ conversionOf source target s out → left ≡ outputOf source target s out → take n left ≡ convertedSheet target s
   taken out left n told is =
@@ -69,7 +77,8 @@ module _ (source target : Version) (s : List ℕ) (bytes : (i : ℕ) → i < len
       record {
         sheet = sheet-back;
         calls = λ out back left n h told is.
-            rw (taken out left n told is, accepts-back (length back) h, sheet-back) (refl, refl);
+            let k = told-kept out n told in
+            rw (taken out left n told is, accepts-back k (length back) h, sheet-back k) (refl, refl);
       }
 
 pub there-and-back : ThereAndBack

@@ -1,5 +1,6 @@
 -- The conversions of a net sheet: what they answer, and what they leave in the output slice.
 -- Document 02, P9: "Add conversion from 1 to 2 and back"; "a conversion answers 2 to a sheet of its target version and 10 to a short output".
+-- P10: "Converting a rule-1 sheet to version 1 is always refused by 23, before 10."
 use Prim.Native.Nat.{ℕ}
 use mathlib.Core.Bool.{not}
 use mathlib.Core.List.{List, _++_}
@@ -7,9 +8,12 @@ use mathlib.Core.Option.{Option, none, some}
 use lib.Dec.{eqb, ltb}
 use lib.ListN.{length, drop}
 use Rattle.model.specs.declared.Thing.the-variants.{Net}
-use Rattle.model.specs.declared.Fault.the-variants.{WrongVersion, NoRoom}
+use Rattle.model.specs.declared.Fault.the-variants.{WrongVersion, NoRoom, RuleLost}
 use Rattle.model.specs.declared.Refusal.{Refusal}
 use Rattle.model.specs.declared.Version.{Version}
+use Rattle.model.specs.declared.Version.the-variants.{One, Two}
+use Rattle.model.specs.declared.CapacityRule.{CapacityRule}
+use Rattle.model.specs.declared.CapacityRule.the-variants.{Strong, Weak}
 use Rattle.model.specs.First.{_▸_, onlyIf}
 use Rattle.model.specs.Refusals.{wrong}
 use Rattle.model.specs.Replies.{Reply, yields, refuses}
@@ -31,12 +35,22 @@ ofVersion v s =
 abbrev pub convertedSheet : Version → List ℕ → List ℕ
 convertedSheet target s = sheetOf target (netOf s)
 
+-- 23: version 1 has no rule byte
+unfoldable pub lostRule : Version → CapacityRule → Option Refusal
+lostRule One Strong = none
+lostRule One Weak = some (wrong Net RuleLost)
+lostRule Two rule = none
+
 -- "10 to a short output"
 unfoldable pub tooShort : Version → List ℕ → ℕ → Option Refusal
 tooShort target s room = onlyIf (ltb room (length (convertedSheet target s))) (wrong Net NoRoom)
 
+-- of a sheet that has been read
+unfoldable pub openRefusal : Version → List ℕ → ℕ → Option Refusal
+openRefusal target s room = lostRule target (netOf s .rule) ▸ tooShort target s room
+
 unfoldable pub convertRefusal : Version → Version → List ℕ → ℕ → Option Refusal
-convertRefusal source target s room = ofVersion source s ▸ tooShort target s room
+convertRefusal source target s room = ofVersion source s ▸ openRefusal target s room
 
 -- the first refusal, if there is one, or the length written
 abbrev pub converted : Option Refusal → ℕ → Converted

@@ -14,14 +14,14 @@ use Rattle.heads.specs.Version.{versionOf}
 use Rattle.sheets.specs.Whole.{wholeNet}
 use Rattle.sheets.specs.Decoded.{netOf}
 use Rattle.convert.specs.declared.Converted.the-variants.{Length}
-use Rattle.convert.specs.Converted.{ofVersion, convertedSheet, conversionOf, outputOf}
+use Rattle.convert.specs.Converted.{ofVersion, lostRule, convertedSheet, conversionOf, outputOf}
 
 -- "a conversion answers 2 to a sheet of its target version", and takes every sheet of its source version that another call takes
 pub record SourceOnly : Type 0 where
   pub own : (v : Version) (s : List ℕ) → versionOf s ≡ v → ofVersion v s ≡ wholeNet s
   pub other : (v : Version) (s : List ℕ) → versionOf s ≢ v → wholeNet s ≡ none → ofVersion v s ≡ some (wrong Net (WrongVersion 4))
 
--- what is written is a whole sheet of the target version that is read as the same net, by the other conversion too
+-- what is written is a whole sheet of the target version that is read as the same net, its rule included, by the other conversion too
 pub record SameNet (target : Version) (s : List ℕ) : Type 0 where
   pub version : versionOf (convertedSheet target s) ≡ target
   pub accepted : wholeNet (convertedSheet target s) ≡ none
@@ -29,11 +29,11 @@ pub record SameNet (target : Version) (s : List ℕ) : Type 0 where
   pub same : netOf (convertedSheet target s) ≡ netOf s
 
 abbrev pub ConvertedReads : Type 0
-ConvertedReads = (source target : Version) (s : List ℕ) → ofVersion source s ≡ none → SameNet target s
+ConvertedReads = (source target : Version) (s : List ℕ) → ofVersion source s ≡ none → lostRule target (netOf s .rule) ≡ none → SameNet target s
 
 -- "with the old bytes returned exactly": of two conversions, there and back, both calls included
 pub record Returned (source target : Version) (s : List ℕ) : Type 0 where
-  pub sheet : convertedSheet source (convertedSheet target s) ≡ s
+  pub sheet : lostRule target (netOf s .rule) ≡ none → convertedSheet source (convertedSheet target s) ≡ s
   pub calls : (out back left : List ℕ) (n : ℕ) → length s ≤ length back
       → Length n ≡ conversionOf source target s out → left ≡ outputOf source target s out
       → (Length (length s) ≡ conversionOf target source (take n left) back) × (s ++ drop (length s) back ≡ outputOf target source (take n left) back)

@@ -4,7 +4,9 @@ mod sheet;
 
 use crate::sheet::put_sheet;
 use heads::head::read_head;
+use heads::head::refused;
 use model::Answer;
+use model::CapacityRule;
 use model::Fault;
 use model::Refusal;
 use model::Thing;
@@ -15,10 +17,11 @@ use opened::shape::NetShape;
 use written::sheet_size;
 ghost use mathlib.Core.Path.{_≡_};
 ghost use lib.ListN.{length};
+ghost use Rattle.model.specs.Refusals.{answer};
 ghost use Rattle.opened.specs.Shape.{shapeOf, Open};
 ghost use Rattle.opened.specs.Opened.{opened};
 ghost use Rattle.written.specs.Written.{versionNumber};
-ghost use Rattle.convert.specs.Converted.{ofVersion, convertedSheet, tooShort, converted, output, conversionOf, outputOf};
+ghost use Rattle.convert.specs.Converted.{ofVersion, lostRule, convertedSheet, openRefusal, converted, output, conversionOf, outputOf};
 ghost use Rattle.convert.specs.Contracts.{ToVersion1Allows, ToVersion2Allows};
 
 // How many bytes were written, or why none.
@@ -53,12 +56,30 @@ fn open_version(s: &[u8], source: Version) -> Opened
     open_net(s)
 }
 
-// "10 to a short output", or the sheet of the same net.
+// "Converting a rule-1 sheet to version 1 is always refused by 23."
+fn keep_rule(target: Version, rule: CapacityRule) -> Answer
+    ensures { λ r. ⌜ r ≡ answer (lostRule target rule) ⌝ }
+{
+    match target {
+        Version::Two => Answer::Accepted,
+        Version::One => match rule {
+            CapacityRule::Strong => Answer::Accepted,
+            CapacityRule::Weak => refused(Thing::Net, Fault::RuleLost),
+        },
+    }
+}
+
+// 23, then "10 to a short output", or the sheet of the same net.
 fn convert_open(s: &[u8], net: NetShape, target: Version, out: &mut [u8]) -> Converted
     requires { ⌜ Open (now s) net ⌝ }
-    ensures { λ r. ⌜ r ≡ converted (tooShort target (now (s .entry)) (length (now (out .entry)))) (length (convertedSheet target (now (s .entry)))) ⌝ }
-    ensures { λ _. ⌜ now (out .exit) ≡ output (tooShort target (now (s .entry)) (length (now (out .entry)))) (convertedSheet target (now (s .entry))) (now (out .entry)) ⌝ }
+    ensures { λ r. ⌜ r ≡ converted (openRefusal target (now (s .entry)) (length (now (out .entry)))) (length (convertedSheet target (now (s .entry)))) ⌝ }
+    ensures { λ _. ⌜ now (out .exit) ≡ output (openRefusal target (now (s .entry)) (length (now (out .entry)))) (convertedSheet target (now (s .entry))) (now (out .entry)) ⌝ }
 {
+    let rule = net.rule;
+    let kept = keep_rule(target, rule);
+    if let Answer::Refused(refusal) = kept {
+        return Converted::Refused(refusal);
+    }
     let size = sheet_size(
         target,
         net.places,

@@ -37,7 +37,7 @@ fn put_section(s: &[u8], net: NetShape, version: Version, out: &mut [u8], at: us
     put_groups(s, net, &starts, version, out, next)
 }
 
-// "In version 2 a rule byte, 0 for now, follows the version.": every net that was read has rule 0.
+// The head, with the net's rule where the version has a rule byte, then the other two parts.
 pub(crate) fn put_sheet(
     s: &[u8],
     net: NetShape,
@@ -50,7 +50,8 @@ pub(crate) fn put_sheet(
     requires { ⌜ Room (now out) 0 (sheetOf version (netOf (now s))) ⌝ }
     ensures { λ r. ⌜ Puts (now (out .entry)) 0 (sheetOf version (netOf (now (s .entry)))) (now (out .exit)) r ⌝ }
 {
-    let at_fields = put_head(out, version, 0, size);
+    let rule = net.rule;
+    let at_fields = put_head(out, version, rule, size);
     let at_arcs = put_common(s, net, out, at_fields);
     put_section(s, net, version, out, at_arcs)
 }

@@ -28,8 +28,8 @@ passed-more net start i passed e =
 
 module _ {s : List ℕ} {net : NetShape} where
   -- what is read of the k-th arc is what it says of its mode
-  pub arc-kills : {k : ℕ} {a : Arc} {r : Bool} → ArcIs s net k a → r ≡ kills (netArc a .entry) (K (netOf s) (a .pair .0)) → r ≡ arcKills (netOf s) k
-  arc-kills arc e = e ∙ ap (λ x. kills (x .entry) (K (netOf s) (x .pair .0))) (arc .is)
+  pub arc-kills : {k : ℕ} {a : Arc} {r : Bool} → ArcIs s net k a → r ≡ kills (netOf s .rule) (netArc a .entry) (K (netOf s) (a .pair .0)) → r ≡ arcKills (netOf s) k
+  arc-kills arc e = e ∙ ap (λ x. kills (netOf s .rule) (x .entry) (K (netOf s) (x .pair .0))) (arc .is)
 
   module _ (o : Open s net) (t : Mode) (start count : ℕ) (arcs : ModeArcs (netOf s .arcs) t start count) where
     pub none-kills : Passed (netOf s) start (start + count) → deadPair (netOf s) t ≡ none

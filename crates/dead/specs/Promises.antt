@@ -17,7 +17,7 @@ use Rattle.dead.specs.IsDead as one
 use Rattle.dead.specs.FirstDead.{firstDeadOf}
 use Rattle.dead.specs.FirstDead as first
 
--- 1. The answer is yes exactly when, "at some pair, Pre is above the least of K less Post and I, or Post is above K".
+-- 1. The answer is yes exactly when, "at some pair, Pre is above the least of K less Post and I, or Post is above K", or what the weak rule has for it.
 abbrev pub SaysDead : Type 0
 SaysDead = (net : List ℕ) (t : Mode) → deadRefusal net t ≡ none → (one.told (deadnessOf net t) .value ≡ some true)
     ↔ ((p : ℕ) × (p < pairs (netOf net)) × KillsAt (netOf net) t p)

@@ -1,7 +1,9 @@
-// Locally dead modes: "A mode is locally dead when, at some pair, Pre is above the least of K less Post and I, or Post is above K" (document 01, "Certificate, figure, dead modes").
+// Locally dead modes: "A mode is locally dead when, at some pair, Pre is above the least of K less Post and I, or Post is above K" (document 01, "Certificate, figure, dead modes");
+// by the weak capacity rule "when, at some pair, Pre is above the lesser of K and I, or Post is above K" (document 02, P10).
 use fields::numbers::above_bound;
 use fields::numbers::least;
 use model::Arc;
+use model::CapacityRule;
 use model::Fault;
 use model::Mode;
 use model::Pair;
@@ -23,7 +25,7 @@ ghost use Rattle.model.specs.Numbers.{lessThan, leastOf};
 ghost use Rattle.model.specs.Nets.{modes, modeNo, K};
 ghost use Rattle.model.specs.declared.Thing.the-variants.{Argument};
 ghost use Rattle.model.specs.Firing.{absent};
-ghost use Rattle.model.specs.Dead.{kills as killsHere, isDead, firstDead};
+ghost use Rattle.model.specs.Dead.{preRoom, kills as killsHere, isDead, firstDead};
 ghost use Rattle.fields.specs.Numbers.{bound};
 ghost use Rattle.sheets.specs.Decoded.{netOf, netArc};
 ghost use Rattle.opened.specs.Shape.{Open};
@@ -60,22 +62,36 @@ fn less(capacity: u32, post: u32) -> u32
     capacity - post
 }
 
-// "the least of K less Post and I": the number that means unbounded is the largest of 32 bits.
-fn highest_pre(capacity: u32, post: u32, inhibitor: u32) -> u32
-    ensures { λ r. ⌜ bound r ≡ leastOf (lessThan (bound capacity) post) (bound inhibitor) ⌝ }
+// "K less Post", or "K".
+fn pre_room(rule: CapacityRule, capacity: u32, arc: Arc) -> u32
+    ensures { λ r. ⌜ bound r ≡ preRoom rule (netArc arc .entry) (bound capacity) ⌝ }
 {
-    least(less(capacity, post), inhibitor)
+    match rule {
+        CapacityRule::Strong => less(capacity, arc.post),
+        CapacityRule::Weak => capacity,
+    }
 }
 
-// "Pre is above the least of K less Post and I, or Post is above K", of an arc at its pair.
+// The lesser of that and I: the number that means unbounded is the largest of 32 bits.
+fn highest_pre(room: u32, inhibitor: u32) -> u32
+    ensures { λ r. ⌜ bound r ≡ leastOf (bound room) (bound inhibitor) ⌝ }
+{
+    least(room, inhibitor)
+}
+
+// "Pre is above the least .., or Post is above K", of an arc at its pair.
 fn kills(s: &[u8], net: NetShape, arc: Arc) -> bool
     requires { ⌜ Open (now s) net ⌝ }
     requires { ⌜ arc .pair .0 < net .pairs ⌝ }
-    ensures { λ r. ⌜ r ≡ killsHere (netArc arc .entry) (K (netOf (now (s .entry))) (arc .pair .0)) ⌝ }
+    ensures { λ r. ⌜ r ≡ killsHere (netOf (now (s .entry)) .rule) (netArc arc .entry) (K (netOf (now (s .entry))) (arc .pair .0)) ⌝ }
 {
+    let rule = net.rule;
     let pair = arc.pair;
     let most = capacity(s, net, pair);
-    if above_bound(arc.pre, highest_pre(most, arc.post, arc.inhibitor)) {
+    if above_bound(
+        arc.pre,
+        highest_pre(pre_room(rule, most, arc), arc.inhibitor),
+    ) {
         return true;
     }
     above_bound(arc.post, most)

@@ -8,7 +8,8 @@ use lib.ListN.{length}
 use Rattle.model.specs.declared.Mode.{Mode}
 use Rattle.model.specs.Numbers.{limit}
 use Rattle.model.specs.Nets.{pairs, modes, K, count, row}
-use Rattle.model.specs.Billington.{Enables, Follows}
+use Rattle.model.specs.Billington.{Follows}
+use Rattle.model.specs.Allows.{Allows}
 use Rattle.model.specs.Markings.{Marking, markingRefusal}
 use Rattle.model.specs.Firing.{fired}
 use Rattle.sheets.specs.Whole.{wholeNet}
@@ -19,13 +20,12 @@ use Rattle.fire.specs.Calls.{beginRefusal, begun, testRefusal, firedBy}
 abbrev pub AcceptedBegin : Type 0
 AcceptedBegin = (net marking : List ℕ) → beginRefusal net marking ≡ none → begun net marking ≡ netOf net .start
 
--- test and fire accept exactly where the net and the marking are accepted, the mode is there, source document 000 has it enabled, and no new count is above
--- 1,000,000
+-- test and fire accept exactly where the net and the marking are accepted, the mode is there, the net's rule allows it, and no new count is above 1,000,000
 pub record Fires (net marking : List ℕ) (t : Mode) : Type 0 where
   pub sheet : wholeNet net ≡ none
   pub marked : Marking (netOf net) marking
   pub there : t .0 < modes (netOf net)
-  pub enabled : Enables (pairs (netOf net)) (K (netOf net)) (row (netOf net) t) (count marking)
+  pub enabled : Allows (netOf net .rule) (pairs (netOf net)) (K (netOf net)) (row (netOf net) t) (count marking)
   pub within : (p : ℕ) → p < pairs (netOf net) → count (fired (netOf net) t marking) p ≤ limit
 
 -- an accepted fire leaves the marking that follows from the one found

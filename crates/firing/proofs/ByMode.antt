@@ -14,13 +14,14 @@ use Rattle.model.specs.declared.Answer.{Answer}
 use Rattle.model.specs.declared.Answer.the-variants.{Accepted}
 use Rattle.model.specs.First.{_▸_, first}
 use Rattle.model.specs.Refusals.{answer}
-use Rattle.model.specs.Numbers.{ℕ∞}
-use Rattle.model.specs.Nets.{NetArc, PNet, pairs, count, arcNo, row}
+use Rattle.model.specs.Numbers.{ℕ∞, _≤∞_}
+use Rattle.model.specs.Nets.{NetArc, PNet, pairs, K, count, arcNo, row}
 use Rattle.model.specs.Markings.{markingRefusal}
-use Rattle.model.specs.Firing.{ruleRefusal, rowRefusal, roomAt, fired}
+use Rattle.model.specs.Firing.{ruleRefusal, rowRefusal, rooms, roomAt, fired}
 use Rattle.model.proofs.First.{then-assoc}
 use Rattle.model.proofs.Markings.{marking-test}
 use Rattle.model.proofs.Refusals.{answer-none}
+use Rattle.model.proofs.Rooms.{within-room}
 use Rattle.model.proofs.ByArcs.{Listing, arcs-stop, arcs-accept, writeArcs, write-next, write-length, write-keeps, fired-by-arcs}
 use Rattle.opened.specs.declared.shape.NetShape.{NetShape}
 use Rattle.opened.specs.declared.starts.Segment.{Segment}
@@ -42,10 +43,17 @@ module _ {s : List ℕ} {net : NetShape} {arcs : Segment} {m : List ℕ} (h : At
   abbrev rooms-at : ℕ → ℕ∞
   rooms-at i = roomAt (netOf s) (arcNo (netOf s .arcs) (arcs .start + i))
 
+  -- a count within K has room at each pair
+  within : (p : ℕ) → p < pairs (netOf s) → count m p ≤∞ rooms (netOf s) (row (netOf s) t) p
+  within p l = within-room (netOf s .rule) (K (netOf s) p) (row (netOf s) t p .pre) (count m p) (h .marking .within p l)
+
+  same-room : (i : ℕ) → i < arcs .count → rooms (netOf s) (row (netOf s) t) (arcNo (netOf s .arcs) (arcs .start + i) .pair .0) ≡ rooms-at i
+  same-room i l = rw (listing .written i l)
+
   pub stop-by-arcs : (thing : Thing) (why : Why)
       → stopOf thing why (netOf s) m t ≡ first (arcs .count) (λ i. stopAt thing why (netOf s) m (arcs .start + i))
   unfolding stopAt stopOf
-  stop-by-arcs thing why = arcs-stop listing thing _ (count m) (h .marking .inRange) (h .marking .within) rooms-at (λ i l. refl) why
+  stop-by-arcs thing why = arcs-stop listing thing _ (count m) (h .marking .inRange) within rooms-at same-room why
 
   -- nothing is found exactly when each arc is free
   abbrev Each : Type 0
@@ -53,7 +61,7 @@ module _ {s : List ℕ} {net : NetShape} {arcs : Segment} {m : List ℕ} (h : At
 
   accepts : (thing : Thing) → (refusalOf thing (netOf s) m t ≡ none) ↔ Each
   unfolding Free refusalOf
-  accepts thing = arcs-accept listing thing _ (count m) (h .marking .inRange) (h .marking .within) rooms-at (λ i l. refl)
+  accepts thing = arcs-accept listing thing _ (count m) (h .marking .inRange) within rooms-at same-room
 
   pub one-not-free : {free : Bool} (i : ℕ) → i < arcs .count → (free ≡ true) ↔ Free (netOf s) m (arcs .start + i) → free ≡ false
       → Decides false (netOf s) m t

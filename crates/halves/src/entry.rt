@@ -1,25 +1,33 @@
 // One arc of the complement: what an arc leaves at its own pair, and what it puts at the complement pair.
 use model::Arc;
+use model::CapacityRule;
 use model::Pair;
 use opened::finite::is_finite;
 ghost use mathlib.Core.Path.{_≡_};
 ghost use mathlib.Core.Bool.{cond};
 ghost use Prim.Native.Nat.{_+_, _-_, _≤_, max};
 ghost use Rattle.model.specs.Numbers.{limit};
-ghost use Rattle.model.specs.Complement.{reserve, blank};
+ghost use Rattle.model.specs.Complement.{reserve, claim, blank};
 ghost use Rattle.fields.specs.Numbers.{bound};
 ghost use Rattle.sheets.specs.Decoded.{netArc};
 ghost use Rattle.model.specs.Promises.{onOriginal};
 ghost use Rattle.halves.specs.Entries.{Small, complementAt};
 
+// "a less b, or 0"
+fn less(a: u32, b: u32) -> u32
+    ensures { λ r. ⌜ r ≡ a - b ⌝ }
+{
+    if a < b {
+        return 0;
+    }
+    a - b
+}
+
 // "K less I, or 0 where I ≥ K or unbounded": the number that means unbounded is the largest of 32 bits.
 fn reserved(capacity: u32, inhibitor: u32) -> u32
     ensures { λ r. ⌜ r ≡ reserve capacity (bound inhibitor) ⌝ }
 {
-    if capacity <= inhibitor {
-        return 0;
-    }
-    capacity - inhibitor
+    less(capacity, inhibitor)
 }
 
 fn larger(a: u32, b: u32) -> u32
@@ -46,9 +54,19 @@ pub fn original_arc(arc: Arc) -> Arc
     }
 }
 
+// "Post"; by the weak capacity rule "Post less Pre, or 0" (document 02, P10).
+fn claimed(rule: CapacityRule, arc: Arc) -> u32
+    ensures { λ r. ⌜ r ≡ claim rule (netArc arc .entry) ⌝ }
+{
+    match rule {
+        CapacityRule::Strong => arc.post,
+        CapacityRule::Weak => less(arc.post, arc.pre),
+    }
+}
+
 // "Post: that number plus the original Pre less the original Post"; "For a locally dead mode .. each complement Post equal to its complement Pre".
 fn given_back(dead: bool, pre: u32, arc: Arc) -> u32
-    requires { ⌜ (pre ≤ limit) × (arc .pre ≤ limit) × (arc .post ≤ pre) ⌝ }
+    requires { ⌜ (pre ≤ limit) × (arc .pre ≤ limit) × (arc .post ≤ pre + arc .pre) ⌝ }
     ensures { λ r. ⌜ r ≡ cond dead pre (pre + arc .pre - arc .post) ⌝ }
 {
     if dead {
@@ -57,10 +75,10 @@ fn given_back(dead: bool, pre: u32, arc: Arc) -> u32
     pre + arc.pre - arc.post
 }
 
-// "Pre: the larger of Post and (K less I ..)". Nothing where K is unbounded.
-pub fn complement_arc(arc: Arc, dead: bool, capacity: u32, pair: Pair) -> Arc
+// "Pre: the larger of Post and (K less I ..)", or of what the weak rule has for Post. Nothing where K is unbounded.
+pub fn complement_arc(arc: Arc, rule: CapacityRule, dead: bool, capacity: u32, pair: Pair) -> Arc
     requires { ⌜ Small arc capacity ⌝ }
-    ensures { λ r. ⌜ netArc r ≡ complementAt pair dead (bound capacity) (netArc arc) ⌝ }
+    ensures { λ r. ⌜ netArc r ≡ complementAt pair rule dead (bound capacity) (netArc arc) ⌝ }
 {
     let mode = arc.mode;
     if !is_finite(capacity) {
@@ -72,7 +90,7 @@ pub fn complement_arc(arc: Arc, dead: bool, capacity: u32, pair: Pair) -> Arc
             inhibitor: 0xffff_ffff,
         };
     }
-    let pre = larger(arc.post, reserved(capacity, arc.inhibitor));
+    let pre = larger(claimed(rule, arc), reserved(capacity, arc.inhibitor));
     Arc {
         mode,
         pair,

@@ -77,7 +77,7 @@ groupArcAt start i = start + 14 * i
 
 -- Net sheet: "Place count S (2 bytes ..); transition count (2 bytes ..); colours of each place ..; modes of each transition ..;
 -- for each pair K and the first marking ..; arc count (2 bytes ..); the arcs."
--- Document 02, P9: "In version 2 a rule byte, 0 for now, follows the version."
+-- Document 02, P9: "In version 2 a rule byte .. follows the version."
 abbrev pub ruleAt : ℕ
 ruleAt = 5
 

@@ -10,6 +10,8 @@ use lib.ListN.{length, getD}
 use borrow.Author.Tests.{eqb-true}
 use native.Mathlib.Omega.{arith}
 use native.Mathlib.Nat.{eq-or-lt-of-le, le-of-suc-le-suc, not-suc-le-zero}
+use Rattle.model.specs.declared.CapacityRule.{CapacityRule}
+use Rattle.model.specs.declared.CapacityRule.the-variants.{Strong, Weak}
 use Rattle.model.specs.declared.Mode.{Mode}
 use Rattle.model.specs.Numbers.{ℕ∞, fin, ∞}
 use Rattle.model.specs.Rows.{Entry, noArc, Row, Capacities}
@@ -26,19 +28,21 @@ use Rattle.model.proofs.WrittenRows.{blank-is, not-blank}
 use Rattle.model.proofs.Nets.{entry-written}
 use Rattle.model.proofs.ByArcs.{Listing}
 
--- where there is no arc, none stands at the complement pair, of a dead mode neither
-blank-beside : (dead : Bool) (k : ℕ∞) → blank (complementEntry dead k noArc) ≡ true
-blank-beside true (fin k) = refl
-blank-beside false (fin k) = refl
-blank-beside dead ∞ = refl
+-- where there is no arc, none stands at the complement pair, of a dead mode neither, and by either rule
+blank-beside : (rule : CapacityRule) (dead : Bool) (k : ℕ∞) → blank (complementEntry rule dead k noArc) ≡ true
+blank-beside Strong true (fin k) = refl
+blank-beside Strong false (fin k) = refl
+blank-beside Weak true (fin k) = refl
+blank-beside Weak false (fin k) = refl
+blank-beside rule dead ∞ = refl
 
-module _ (t : Mode) (dead : Bool) (n : ℕ) (K : Capacities) where
+module _ (t : Mode) (rule : CapacityRule) (dead : Bool) (n : ℕ) (K : Capacities) where
   abbrev pub originalArc : NetArc → List NetArc
   originalArc a = written t (a .pair .0) (original (a .entry))
 
   -- at an unbounded pair it is blank
   abbrev pub complementArc : NetArc → List NetArc
-  complementArc a = written t (complementPair n K (a .pair .0)) (complementEntry dead (K (a .pair .0)) (a .entry))
+  complementArc a = written t (complementPair n K (a .pair .0)) (complementEntry rule dead (K (a .pair .0)) (a .entry))
 
   -- what a mode's c arcs become
   unfoldable pub modeArcs : ℕ → (ℕ → NetArc) → List NetArc
@@ -49,29 +53,29 @@ module _ (t : Mode) (dead : Bool) (n : ℕ) (K : Capacities) where
     originalAt p = written t p (original (r p))
 
     abbrev complementAt : ℕ → List NetArc
-    complementAt p = written t (complementPair n K p) (complementEntry dead (K p) (r p))
+    complementAt p = written t (complementPair n K p) (complementEntry rule dead (K p) (r p))
 
     abbrev rowAt : ℕ → List NetArc
-    rowAt p = written t p (complementRow dead n K r p)
+    rowAt p = written t p (complementRow rule dead n K r p)
 
     originals : joined n rowAt ≡ joined c (λ k. originalArc (arc k))
     originals =
-        joined-ext n rowAt originalAt (λ p h. rw (row-original dead n K r p h))
+        joined-ext n rowAt originalAt (λ p h. rw (row-original rule dead n K r p h))
         ∙ joined-sparse n c originalAt (λ k. arc k .pair .0) (listing .inside) (listing .rising) (λ p h out. rw (listing .unwritten p h out))
         ∙ joined-ext c (λ k. originalAt (arc k .pair .0)) (λ k. originalArc (arc k)) (λ k h. rw (listing .written k h))
 
     complements : joined (boundedBelow K n) (λ j. rowAt (n + j)) ≡ joined c (λ k. complementArc (arc k))
     complements =
         joined-ext (boundedBelow K n) (λ j. rowAt (n + j)) (λ j. complementAt (getD (bounded K n) j 0))
-        (at-complements K n rowAt complementAt (λ p k h e. rw (row-complement dead n K r p k h e, e)))
+        (at-complements K n rowAt complementAt (λ p k h e. rw (row-complement rule dead n K r p k h e, e)))
         ∙ sym
         (joined-sparse n (boundedBelow K n) complementAt (λ j. getD (bounded K n) j 0) (λ j h. bounded-pair K n j h .below) (bounded-rises K n)
         (λ p h out. rw (unbounded K n p h out)))
         ∙ joined-sparse n c complementAt (λ k. arc k .pair .0) (listing .inside) (listing .rising)
-        (λ p h out. rw (listing .unwritten p h out, blank-beside dead (K p)))
+        (λ p h out. rw (listing .unwritten p h out, blank-beside rule dead (K p)))
         ∙ joined-ext c (λ k. complementAt (arc k .pair .0)) (λ k. complementArc (arc k)) (λ k h. rw (listing .written k h))
 
-    pub mode-by-arcs : joined (n + boundedBelow K n) (λ p. written t p (complementRow dead n K r p)) ≡ modeArcs c arc
+    pub mode-by-arcs : joined (n + boundedBelow K n) (λ p. written t p (complementRow rule dead n K r p)) ≡ modeArcs c arc
     unfolding modeArcs
     mode-by-arcs = joined-split n (boundedBelow K n) rowAt ∙ ap₂ (λ xs ys. xs ++ ys) originals complements
 
@@ -158,7 +162,7 @@ module _ (net : PNet) where
   n = pairs net
 
   Rows : NetArc → Type 0
-  Rows = InRows (modes net) (allPairs net) (λ t. complementRow (isDead net t) n (K net) (row net t))
+  Rows = InRows (modes net) (allPairs net) (λ t. complementRow (net .rule) (isDead net t) n (K net) (row net t))
 
   becomes-in : (b : NetArc) → Rows b → (a : NetArc) × List·Memᴰ a (net .arcs) × ((b ≡ onOriginal a) ⊎ (b ≡ onComplement net a))
   unfolding Rows
@@ -167,15 +171,15 @@ module _ (net : PNet) where
       ⊎-elim
       (λ (l : b .pair .0 < n).
       let p = b .pair .0 in
-      let is : b .entry ≡ original (row net t p) = r .entry ∙ row-original (isDead net t) n (K net) (row net t) p l in
+      let is : b .entry ≡ original (row net t p) = r .entry ∙ row-original (net .rule) (isDead net t) n (K net) (row net t) p l in
       ⊎-elim (λ bare. absurd (true≢false (sym (ap blank (is ∙ ap original bare)) ∙ r .notBlank)))
       (λ found. (arcFor t p (row net t p), found, inl (ap (arcFor t p) is)))
       (entry-in (net .arcs) t p))
       (λ o.
       let q = o .0 in
-      let is : b .entry ≡ complementEntry (isDead net t) (K net q) (row net t q) =
-      r .entry ∙ ap (complementRow (isDead net t) n (K net) (row net t)) (sym (o .4)) ∙ row-complement (isDead net t) n (K net) (row net t) q (o .1) (o .2) (o .3) ∙ rw (o .3) in
-      ⊎-elim (λ bare. absurd (true≢false (sym (ap blank (is ∙ ap (complementEntry (isDead net t) (K net q)) bare) ∙ blank-beside (isDead net t) (K net q)) ∙ r .notBlank)))
+      let is : b .entry ≡ complementEntry (net .rule) (isDead net t) (K net q) (row net t q) =
+      r .entry ∙ ap (complementRow (net .rule) (isDead net t) n (K net) (row net t)) (sym (o .4)) ∙ row-complement (net .rule) (isDead net t) n (K net) (row net t) q (o .1) (o .2) (o .3) ∙ rw (o .3) in
+      ⊎-elim (λ bare. absurd (true≢false (sym (ap blank (is ∙ ap (complementEntry (net .rule) (isDead net t) (K net q)) bare) ∙ blank-beside (net .rule) (isDead net t) (K net q)) ∙ r .notBlank)))
       (λ found. (arcFor t q (row net t q), found, inr (λ j. arcFor t (sym (o .4) j) (is j))))
       (entry-in (net .arcs) t q))
       (original-or (K net) n (b .pair .0) (r .pair))
@@ -194,7 +198,7 @@ module _ (net : PNet) where
       (record {
         mode = is .mode;
         pair = omega (arith, is .pair);
-        entry = sym (row-original (isDead net (a .mode)) n (K net) (row net (a .mode)) (a .pair .0) (is .pair) ∙ ap original here);
+        entry = sym (row-original (net .rule) (isDead net (a .mode)) n (K net) (row net (a .mode)) (a .pair .0) (is .pair) ∙ ap original here);
         notBlank = blank-not _ (rw e at h);
       }))
       (λ e. subst⁻¹ Rows e (go (K net (a .pair .0)) refl is here (rw e at h)))
@@ -206,7 +210,7 @@ module _ (net : PNet) where
           record {
             mode = is .mode;
             pair = omega (arith, bounded-number (K net) n (a .pair .0) c (is .pair) q);
-            entry = sym (row-complement (isDead net (a .mode)) n (K net) (row net (a .mode)) (a .pair .0) c (is .pair) q ∙ rw (here, q));
+            entry = sym (row-complement (net .rule) (isDead net (a .mode)) n (K net) (row net (a .mode)) (a .pair .0) c (is .pair) q ∙ rw (here, q));
             notBlank = blank-not _ h;
           }
       go ∞ q is here h = absurd (h (rw q (record { pre = refl; post = refl; inhibitor = refl })))

@@ -12,15 +12,17 @@ use borrow.Author.Tests.{eqb-true, ltb-false}
 use native.Mathlib.Omega.{arith}
 use native.Mathlib.Nat.{le-of-suc-le-suc, not-suc-le-zero}
 use Rattle.model.specs.declared.Mode.{Mode}
-use Rattle.model.specs.Numbers.{ℕ∞, fin, ∞, limit}
+use Rattle.model.specs.Numbers.{ℕ∞, fin, ∞, _≤∞_, limit}
 use Rattle.model.specs.Rows.{Entry, noArc, Capacities}
 use Rattle.model.specs.Nets.{NetArc, PNet, total, pairs, modes, K, count, arcNo, entryAt, row}
 use Rattle.model.specs.Markings.{Marking}
 use Rattle.model.specs.WellFormed.{WellFormed}
+use Rattle.model.specs.Firing.{roomFor}
 use Rattle.model.specs.Dead.{isDead}
 use Rattle.model.specs.Complement.{finite, boundedBelow, complementPair, complementRow, newPlaces, less, boundedPairs, allPairs, complement, inhibitsUnbounded, refusal15, Corresponds}
 use Rattle.model.specs.Lists.{joined, listIf}
 use Rattle.model.proofs.First.{below-or, first-each, only-if-none}
+use Rattle.model.proofs.Rooms.{room-unbounded}
 use Rattle.model.proofs.Joined.{joined-front, joined-ext}
 use Rattle.model.proofs.Bounded.{below-none, below-at-most, below-split, bounded-at, bounded-number}
 use Rattle.model.proofs.WrittenRows.{written-row}
@@ -92,10 +94,14 @@ module _ (net : PNet) where
       ⊎-elim (λ (l : p < allPairs net). getD-replicate (allPairs net) p ∞ ∞ l)
       (λ (l : allPairs net ≤ p). List·getD-eq-default (replicate (allPairs net) ∞) ∞ (rw length-replicate l)) (below-or p (allPairs net))
 
+  -- by either rule
+  pub room-complement : (p pre : ℕ) → roomFor (complement net .rule) (K (complement net) p) pre ≡ ∞
+  room-complement p pre = rw (capacity-complement p) (room-unbounded (complement net .rule) pre)
+
   pub rows-complement : (t : Mode) (p : ℕ) → t .0 < modes net → p < allPairs net
-      → row (complement net) t p ≡ complementRow (isDead net t) (pairs net) (K net) (row net t) p
+      → row (complement net) t p ≡ complementRow (net .rule) (isDead net t) (pairs net) (K net) (row net t) p
   unfolding complement
-  rows-complement = written-row (modes net) (allPairs net) (λ t. complementRow (isDead net t) (pairs net) (K net) (row net t))
+  rows-complement = written-row (modes net) (allPairs net) (λ t. complementRow (net .rule) (isDead net t) (pairs net) (K net) (row net t))
 
 -- what holds of no arc, and of each arc at p, holds of what stands at p
 pub entry-holds : (P : Entry → Type 0) (t : Mode) (p : ℕ) → P noArc → (arcs : List NetArc)
@@ -130,6 +136,14 @@ uninhibited net offset e t p u = entry-holds (λ e. e .inhibitor ≡ ∞) t p re
             → arcNo (net .arcs) k .entry .inhibitor ≡ ∞
         go (fin i) f d = absurd (true≢false (rw f at d))
         go ∞ f d = f
+
+-- a marking that corresponds is within capacity
+pub corresponds-within : (net : PNet) (m m′ : List ℕ) → Corresponds net m m′ → (p : ℕ) → p < pairs net → count m p ≤∞ K net p
+corresponds-within net m m′ c p h = go (K net p) refl
+  where
+    go : (b : ℕ∞) → K net p ≡ b → count m p ≤∞ b
+    go (fin k) e = omega (arith, c .addUp p k h e)
+    go ∞ e = tt
 
 -- the first markings correspond
 pub first-corresponds : (net : PNet) → Marking net (net .start) → Corresponds net (net .start) (complement net .start)

@@ -19,7 +19,7 @@ use Rattle.model.specs.DeadComplement.{NumbersInRange}
 use Rattle.model.specs.Lists.{listIf}
 use Rattle.model.proofs.Both.{and-both}
 use Rattle.model.proofs.Bounded.{original-or}
-use Rattle.model.proofs.ComplementRow.{reserve-within, row-original, row-complement, row-uninhibited}
+use Rattle.model.proofs.ComplementRow.{claim-within, reserve-within, row-original, row-complement, row-uninhibited}
 use Rattle.model.proofs.Each.{Each, each-append, each-joined, each-at, at-each, sorted-rising}
 use Rattle.model.proofs.WrittenRows.{not-blank, each-row, sorted-rows}
 use Rattle.model.proofs.ComplementNet.{newColours, newPlace, new-places, colours-at-most, modes-complement, pairs-complement, capacity-complement, Small, row-small, start-corresponds}
@@ -39,15 +39,15 @@ corresponds-marking net m m′ wf h c =
 
 -- the numbers at the complement of a pair of finite K
 complement-small : (net : PNet) → WellFormed net → (t : Mode) (q k : ℕ) → q < pairs net → K net q ≡ fin k
-    → Small (complementEntry (isDead net t) (fin k) (row net t q))
+    → Small (complementEntry (net .rule) (isDead net t) (fin k) (row net t q))
 complement-small net wf t q k h e = go (isDead net t) refl
   where
     most : k ≤ limit
     most = rw e at (wf .capacityInRange q h)
 
-    go : (dead : Bool) → isDead net t ≡ dead → Small (complementEntry dead (fin k) (row net t q))
-    go true d = omega (arith, most, row-small net wf t q, reserve-within k (row net t q .inhibitor))
-    go false d = let both = lives-beside k (row net t q) (rw e at (lives-at net t d q h)) in (omega (arith, most, both .0), omega (arith, most, both .1))
+    go : (dead : Bool) → isDead net t ≡ dead → Small (complementEntry (net .rule) dead (fin k) (row net t q))
+    go true d = omega (arith, most, claim-within (net .rule) (row net t q), row-small net wf t q, reserve-within k (row net t q .inhibitor))
+    go false d = let both = lives-beside (net .rule) k (row net t q) (rw e at (lives-at net t d q h)) in (omega (arith, most, both .0), omega (arith, most, both .1))
 
 -- as many colours as a place has finite pairs, where it has any: 1 up to the place's own
 abbrev Countable : ℕ → Type 0
@@ -71,26 +71,26 @@ places net wf =
 
 module _ (net : PNet) (wf : WellFormed net) where
   -- complement numbers never pass 1,000,000
-  pub small : (t : Mode) (p : ℕ) → p < allPairs net → Small (complementRow (isDead net t) (pairs net) (K net) (row net t) p)
+  pub small : (t : Mode) (p : ℕ) → p < allPairs net → Small (complementRow (net .rule) (isDead net t) (pairs net) (K net) (row net t) p)
   small t p h =
-      ⊎-elim (λ (l : p < pairs net). rw (row-original (isDead net t) (pairs net) (K net) (row net t) p l) (row-small net wf t p))
+      ⊎-elim (λ (l : p < pairs net). rw (row-original (net .rule) (isDead net t) (pairs net) (K net) (row net t) p l) (row-small net wf t p))
       (λ r.
-      rw (← r .4, row-complement (isDead net t) (pairs net) (K net) (row net t) (r .0) (r .1) (r .2) (r .3))
+      rw (← r .4, row-complement (net .rule) (isDead net t) (pairs net) (K net) (row net t) (r .0) (r .1) (r .2) (r .3))
       (complement-small net wf t (r .0) (r .1) (r .2) (r .3)))
       (original-or (K net) (pairs net) p h)
 
   each-arc : Each (ArcOf (complement net)) (complement net .arcs)
   unfolding complement
   each-arc =
-      each-row (ArcOf (complement net)) (modes net) (allPairs net) (λ t. complementRow (isDead net t) (pairs net) (K net) (row net t))
+      each-row (ArcOf (complement net)) (modes net) (allPairs net) (λ t. complementRow (net .rule) (isDead net t) (pairs net) (K net) (row net t))
       (λ t p h l d.
       record {
         mode = rw modes-complement h;
         pair = rw pairs-complement l;
         pre = small (modeNo t) p l .0;
         post = small (modeNo t) p l .1;
-        inhibitor = rw (row-uninhibited (isDead net (modeNo t)) (pairs net) (K net) (row net (modeNo t)) p) tt;
-        notBlank = not-blank (complementRow (isDead net (modeNo t)) (pairs net) (K net) (row net (modeNo t)) p) d;
+        inhibitor = rw (row-uninhibited (net .rule) (isDead net (modeNo t)) (pairs net) (K net) (row net (modeNo t)) p) tt;
+        notBlank = not-blank (complementRow (net .rule) (isDead net (modeNo t)) (pairs net) (K net) (row net (modeNo t)) p) d;
       })
 
   start-marking : Marking (complement net) (complement net .start)
@@ -107,7 +107,6 @@ module _ (net : PNet) (wf : WellFormed net) where
       let most = and-both (leb (length (complement net .colours)) 64 && leb (pairs (complement net)) 256) _ e in
       let two = and-both (leb (length (complement net .colours)) 64) _ (most .0) in
       record {
-        rule = wf .rule;
         somePlace = omega (arith, wf .somePlace, length-append (net .colours) (newPlaces (K net) (net .colours)));
         places =
             record {

@@ -13,17 +13,17 @@ use Rattle.model.specs.Numbers.{fin, ∞, limit}
 use Rattle.model.specs.Rows.{Entry, Row, Capacities, Counts}
 use Rattle.model.specs.Nets.{PNet, pairs, modes, K, count, row}
 use Rattle.model.specs.WellFormed.{WellFormed}
-use Rattle.model.specs.Firing.{after, lowestStop, ruleRefusal, rowRefusal, modeRefusal, fired}
+use Rattle.model.specs.Firing.{after, rooms, lowestStop, ruleRefusal, rowRefusal, modeRefusal, fired}
 use Rattle.model.specs.Dead.{isDead}
 use Rattle.model.specs.Complement.{complementPair, complementRow, allPairs, complement, refusal15, Corresponds}
 use Rattle.model.specs.DemandThree.{becomes}
 use Rattle.model.proofs.First.{below-or, first-ext}
-use Rattle.model.proofs.Firing.{there, missing, accepted-there, accepted-allows, accepted-enough}
+use Rattle.model.proofs.Firing.{passes-conditions, there, missing, accepted-there, accepted-passes, accepted-enough}
 use Rattle.model.proofs.Markings.{fired-at, fired-length}
 use Rattle.model.proofs.Bounded.{bounded-number}
 use Rattle.model.proofs.ComplementRow.{sum-kept, row-original, row-complement}
 use Rattle.model.proofs.ComplementStep.{answerInComplement, row-step}
-use Rattle.model.proofs.ComplementNet.{modes-complement, pairs-complement, capacity-complement, rows-complement, uninhibited}
+use Rattle.model.proofs.ComplementNet.{modes-complement, pairs-complement, room-complement, rows-complement, uninhibited, corresponds-within}
 use Rattle.model.proofs.RefusalsCorrespond.{row-becomes, none-becomes}
 use Rattle.model.proofs.Possible.{enabled-live}
 
@@ -42,13 +42,14 @@ module _ (net : PNet) (wf : WellFormed net) (offset : ℕ → ℕ) (no15 : refus
   capacity-limit p k h e = rw e at (wf .capacityInRange p h)
 
   module _ (thing : Thing) (t : Mode) (m m′ : List ℕ) (c : Corresponds net m m′) where
-    pub step-there : t .0 < modes net → modeRefusal thing (complement net) t m′ ≡ answerInComplement thing (pairs net) (K net) (row net t) (count m)
+    pub step-there : t .0 < modes net
+        → modeRefusal thing (complement net) t m′ ≡ answerInComplement thing (pairs net) (K net) (rooms net (row net t)) (row net t) (count m)
     step-there h =
         there thing (complement net) t m′ (rw modes-complement h)
         ∙ rw pairs-complement
-        (row-ext thing (allPairs net) (K (complement net)) (λ p. ∞) (row (complement net) t) (complementRow (isDead net t) (pairs net) (K net) (row net t))
-        (count m′) (λ p l. capacity-complement net p) (λ p l. rows-complement net t p h l))
-        ∙ row-step thing (isDead net t) (pairs net) (K net) (row net t) (count m) (count m′) (c .equal) (c .addUp) (λ p l. uninhibited net offset no15 t p)
+        (row-ext thing (allPairs net) (rooms (complement net) (row (complement net) t)) (λ p. ∞) (row (complement net) t) (complementRow (net .rule) (isDead net t) (pairs net) (K net) (row net t))
+        (count m′) (λ p l. room-complement net p (row (complement net) t p .pre)) (λ p l. rows-complement net t p h l))
+        ∙ row-step thing (net .rule) (isDead net t) (pairs net) (K net) (row net t) (count m) (count m′) (c .equal) (c .addUp) (λ p l. uninhibited net offset no15 t p)
         capacity-limit
 
     pub step : modeRefusal thing (complement net) t m′ ≡ becomes thing net t m (modeRefusal thing net t m)
@@ -57,7 +58,7 @@ module _ (net : PNet) (wf : WellFormed net) (offset : ℕ → ℕ) (no15 : refus
         ⊎-elim
         (λ (h : t .0 < modes net).
         step-there h
-        ∙ sym (ap (becomes thing net t m) (there thing net t m h) ∙ row-becomes thing (pairs net) (K net) (row net t) (count m)))
+        ∙ sym (ap (becomes thing net t m) (there thing net t m h) ∙ row-becomes thing (pairs net) (K net) (rooms net (row net t)) (row net t) (count m)))
         (λ (h : modes net ≤ t .0).
         missing thing (complement net) t m′ (rw modes-complement h) ∙ sym (ap (becomes thing net t m) (missing thing net t m h)))
         (below-or (t .0) (modes net))
@@ -66,7 +67,7 @@ module _ (net : PNet) (wf : WellFormed net) (offset : ℕ → ℕ) (no15 : refus
     pub accepts-back : modeRefusal thing (complement net) t m′ ≡ none → modeRefusal thing net t m ≡ none
     accepts-back e =
         let h : t .0 < modes net = rw modes-complement at (accepted-there thing (complement net) t m′ e) in
-        there thing net t m h ∙ none-becomes thing (pairs net) (K net) (row net t) (count m) (sym (step-there h) ∙ e)
+        there thing net t m h ∙ none-becomes thing (pairs net) (K net) (rooms net (row net t)) (row net t) (count m) (sym (step-there h) ∙ e)
 
     module _ (e : modeRefusal thing net t m ≡ none) where
       pub accepts : modeRefusal thing (complement net) t m′ ≡ none
@@ -76,16 +77,16 @@ module _ (net : PNet) (wf : WellFormed net) (offset : ℕ → ℕ) (no15 : refus
       inside : {p : ℕ} → p < allPairs net → p < pairs (complement net)
       inside h = rw pairs-complement h
 
-      reads : {p : ℕ} {x : Entry} → p < allPairs net → complementRow (isDead net t) (pairs net) (K net) (row net t) p ≡ x → row (complement net) t p ≡ x
+      reads : {p : ℕ} {x : Entry} → p < allPairs net → complementRow (net .rule) (isDead net t) (pairs net) (K net) (row net t) p ≡ x → row (complement net) t p ≡ x
       reads {p} h f = rows-complement net t p (accepted-there thing net t m e) h ∙ f
 
-      count-after : (p : ℕ) {x : Entry} → p < allPairs net → complementRow (isDead net t) (pairs net) (K net) (row net t) p ≡ x
+      count-after : (p : ℕ) {x : Entry} → p < allPairs net → complementRow (net .rule) (isDead net t) (pairs net) (K net) (row net t) p ≡ x
           → count (fired (complement net) t m′) p ≡ after x (count m′ p)
       count-after p h f = rw (reads h f) at (fired-at (complement net) t m′ p (inside h))
 
       moves-equal : (p : ℕ) → p < pairs net → count (fired (complement net) t m′) p ≡ count (fired net t m) p
       moves-equal p h =
-          count-after p (omega arith) (row-original (isDead net t) (pairs net) (K net) (row net t) p h)
+          count-after p (omega arith) (row-original (net .rule) (isDead net t) (pairs net) (K net) (row net t) p h)
           ∙ rw (c .equal p h) (sym (fired-at net t m p h))
 
       moves-addUp : (p k : ℕ) → p < pairs net → K net p ≡ fin k
@@ -93,9 +94,9 @@ module _ (net : PNet) (wf : WellFormed net) (offset : ℕ → ℕ) (no15 : refus
       moves-addUp p k h f =
           let q = complementPair (pairs net) (K net) p in
           let l : q < allPairs net = omega (arith, bounded-number (K net) (pairs net) p k h f) in
-          let g = row-complement (isDead net t) (pairs net) (K net) (row net t) p k h f in
-          rw (fired-at net t m p h, count-after q l g, enabled-live net t (count m) (accepted-allows thing net t m e))
-          (sum-kept k (count m p) (count m′ q) (row net t p) (c .addUp p k h f) (accepted-enough thing net t m e p h)
+          let g = row-complement (net .rule) (isDead net t) (pairs net) (K net) (row net t) p k h f in
+          rw (fired-at net t m p h, count-after q l g, enabled-live net t (count m) (λ _. corresponds-within net m m′ c) (passes-conditions (accepted-passes thing net t m e)))
+          (sum-kept (net .rule) k (count m p) (count m′ q) (row net t p) (c .addUp p k h f) (accepted-enough thing net t m e p h)
           (rw (reads l g) at (accepted-enough thing (complement net) t m′ accepts q (inside l))))
 
       pub move-corresponds : Corresponds net (fired net t m) (fired (complement net) t m′)

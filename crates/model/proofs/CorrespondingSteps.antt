@@ -6,24 +6,28 @@ use mathlib.Core.List.{List, [], _∷_}
 use mathlib.Core.Logic.{⊎-elim}
 use mathlib.Core.Option.{none}
 use native.Mathlib.Omega.{arith}
+use Rattle.model.specs.declared.CapacityRule.{CapacityRule}
+use Rattle.model.specs.declared.CapacityRule.the-variants.{Strong, Weak}
 use Rattle.model.specs.declared.Mode.{Mode}
 use Rattle.model.specs.First.{_▸_, first}
 use Rattle.model.specs.Lists.{table, joined}
 use Rattle.model.specs.Numbers.{ℕ∞, fin, ∞, _≤∞_, limit}
+use Rattle.model.specs.Rows.{Entry, noArc}
 use Rattle.model.specs.Nets.{PNet, pairs, modes, K, count, entryAt, row}
 use Rattle.model.specs.WellFormed.{WellFormed}
-use Rattle.model.specs.Firing.{after, ruleRefusal, rowRefusal, modeRefusal, fired}
+use Rattle.model.specs.Firing.{after, roomFor, ruleRefusal, rowRefusal, modeRefusal, fired}
 use Rattle.model.specs.Runs.{runFrom}
 use Rattle.model.specs.Dead.{deadPair, isDead}
-use Rattle.model.specs.Complement.{bounded, reserve, complementPair, original, complementEntry, complementRow, newPlaces, arcsOf, allPairs, complement, refusal15, sheetLimits, complementRefusal, Corresponds}
+use Rattle.model.specs.Complement.{bounded, reserve, claim, complementPre, complementPair, original, complementEntry, complementRow, newPlaces, arcsOf, allPairs, complement, refusal15, sheetLimits, complementRefusal, Corresponds}
 use Rattle.model.specs.Edges.{edgeNet}
-use Rattle.model.specs.Steps.{together, stepRefusal, firedTogether, StepsBack, StepsForth, StepExamples}
+use Rattle.model.specs.Steps.{beside, together, stepRefusal, firedTogether, StepsBack, StepsForth, StepExamples}
 use Rattle.model.proofs.First.{left-none}
 use Rattle.model.proofs.Numbers.{below-least-of}
 use Rattle.model.proofs.Each.{Each}
+use Rattle.model.proofs.Rooms.{room-unbounded}
 use Rattle.model.proofs.Bounded.{bounded-number, original-or}
-use Rattle.model.proofs.ComplementRow.{reserve-is, row-original, row-complement, row-uninhibited}
-use Rattle.model.proofs.ComplementNet.{modes-complement, pairs-complement, capacity-complement, rows-complement, entry-holds, uninhibited}
+use Rattle.model.proofs.ComplementRow.{claim-within, claimed, reserve-is, row-original, row-complement, row-uninhibited}
+use Rattle.model.proofs.ComplementNet.{modes-complement, pairs-complement, room-complement, rows-complement, entry-holds, uninhibited, corresponds-within}
 use Rattle.model.proofs.Steps.{There, Accepts, step-accepted, accepted-step, step-fired-at, step-fired-length, members-live}
 
 -- the step's row in the complement: at an original pair the same Pre and Post, and no inhibitor anywhere
@@ -32,13 +36,13 @@ together-original : (net : PNet) (ts : List Mode) → There net ts → (p : ℕ)
 unfolding together
 together-original net [] h p l = refl
 together-original net (t ∷ ts) h p l =
-    rw (rows-complement net t p (h .0) (omega arith), row-original (isDead net t) (pairs net) (K net) (row net t) p l, together-original net ts (h .1) p l)
+    rw (rows-complement net t p (h .0) (omega arith), row-original (net .rule) (isDead net t) (pairs net) (K net) (row net t) p l, together-original net ts (h .1) p l)
 
 together-uninhibited : (net : PNet) (ts : List Mode) → There net ts → (p : ℕ) → p < allPairs net → together (complement net) ts p .inhibitor ≡ ∞
 unfolding together
 together-uninhibited net [] h p l = refl
 together-uninhibited net (t ∷ ts) h p l =
-    rw (rows-complement net t p (h .0) l, row-uninhibited (isDead net t) (pairs net) (K net) (row net t) p, together-uninhibited net ts (h .1) p l)
+    rw (rows-complement net t p (h .0) l, row-uninhibited (net .rule) (isDead net t) (pairs net) (K net) (row net t) p, together-uninhibited net ts (h .1) p l)
 
 -- 15 was not given: at an unbounded pair no member has an inhibitor
 unbounded-least : (net : PNet) (offset : ℕ → ℕ) → refusal15 offset net ≡ none → (ts : List Mode) (p : ℕ) → K net p ≡ ∞ → together net ts p .inhibitor ≡ ∞
@@ -50,6 +54,23 @@ reserve-low : (k m m′ : ℕ) (i : ℕ∞) → m + m′ ≡ k → reserve k i �
 reserve-low k m m′ (fin i) s h = let g : k - i ≤ m′ = rw reserve-is at h in omega arith
 reserve-low k m m′ ∞ s h = tt
 
+-- members claim no less one by one than together
+claim-beside : (rule : CapacityRule) (a b : Entry) → claim rule (beside a b) ≤ claim rule a + claim rule b
+claim-beside Strong a b = omega arith
+claim-beside Weak a b = omega arith
+
+-- what is claimed has room
+claim-room : (rule : CapacityRule) (k m m′ : ℕ) (e : Entry) → m + m′ ≡ k → claim rule e ≤ m′ → m + e .post ≤∞ roomFor rule (fin k) (e .pre)
+claim-room Strong k m m′ e s h = omega arith
+claim-room Weak k m m′ e s h = omega arith
+
+-- by document 01's rule, and without an inhibitor
+strong-pre : (rule : CapacityRule) → rule ≡ Strong → (k : ℕ) (e : Entry) → e .inhibitor ≡ ∞ → complementPre rule k e ≡ e .post
+strong-pre rule strong k e free = rw (strong, free) (omega arith)
+
+strong-room : (rule : CapacityRule) → rule ≡ Strong → (k : ℕ∞) (n pre : ℕ) → n ≤∞ roomFor rule k pre → n ≤∞ k
+strong-room rule strong k n pre h = rw strong at h
+
 -- at the complement of a bounded pair
 module _ (net : PNet) (p k : ℕ) (inside : p < pairs net) (isBounded : K net p ≡ fin k) where
   abbrev c : ℕ
@@ -58,13 +79,14 @@ module _ (net : PNet) (p k : ℕ) (inside : p < pairs net) (isBounded : K net p 
   inside′ : c < allPairs net
   inside′ = omega (arith, bounded-number (K net) (pairs net) p k inside isBounded)
 
-  row-at : (t : Mode) → t .0 < modes net → row (complement net) t c ≡ complementEntry (isDead net t) (fin k) (row net t p)
-  row-at t h = rows-complement net t c h inside′ ∙ row-complement (isDead net t) (pairs net) (K net) (row net t) p k inside isBounded
+  row-at : (t : Mode) → t .0 < modes net → row (complement net) t c ≡ complementEntry (net .rule) (isDead net t) (fin k) (row net t p)
+  row-at t h = rows-complement net t c h inside′ ∙ row-complement (net .rule) (isDead net t) (pairs net) (K net) (row net t) p k inside isBounded
 
-  post-below : (ts : List Mode) → There net ts → together net ts p .post ≤ together (complement net) ts c .pre
+  -- the step's claim is no more than the complement's Pre
+  claim-below : (ts : List Mode) → There net ts → claim (net .rule) (together net ts p) ≤ together (complement net) ts c .pre
   unfolding together
-  post-below [] h = omega arith
-  post-below (t ∷ ts) h = rw (row-at t (h .0)) (omega (arith, post-below ts (h .1)))
+  claim-below [] h = omega (arith, claim-within (net .rule) noArc)
+  claim-below (t ∷ ts) h = rw (row-at t (h .0)) (omega (arith, claim-beside (net .rule) (row net t p) (together net ts p), claim-below ts (h .1)))
 
   low-below : (ts : List Mode) → There net ts → (m m′ : ℕ) → m + m′ ≡ k → together (complement net) ts c .pre ≤ m′ → m ≤∞ together net ts p .inhibitor
   unfolding together
@@ -79,13 +101,14 @@ module _ (net : PNet) (p k : ℕ) (inside : p < pairs net) (isBounded : K net p 
       → together (complement net) ts c .post + together net ts p .post ≡ together (complement net) ts c .pre + together net ts p .pre
   unfolding together
   sums [] h live = refl
-  sums (t ∷ ts) h live = rw (row-at t (h .0), live .0) (omega (arith, sums ts (h .1) (live .1)))
+  sums (t ∷ ts) h live = rw (row-at t (h .0), live .0) (omega (arith, claimed (net .rule) k (row net t p), sums ts (h .1) (live .1)))
 
-  -- without inhibitors the complement's Pre is Post
-  pre-is-post : ((t : Mode) → row net t p .inhibitor ≡ ∞) → (ts : List Mode) → There net ts → together (complement net) ts c .pre ≡ together net ts p .post
+  -- without inhibitors the complement's Pre is Post, by document 01's rule
+  pre-is-post : net .rule ≡ Strong → ((t : Mode) → row net t p .inhibitor ≡ ∞) → (ts : List Mode) → There net ts
+      → together (complement net) ts c .pre ≡ together net ts p .post
   unfolding together
-  pre-is-post free [] h = refl
-  pre-is-post free (t ∷ ts) h = rw (row-at t (h .0), free t) (omega (arith, pre-is-post free ts (h .1)))
+  pre-is-post strong free [] h = refl
+  pre-is-post strong free (t ∷ ts) h = rw (row-at t (h .0), strong-pre (net .rule) strong k (row net t p) (free t)) (omega (arith, pre-is-post strong free ts (h .1)))
 
 module _ (net : PNet) (wf : WellFormed net) (offset : ℕ → ℕ) (no15 : refusal15 offset net ≡ none) (ts : List Mode) (m m′ : List ℕ)
     (c : Corresponds net m m′) where
@@ -103,9 +126,11 @@ module _ (net : PNet) (wf : WellFormed net) (offset : ℕ → ℕ) (no15 : refus
     pre-at : (p k : ℕ) (h : p < pairs net) (e : K net p ≡ fin k) → together (complement net) ts (other p) .pre ≤ count m′ (other p)
     pre-at p k h e = a .passes .enough (other p) (in-complement (inside′ net p k h e))
 
-    room-at : (p : ℕ) → p < pairs net → (b : ℕ∞) → K net p ≡ b → count m p + together net ts p .post ≤∞ b
-    room-at p h (fin k) e = omega (arith, c .addUp p k h e, pre-at p k h e, post-below net p k h e ts there-back)
-    room-at p h ∞ e = tt
+    room-at : (p : ℕ) → p < pairs net → (b : ℕ∞) → K net p ≡ b → count m p + together net ts p .post ≤∞ roomFor (net .rule) b (together net ts p .pre)
+    room-at p h (fin k) e =
+        claim-room (net .rule) k (count m p) (count m′ (other p)) (together net ts p) (c .addUp p k h e)
+        (omega (arith, pre-at p k h e, claim-below net p k h e ts there-back))
+    room-at p h ∞ e = rw (room-unbounded (net .rule) (together net ts p .pre)) tt
 
     low-at : (p : ℕ) → p < pairs net → (b : ℕ∞) → K net p ≡ b → count m p ≤∞ together net ts p .inhibitor
     low-at p h (fin k) e = low-below net p k h e ts there-back (count m p) (count m′ (other p)) (c .addUp p k h e) (pre-at p k h e)
@@ -137,20 +162,20 @@ module _ (net : PNet) (wf : WellFormed net) (offset : ℕ → ℕ) (no15 : refus
         addUp = λ p k h e.
             let l = in-complement (inside′ net p k h e) in
             rw (step-fired-at net ts m p h, step-fired-at (complement net) ts m′ (other p) l)
-            (omega (arith, c .addUp p k h e, sums net p k h e ts (a .there) (members-live net ts m a), a .passes .enough p h, a′ .passes .enough (other p) l));
+            (omega (arith, c .addUp p k h e, sums net p k h e ts (a .there) (members-live net ts m (λ _. corresponds-within net m m′ c) a), a .passes .enough p h, a′ .passes .enough (other p) l));
       }
 
-  -- what the net accepts, the complement accepts where there is no inhibitor
-  module _ (free : (t : Mode) (p : ℕ) → row net t p .inhibitor ≡ ∞) (a : Accepts net ts m) where
+  -- what the net accepts, the complement accepts where there is no inhibitor, by document 01's rule
+  module _ (strong : net .rule ≡ Strong) (free : (t : Mode) (p : ℕ) → row net t p .inhibitor ≡ ∞) (a : Accepts net ts m) where
     enough-at : (p k : ℕ) (h : p < pairs net) (e : K net p ≡ fin k) → together (complement net) ts (other p) .pre ≤ count m′ (other p)
     enough-at p k h e =
-        let room : count m p + together net ts p .post ≤ k = rw e at (a .passes .room p h) in
-        rw (pre-is-post net p k h e (λ t. free t p) ts (a .there)) (omega (arith, c .addUp p k h e))
+        let room : count m p + together net ts p .post ≤ k = strong-room (net .rule) strong (fin k) _ _ (rw e at (a .passes .room p h)) in
+        rw (pre-is-post net p k h e strong (λ t. free t p) ts (a .there)) (omega (arith, c .addUp p k h e))
 
     small-at : (p k : ℕ) (h : p < pairs net) (e : K net p ≡ fin k) → after (together (complement net) ts (other p)) (count m′ (other p)) ≤ limit
     small-at p k h e =
         let most : k ≤ limit = rw e at (wf .capacityInRange p h) in
-        omega (arith, c .addUp p k h e, sums net p k h e ts (a .there) (members-live net ts m a), a .passes .enough p h, enough-at p k h e)
+        omega (arith, c .addUp p k h e, sums net p k h e ts (a .there) (members-live net ts m (λ _. corresponds-within net m m′ c) a), a .passes .enough p h, enough-at p k h e)
 
     accepted-forth : Accepts (complement net) ts m′
     accepted-forth =
@@ -164,7 +189,7 @@ module _ (net : PNet) (wf : WellFormed net) (offset : ℕ → ℕ) (no15 : refus
                     ⊎-elim (λ (l : p < pairs net). rw (together-original net ts (a .there) p l, c .equal p l) (a .passes .enough p l))
                     (λ r. rw (← r .4) (enough-at (r .0) (r .1) (r .2) (r .3)))
                     (original-or (K net) (pairs net) p (rw pairs-complement at h));
-                room = λ p h. rw (capacity-complement net p) tt;
+                room = λ p h. rw (room-complement net p (together (complement net) ts p .pre)) tt;
                 low = λ p h. rw (together-uninhibited net ts (a .there) p (rw pairs-complement at h)) tt;
                 small = λ p h.
                     ⊎-elim (λ (l : p < pairs net). rw (together-original net ts (a .there) p l, c .equal p l) (a .passes .small p l))
@@ -183,11 +208,11 @@ steps-back net able ts m m′ c e =
 
 pub steps-forth : StepsForth
 unfolding complementRefusal
-steps-forth net able free ts m m′ c e =
+steps-forth net strong able free ts m m′ c e =
     let no15 = left-none (refusal15 (able .offset) net) _ (able .accepted) in
     let everywhere : (t : Mode) (p : ℕ) → row net t p .inhibitor ≡ ∞ = λ t p. entry-holds (λ e. e .inhibitor ≡ ∞) t p refl (net .arcs) (λ k h s. free k h) in
     accepted-step (complement net) ts m′
-    (accepted-forth net (able .wellFormed) (able .offset) no15 ts m m′ c everywhere (step-accepted net ts m e))
+    (accepted-forth net (able .wellFormed) (able .offset) no15 ts m m′ c strong everywhere (step-accepted net ts m e))
 
 -- a pair of capacity k that holds m, and its complement
 edge-corresponds : (k : ℕ) (i : ℕ∞) (pre post m c : ℕ) → m + c ≡ k → Corresponds (edgeNet k i pre post) (m ∷ []) (m ∷ c ∷ [])

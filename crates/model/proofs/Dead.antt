@@ -5,6 +5,7 @@ use mathlib.Core.Bool.{Bool, true, false, _||_}
 use mathlib.Core.Logic.{_↔_, ⊎-elim}
 use mathlib.Core.Option.{Option, none, some, Option·map}
 use native.Mathlib.Omega.{arith}
+use Rattle.model.specs.declared.CapacityRule.{CapacityRule}
 use Rattle.model.specs.declared.Mode.{Mode}
 use Rattle.model.specs.First.{onlyIf, lowest, Lowest, NoneBelow}
 use Rattle.model.specs.Numbers.{ℕ∞, fin, ∞, above}
@@ -18,12 +19,16 @@ use Rattle.model.proofs.Numbers.{false-above}
 use Rattle.model.proofs.Decisions.{Decided, by-or, by-above}
 
 -- the two tests say what they mean
-decided-kills : (e : Entry) (k : ℕ∞) → Decided (kills e k) (Kills e k)
-decided-kills e k = by-or (by-above (e .pre) (highestPre e k)) (by-above (e .post) k)
+decided-kills : (rule : CapacityRule) (e : Entry) (k : ℕ∞) → Decided (kills rule e k) (Kills rule e k)
+decided-kills rule e k = by-or (by-above (e .pre) (highestPre rule e k)) (by-above (e .post) k)
 
 module _ (net : PNet) (t : Mode) where
-  decides-dead : Decides (λ p. kills (row net t p) (K net p)) (KillsAt net t)
-  decides-dead = record { sound = λ p. decided-kills (row net t p) (K net p) .sound; complete = λ p. decided-kills (row net t p) (K net p) .complete }
+  decides-dead : Decides (λ p. kills (net .rule) (row net t p) (K net p)) (KillsAt net t)
+  decides-dead =
+      record {
+        sound = λ p. decided-kills (net .rule) (row net t p) (K net p) .sound;
+        complete = λ p. decided-kills (net .rule) (row net t p) (K net p) .complete;
+      }
 
   lowest-dead : (p : ℕ) → Lowest (pairs net) (KillsAt net t) p → deadPair net t ≡ some p
   unfolding deadPair
@@ -64,12 +69,12 @@ zero-above : (b : ℕ∞) → above 0 b ≡ false
 zero-above (fin k) = false-above 0 (fin k) (omega arith)
 zero-above ∞ = refl
 
-no-arc-kills : (k : ℕ∞) → kills noArc k ≡ false
-no-arc-kills k = ap₂ _||_ (zero-above (highestPre noArc k)) (zero-above k)
+no-arc-kills : (rule : CapacityRule) (k : ℕ∞) → kills rule noArc k ≡ false
+no-arc-kills rule k = ap₂ _||_ (zero-above (highestPre rule noArc k)) (zero-above k)
 
 -- the k-th arc of a net makes its mode locally dead
 abbrev pub arcKills : PNet → ℕ → Bool
-arcKills net k = kills (arcNo (net .arcs) k .entry) (K net (arcNo (net .arcs) k .pair .0))
+arcKills net k = kills (net .rule) (arcNo (net .arcs) k .entry) (K net (arcNo (net .arcs) k .pair .0))
 
 -- a search over the arcs from `start` on that comes to k has passed those before
 abbrev pub Passed : PNet → ℕ → ℕ → Type 0
@@ -80,8 +85,8 @@ module _ (net : PNet) (t : Mode) (start c : ℕ) (listing : Listing (pairs net) 
   dead-by-arcs : deadPair net t ≡ lowest c (λ k. arcKills net (start + k)) (λ k. arcNo (net .arcs) (start + k) .pair .0)
   unfolding deadPair
   dead-by-arcs =
-      first-sparse (pairs net) c (λ p. onlyIf (kills (row net t p) (K net p)) p) (λ k. arcNo (net .arcs) (start + k) .pair .0) (listing .inside)
-      (listing .rising) (λ p h elsewhere. rw (listing .unwritten p h elsewhere, no-arc-kills (K net p)))
+      first-sparse (pairs net) c (λ p. onlyIf (kills (net .rule) (row net t p) (K net p)) p) (λ k. arcNo (net .arcs) (start + k) .pair .0) (listing .inside)
+      (listing .rising) (λ p h elsewhere. rw (listing .unwritten p h elsewhere, no-arc-kills (net .rule) (K net p)))
       ∙ first-ext c _ _ (λ k h. rw (listing .written k h))
 
   pub arcs-alive : Passed net start (start + c) → deadPair net t ≡ none

@@ -6,32 +6,33 @@ use mathlib.Core.List.{List}
 use mathlib.Core.Logic.{_⊎_, inl, inr, ⊎-elim}
 use mathlib.Core.Option.{Option, none, some}
 use native.Mathlib.Omega.{arith}
+use Rattle.model.specs.declared.CapacityRule.{CapacityRule}
+use Rattle.model.specs.declared.CapacityRule.the-variants.{Strong, Weak}
 use Rattle.model.specs.declared.Mode.{Mode}
 use Rattle.model.specs.declared.Thing.{Thing}
 use Rattle.model.specs.declared.Why.the-variants.{Lacking, OverCapacity, Inhibited, OverLimit}
 use Rattle.model.specs.declared.Fault.{Fault}
-use Rattle.model.specs.declared.Fault.the-variants.{CutShort, WrongVersion, WrongLength, CountOutside, NumberOutside, MarkingOutside, NotThereAt, NotThere, NotRising, Blank, StartAboveCapacity, MarkingAboveCapacity, NoRoom, Stopped, InhibitedUnbounded, NotOneEach, EndsElsewhere, Unbalanced, EqualFigures, FigurePast, RecordOutside}
+use Rattle.model.specs.declared.Fault.the-variants.{CutShort, WrongVersion, WrongLength, CountOutside, NumberOutside, MarkingOutside, NotThereAt, NotThere, NotRising, Blank, StartAboveCapacity, MarkingAboveCapacity, NoRoom, Stopped, InhibitedUnbounded, NotOneEach, EndsElsewhere, Unbalanced, EqualFigures, RuleLost, FigurePast, RecordOutside}
 use Rattle.model.specs.declared.Refusal.{Refusal}
 use Rattle.model.specs.declared.Answer.{Answer}
 use Rattle.model.specs.declared.Answer.the-variants.{Accepted, Refused}
 use Rattle.model.specs.First.{_▸_, lowest}
 use Rattle.model.specs.Refusals.{line, number, answer}
-use Rattle.model.specs.Numbers.{ℕ∞, ∞, Above}
+use Rattle.model.specs.Numbers.{ℕ∞, ∞, Above, leastOf}
 use Rattle.model.specs.Rows.{Entry, Row, Capacities, Counts}
-use Rattle.model.specs.Billington.{Enables}
 use Rattle.model.specs.Nets.{PNet, pairs, modes, modeNo, K, count, row}
-use Rattle.model.specs.Firing.{stops, stoppedBy, stopped, lowestStop, modeRefusal}
-use Rattle.model.specs.Dead.{highestPre, Kills, isDead, firstDead}
+use Rattle.model.specs.Firing.{stops, stoppedBy, stopped, lowestStop, rooms, modeRefusal}
+use Rattle.model.specs.Dead.{preRoom, Kills, isDead, firstDead}
 use Rattle.model.specs.Complement.{complementPair, complement, refusal15, complementRefusal, Corresponds}
 use Rattle.model.specs.DemandThree.{Complementable, crowded, crowdedBy, lowestCrowded}
 use Rattle.model.specs.DeadComplement.{Never16, DeadInComplement}
 use Rattle.model.proofs.First.{left-none, none-then, first-found, only-if-some}
-use Rattle.model.proofs.Firing.{rule}
+use Rattle.model.proofs.Firing.{Conditions, row-conditions}
 use Rattle.model.proofs.Dead.{dead-modes, none-dead}
 use Rattle.model.proofs.Possible.{enabled-live}
 use Rattle.model.proofs.ComplementStep.{answerInComplement}
 use Rattle.model.proofs.RefusalsCorrespond.{uncrowded}
-use Rattle.model.proofs.ComplementNet.{modes-complement, pairs-complement, capacity-complement, rows-complement}
+use Rattle.model.proofs.ComplementNet.{modes-complement, pairs-complement, capacity-complement, rows-complement, corresponds-within}
 use Rattle.model.proofs.ComplementRow.{row-uninhibited}
 use Rattle.model.proofs.ComplementWellFormed.{numbers-in-range}
 use Rattle.model.proofs.CorrespondingMoves.{step-there}
@@ -59,6 +60,7 @@ not-16 (NotOneEach at) e = omega arith
 not-16 (EndsElsewhere p) e = omega arith
 not-16 (Unbalanced t) e = omega arith
 not-16 EqualFigures e = omega arith
+not-16 RuleLost e = omega arith
 not-16 FigurePast e = omega arith
 not-16 RecordOutside e = omega arith
 
@@ -87,15 +89,15 @@ unfolding _▸_
 first-by none b n e = absurd (omega arith)
 first-by (some r) b n e = e
 
-module _ (about : Thing) (n : ℕ) (k : Capacities) (r : Row) (M : Counts) where
+module _ (about : Thing) (n : ℕ) (c k : Capacities) (r : Row) (M : Counts) where
   -- what is not enabled in the net lacks something in the complement
-  lacks : ¬ Enables n k r M → number (answer (answerInComplement about n k r M)) ≡ 11
+  lacks : ¬ Conditions n k r M → number (answer (answerInComplement about n c k r M)) ≡ 11
   lacks never =
       ⊎-elim
       (λ l.
       ap (λ o. number (answer o)) (none-then l refl)
-      ∙ ⊎-elim (λ c. absurd (never (rule about n k r M .0 (uncrowded about n k r M l c)))) (first-by (lowestCrowded about n k r M) _ 10)
-      (by-11 n (λ p. crowded (r p) (k p) (M p)) (λ p. stopped about Lacking (complementPair n k p) (crowdedBy (r p) (k p) (M p))) (λ p. refl)))
+      ∙ ⊎-elim (λ no. absurd (never (row-conditions about n k r M .0 (uncrowded about n c k r M l no)))) (first-by (lowestCrowded about n c k r M) _ 10)
+      (by-11 n (λ p. crowded (r p) (k p) (M p)) (λ p. stopped about Lacking (complementPair n c p) (crowdedBy (r p) (k p) (M p))) (λ p. refl)))
       (first-by (lowestStop about n k r M Lacking) _ 10)
       (by-11 n (λ p. stops Lacking (r p) (k p) (M p)) (λ p. stopped about Lacking p (stoppedBy Lacking (r p) (k p) (M p))) (λ p. refl))
 
@@ -105,11 +107,16 @@ unfolding complementRefusal
 refused net able t h dead about m m′ c =
     let no15 = left-none (refusal15 (able .offset) net) _ (able .accepted) in
     ap (λ o. number (answer o)) (step-there net (able .wellFormed) (able .offset) no15 about t m m′ c h)
-    ∙ lacks about (pairs net) (K net) (row net t) (count m) (λ e. true≢false (sym dead ∙ enabled-live net t (count m) e))
+    ∙ lacks about (pairs net) (K net) (rooms net (row net t)) (row net t) (count m)
+    (λ e. true≢false (sym dead ∙ enabled-live net t (count m) (λ _. corresponds-within net m m′ c) e))
 
 -- where K and I are unbounded nothing is above them
-unbounded-lives : (e : Entry) (k : ℕ∞) → k ≡ ∞ → e .inhibitor ≡ ∞ → ¬ Kills e k
-unbounded-lives e k u i d = ⊎-elim (λ (a : Above (e .pre) (highestPre e k)). rw (u, i) at a) (λ (a : Above (e .post) k). rw u at a) d
+unbounded-lives : (rule : CapacityRule) (e : Entry) (k : ℕ∞) → k ≡ ∞ → e .inhibitor ≡ ∞ → ¬ Kills rule e k
+unbounded-lives rule e k u i d = ⊎-elim (go rule k (e .inhibitor) u i) (λ (a : Above (e .post) k). rw u at a) d
+  where
+    go : (rule : CapacityRule) (k i : ℕ∞) → k ≡ ∞ → i ≡ ∞ → ¬ Above (e .pre) (leastOf (preRoom rule e k) i)
+    go Strong k i u f a = rw (u, f) at a
+    go Weak k i u f a = rw (u, f) at a
 
 nowhere : (net : PNet) → firstDead (complement net) ≡ none
 nowhere net =
@@ -117,9 +124,9 @@ nowhere net =
     (λ t h dead.
     let r = dead-modes (complement net) (modeNo t) .0 dead in
     let p = r .0 in
-    unbounded-lives (row (complement net) (modeNo t) p) (K (complement net) p) (capacity-complement net p)
+    unbounded-lives (complement net .rule) (row (complement net) (modeNo t) p) (K (complement net) p) (capacity-complement net p)
     (ap (λ e. e .inhibitor) (rows-complement net (modeNo t) p (rw modes-complement at h) (rw pairs-complement at (r .1)))
-    ∙ row-uninhibited (isDead net (modeNo t)) (pairs net) (K net) (row net (modeNo t)) p)
+    ∙ row-uninhibited (net .rule) (isDead net (modeNo t)) (pairs net) (K net) (row net (modeNo t)) p)
     (r .2))
 
 pub dead-in-complement : DeadInComplement

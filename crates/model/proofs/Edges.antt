@@ -53,7 +53,7 @@ pre-six i pre =
     let net = edgeNet 5 i pre 6 in
     ap (λ e. e .pre)
     (rows-complement net (modeNo 0) 1 (omega arith) (omega arith)
-    ∙ row-complement (isDead net (modeNo 0)) 1 (K net) (row net (modeNo 0)) 0 5 (omega arith) refl)
+    ∙ row-complement (net .rule) (isDead net (modeNo 0)) 1 (K net) (row net (modeNo 0)) 0 5 (omega arith) refl)
     ∙ larger i
   where
     larger : (i : ℕ∞) → max 6 (reserve 5 i) ≡ 6

@@ -9,6 +9,8 @@ use lib.IntN.{ℤ, pos, negℤ, _+ℤ_, _-ℤ_, +ℤ-assoc, +ℤ-comm, +ℤ-idl,
 use lib.Signed.{ltZ}
 use native.Mathlib.Omega.{arith}
 use borrow.Author.Tests.{ltb-true, ltb-false}
+use Rattle.model.specs.declared.CapacityRule.{CapacityRule}
+use Rattle.model.specs.declared.CapacityRule.the-variants.{Strong}
 use Rattle.model.specs.Numbers.{ℕ∞, fin, ∞}
 use Rattle.model.specs.Rows.{Entry}
 use Rattle.model.specs.Nets.{pairs, K, row}
@@ -49,18 +51,21 @@ larger-is k post (fin i) = rw reserve-is (go (ltZ (pos k -ℤ pos post) (pos i))
 larger-is k post ∞ = ap pos (omega arith) ∙ sym (minus-back (pos k) (pos post))
 
 -- document 01's lines at one complement pair
-beside : (dead : Bool) (k : ℕ) (e : Entry) → Beside dead k e (complementEntry dead (fin k) e)
+beside : (dead : Bool) (k : ℕ) (e : Entry) → Beside dead k e (complementEntry Strong dead (fin k) e)
 beside dead k e =
     record {
       pre = larger-is k (e .post) (e .inhibitor);
       post = λ alive.
-          let order : complementPost false k e ≡ complementPre k e - e .post + e .pre = omega arith in
-          rw alive (ap pos order) ∙ pos-after (complementPre k e) (e .post) (e .pre) (omega arith)
+          let order : complementPost Strong false k e ≡ complementPre Strong k e - e .post + e .pre = omega arith in
+          rw alive (ap pos order) ∙ pos-after (complementPre Strong k e) (e .post) (e .pre) (omega arith)
           ∙ ap (λ x. x +ℤ (pos (e .pre) -ℤ pos (e .post))) (larger-is k (e .post) (e .inhibitor))
           ∙ +ℤ-comm (pos k -ℤ IK k e) (pos (e .pre) -ℤ pos (e .post));
       postOfDead = λ d. rw d;
       inhibitor = refl;
     }
+
+beside-by : (rule : CapacityRule) → rule ≡ Strong → (dead : Bool) (k : ℕ) (e : Entry) → Beside dead k e (complementEntry rule dead (fin k) e)
+beside-by rule strong dead k e = rw strong (beside dead k e)
 
 pub figure-64 : Figure64
 unfolding complement
@@ -71,9 +76,9 @@ figure-64 net =
       sameModes = refl;
       unbounded = ap (λ n. replicate n ∞) (sym (pairs-complement net));
       start = first-corresponds net;
-      originals = λ t p h l. rows-complement net t p h (omega arith) ∙ row-original (isDead net t) n (K net) (row net t) p l;
-      besides = λ t p k h l e.
+      originals = λ t p h l. rows-complement net t p h (omega arith) ∙ row-original (net .rule) (isDead net t) n (K net) (row net t) p l;
+      besides = λ strong t p k h l e.
           let pair = complementPair n (K net) p in
-          let is = rows-complement net t pair h (omega (arith, bounded-number (K net) n p k l e)) ∙ row-complement (isDead net t) n (K net) (row net t) p k l e in
-          rw is (beside (isDead net t) k (row net t p));
+          let is = rows-complement net t pair h (omega (arith, bounded-number (K net) n p k l e)) ∙ row-complement (net .rule) (isDead net t) n (K net) (row net t) p k l e in
+          rw is (beside-by (net .rule) strong (isDead net t) k (row net t p));
     }

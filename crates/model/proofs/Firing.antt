@@ -30,7 +30,7 @@ use Rattle.model.proofs.Numbers.{above-true, true-above, not-above, le-
 use Rattle.model.proofs.Decisions.{by-less, by-at-most, by-equal, by-above, by-not}
 use Rattle.model.proofs.RefusalTables.{reads-plain, reads-then, reads-each, four}
 
--- one of 11 to 14 at one pair, where the mode has e, the capacity is k and the count m
+-- one of 11 to 14 at one pair, where the mode has e, 12 compares with k and the count is m
 abbrev pub Stops : Why → Entry → ℕ∞ → ℕ → Type 0
 Stops why e k m = Above (compared why e k m .number) (compared why e k m .bound)
 
@@ -43,7 +43,13 @@ limit-last : rowRefusal Argument 1 (λ p. ∞) (λ p. record { pre = 0; post = 1
 unfolding rowRefusal ruleRefusal _▸_ first
 limit-last = refl
 
--- an accepted row is four facts at each pair: 11 to 14 in document 01's words
+-- the three conditions at each pair, in document 01's words, where 12 compares with k
+pub record Conditions (n : ℕ) (k : Capacities) (r : Row) (M : Counts) : Type 0 where
+  pub enough : (p : ℕ) → p < n → r p .pre ≤ M p
+  pub room : (p : ℕ) → p < n → M p + r p .post ≤∞ k p
+  pub low : (p : ℕ) → p < n → M p ≤∞ r p .inhibitor
+
+-- an accepted row is four facts at each pair: with 14's
 pub record Passes (n : ℕ) (k : Capacities) (r : Row) (M : Counts) : Type 0 where
   pub enough : (p : ℕ) → p < n → r p .pre ≤ M p
   pub room : (p : ℕ) → p < n → M p + r p .post ≤∞ k p
@@ -51,12 +57,27 @@ pub record Passes (n : ℕ) (k : Capacities) (r : Row) (M : Counts) : Type 0 whe
   pub small : (p : ℕ) → p < n → after (r p) (M p) ≤ limit
 
 module _ {n : ℕ} {k : Capacities} {r : Row} {M : Counts} where
-  pub passes-enables : Passes n k r M → Enables n k r M
-  passes-enables h = record { enough = h .enough; room = λ p l. le-room (M p) (r p .post) (k p) (omega arith) (omega arith) (h .room p l); uninhibited = λ p l. le-as (r p .inhibitor) (omega arith) (h .low p l) }
+  pub conditions-enable : Conditions n k r M → Enables n k r M
+  conditions-enable h =
+      record {
+        enough = h .enough;
+        room = λ p l. le-room (M p) (r p .post) (k p) (omega arith) (omega arith) (h .room p l);
+        uninhibited = λ p l. le-as (r p .inhibitor) (omega arith) (h .low p l);
+      }
 
-  pub enables-passes : Enables n k r M → ((p : ℕ) → p < n → after (r p) (M p) ≤ limit) → Passes n k r M
-  enables-passes h small =
-      record { enough = h .enough; room = λ p l. room-le (M p) (r p .post) (k p) (omega arith) (omega arith) (h .room p l); low = λ p l. le-as (r p .inhibitor) (omega arith) (h .uninhibited p l); small = small }
+  pub enables-conditions : Enables n k r M → Conditions n k r M
+  enables-conditions h =
+      record {
+        enough = h .enough;
+        room = λ p l. room-le (M p) (r p .post) (k p) (omega arith) (omega arith) (h .room p l);
+        low = λ p l. le-as (r p .inhibitor) (omega arith) (h .uninhibited p l);
+      }
+
+  pub passes-conditions : Passes n k r M → Conditions n k r M
+  passes-conditions h = record { enough = h .enough; room = h .room; low = h .low }
+
+  pub conditions-pass : Conditions n k r M → ((p : ℕ) → p < n → after (r p) (M p) ≤ limit) → Passes n k r M
+  conditions-pass h small = record { enough = h .enough; room = h .room; low = h .low; small = small }
 
 module _ (about : Thing) (n : ℕ) (k : Capacities) (r : Row) (M : Counts) where
   abbrev pub At : Why → ℕ → Type 0
@@ -125,29 +146,27 @@ module _ (about : Thing) (n : ℕ) (k : Capacities) (r : Row) (M : Counts) where
     λ f. none-stop why (λ p h. let c = compared why (r p) (k p) (M p) in not-above (c .number) (c .bound) (f p h)),
   )
 
-  -- source document 000's rule, 14 aside
-  accepted-enables : ruleRefusal about n k r M ≡ none → Enables n k r M
+  -- 14 aside
+  pub row-conditions : (ruleRefusal about n k r M ≡ none) ↔ Conditions n k r M
   unfolding ruleRefusal
-  accepted-enables e =
-      let over = right-none (lowestStop about n k r M Lacking) _ e in
-      record {
-        enough = stays-within Lacking .0 (left-none _ _ e);
-        room = λ p h. le-room (M p) (r p .post) (k p) (omega arith) (omega arith) (stays-within OverCapacity .0 (left-none _ _ over) p h);
-        uninhibited = λ p h. le-as (r p .inhibitor) (omega arith) (stays-within Inhibited .0 (right-none _ _ over) p h);
-      }
-
-  enables-accepted : Enables n k r M → ruleRefusal about n k r M ≡ none
-  unfolding ruleRefusal
-  enables-accepted h =
-      none-then (stays-within Lacking .1 (h .enough))
-      (none-then (stays-within OverCapacity .1 (λ p l. room-le (M p) (r p .post) (k p) (omega arith) (omega arith) (h .room p l)))
-      (stays-within Inhibited .1 (λ p l. le-as (r p .inhibitor) (omega arith) (h .uninhibited p l))))
+  row-conditions = (
+    λ e.
+        let over = right-none (lowestStop about n k r M Lacking) _ e in
+        record {
+          enough = stays-within Lacking .0 (left-none _ _ e);
+          room = stays-within OverCapacity .0 (left-none _ _ over);
+          low = stays-within Inhibited .0 (right-none _ _ over);
+        },
+    λ h.
+        none-then (stays-within Lacking .1 (h .enough))
+        (none-then (stays-within OverCapacity .1 (h .room)) (stays-within Inhibited .1 (h .low))),
+  )
 
   pub row-passes : (rowRefusal about n k r M ≡ none) ↔ Passes n k r M
   unfolding rowRefusal
   row-passes = (
-    λ e. enables-passes (accepted-enables (left-none _ _ e)) (stays-within OverLimit .0 (right-none _ _ e)),
-    λ h. none-then (enables-accepted (passes-enables h)) (stays-within OverLimit .1 (h .small)),
+    λ e. conditions-pass (row-conditions .0 (left-none _ _ e)) (stays-within OverLimit .0 (right-none _ _ e)),
+    λ h. none-then (row-conditions .1 (passes-conditions h)) (stays-within OverLimit .1 (h .small)),
   )
 
 -- 6: whether a mode is there
@@ -158,7 +177,7 @@ pub mode-missing : (about : Thing) (n : ℕ) (t : Mode) → n ≤ t .0 → absen
 mode-missing about n t h = rw (le-leb n (t .0) h)
 
 module _ (about : Thing) (net : PNet) (t : Mode) (m : List ℕ) where
-  pub there : t .0 < modes net → modeRefusal about net t m ≡ rowRefusal about (pairs net) (K net) (row net t) (count m)
+  pub there : t .0 < modes net → modeRefusal about net t m ≡ rowRefusal about (pairs net) (rooms net (row net t)) (row net t) (count m)
   unfolding modeRefusal
   there h = none-then (mode-there about (modes net) t h) refl
 
@@ -181,10 +200,10 @@ missing-reads about net t = reads-plain _ (by-at-most (modes net) (t .0))
 
 module _ (about : Thing) (net : PNet) (t : Mode) (m : List ℕ) where
   stop-reads : (why : Why)
-      → Reads (each (pairs net) (λ p. tableRow (Stops why (row net t p) (K net p) (count m p)) (carried (Refused (stop about (pairs net) (K net) (row net t) (count m) why p)))))
-      (lowestStop about (pairs net) (K net) (row net t) (count m) why)
+      → Reads (each (pairs net) (λ p. tableRow (Stops why (row net t p) (rooms net (row net t) p) (count m p)) (carried (Refused (stop about (pairs net) (rooms net (row net t)) (row net t) (count m) why p)))))
+      (lowestStop about (pairs net) (rooms net (row net t)) (row net t) (count m) why)
   stop-reads why =
-      reads-each (pairs net) (λ p l. let c = compared why (row net t p) (K net p) (count m p) in reads-plain _ (by-above (c .number) (c .bound)))
+      reads-each (pairs net) (λ p l. let c = compared why (row net t p) (rooms net (row net t) p) (count m p) in reads-plain _ (by-above (c .number) (c .bound)))
 
   mode-reads : Reads (modeTable (thingNumber about) net t m) (modeRefusal about net t m)
   unfolding modeRefusal rowRefusal ruleRefusal
@@ -197,7 +216,7 @@ pub refusal-table : RefusalTable
 refusal-table = record { marking = marking-reads; mode = mode-reads }
 
 pub rule : Rule
-rule about n k r M = (accepted-enables about n k r M, enables-accepted about n k r M)
+rule about n k r M = (λ e. conditions-enable (row-conditions about n k r M .0 e), λ h. row-conditions about n k r M .1 (enables-conditions h))
 
 -- what an accepted movement shows at each pair
 module _ (about : Thing) (net : PNet) (t : Mode) (m : List ℕ) (e : modeRefusal about net t m ≡ none) where
@@ -208,9 +227,6 @@ module _ (about : Thing) (net : PNet) (t : Mode) (m : List ℕ) (e : modeRefusal
   pub accepted-passes : Passes (pairs net) (rooms net (row net t)) (row net t) (count m)
   unfolding modeRefusal
   accepted-passes = row-passes about (pairs net) _ (row net t) (count m) .0 (right-none _ _ e)
-
-  pub accepted-allows : Enables (pairs net) (K net) (row net t) (count m)
-  accepted-allows = passes-enables accepted-passes
 
   pub accepted-enough : (p : ℕ) → p < pairs net → row net t p .pre ≤ count m p
   accepted-enough = accepted-passes .enough

@@ -13,9 +13,11 @@ pub mod CorrespondingMoves
 pub mod ComplementWellFormed
 pub mod Demand3
 pub mod WorkedExamples
+pub mod WeakExamples
 pub mod Numbers
 pub mod Tables
 pub mod Firing
+pub mod Rooms
 pub mod ShortOrOver
 pub mod Markings
 pub mod Runs

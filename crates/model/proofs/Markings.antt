@@ -2,6 +2,7 @@
 use Prim.Native.Nat.{ℕ, _+_, _<_}
 use mathlib.Core.Path.{_≡_, sym, _∙_}
 use mathlib.Core.List.{List}
+use mathlib.Core.Logic.{_↔_}
 use mathlib.Core.Option.{none}
 use lib.ListN.{length}
 use lib.Seq.{ext-getD}
@@ -10,15 +11,17 @@ use borrow.Author.Tests.{eqb-true, eq-eqb, not-false}
 use Rattle.model.specs.declared.Mode.{Mode}
 use Rattle.model.specs.Numbers.{fin, limit}
 use Rattle.model.specs.Rows.{noArc, Row}
+use Rattle.model.specs.Allows.{Allows}
 use Rattle.model.specs.Nets.{PNet, pairs, K, count, row}
 use Rattle.model.specs.Markings.{markingRefusal, Marking}
-use Rattle.model.specs.Firing.{after, firedRow, fired}
+use Rattle.model.specs.Firing.{after, rooms, firedRow, fired}
 use Rattle.model.specs.Promises.{ModeRule, MarkingAfter, WithoutArcs, MarkingTest, MarkingKept}
 use Rattle.model.proofs.First.{left-none, right-none, none-then, first-each, first-all, only-if-none}
 use Rattle.model.proofs.Numbers.{above-false, false-above, le-le∞}
+use Rattle.model.proofs.Rooms.{within-room, kept-within, allows-is}
 use Rattle.model.proofs.Nets.{entry-unwritten}
 use Rattle.model.proofs.Tables.{table-length, table-at}
-use Rattle.model.proofs.Firing.{enables-passes, accepted-there, accepted-passes, accepted-allows, accepted-enough, passes-accepted}
+use Rattle.model.proofs.Firing.{Conditions, passes-conditions, conditions-pass, accepted-there, accepted-passes, accepted-enough, passes-accepted}
 
 accepted-marking : (net : PNet) (m : List ℕ) → markingRefusal net m ≡ none → Marking net m
 unfolding markingRefusal
@@ -62,9 +65,12 @@ marking-after about net t m e = (λ p h. rw (fired-at net t m p h) (omega (arith
 
 pub mode-rule : ModeRule
 mode-rule about net t m = (
-  λ e. (accepted-there about net t m e, accepted-allows about net t m e, λ p h. rw (fired-at net t m p h) (accepted-passes about net t m e .small p h)),
-  λ r. passes-accepted about net t m (r .0) (enables-passes (r .1) (λ p h. rw (fired-at net t m p h) at (r .2 p h))),
+  λ e. (accepted-there about net t m e, is .0 (passes-conditions (accepted-passes about net t m e)), λ p h. rw (fired-at net t m p h) (accepted-passes about net t m e .small p h)),
+  λ r. passes-accepted about net t m (r .0) (conditions-pass (is .1 (r .1)) (λ p h. rw (fired-at net t m p h) at (r .2 p h))),
 )
+  where
+    is : Conditions (pairs net) (rooms net (row net t)) (row net t) (count m) ↔ Allows (net .rule) (pairs net) (K net) (row net t) (count m)
+    is = allows-is (net .rule) (pairs net) (K net) (row net t) (count m)
 
 pub marking-kept : MarkingKept
 marking-kept about net t m h e =
@@ -73,7 +79,7 @@ marking-kept about net t m h e =
       inRange = λ p l. rw (fired-at net t m p l) (accepted-passes about net t m e .small p l);
       within = λ p l.
           rw (fired-at net t m p l)
-          (le-le∞ (after (row net t p) (count m p)) (count m p + row net t p .post) (K net p) (omega arith) (accepted-passes about net t m e .room p l));
+          (kept-within (net .rule) (K net p) (row net t p) (count m p) (accepted-enough about net t m e p l) (accepted-passes about net t m e .room p l));
     }
 
 -- nothing stands anywhere in the row of a mode without arcs
@@ -82,7 +88,7 @@ without-arcs about net t m there none-own h = (
   passes-accepted about net t m there
       (record {
         enough = λ p l. rw (bare p) (omega arith);
-        room = λ p l. rw (bare p) (le-le∞ (count m p + 0) (count m p) (K net p) (omega arith) (h .within p l));
+        room = λ p l. rw (bare p) (within-room (net .rule) (K net p) 0 (count m p + 0) (le-le∞ (count m p + 0) (count m p) (K net p) (omega arith) (h .within p l)));
         low = λ p l. rw (bare p) tt;
         small = λ p l. rw (bare p) (omega (arith, h .inRange p l));
       }),

@@ -15,6 +15,7 @@ use Rattle.model.specs.Firing.{modeRefusal, fired}
 use Rattle.model.specs.Promises.{Leads, moves}
 use Rattle.model.specs.Orders.{Apart, EndAlike, Orders, Interleaved, ends, left, right, AllApart, Interleavings}
 use Rattle.model.proofs.Numbers.{le-le∞}
+use Rattle.model.proofs.Rooms.{within-room}
 use Rattle.model.proofs.Firing.{accepted-there, accepted-passes, passes-accepted}
 use Rattle.model.proofs.Markings.{fired-at, fired-length, marking-kept}
 use Rattle.model.proofs.Runs.{run-leads, leads-whole}
@@ -43,7 +44,7 @@ unmoved net u m m′ f marking alike =
       enough = λ p l. ⊎-elim (λ s. rw s (h .enough p l)) (λ n. rw n (omega arith)) (alike p l);
       room = λ p l.
           ⊎-elim (λ s. rw s (h .room p l))
-          (λ n. rw n (le-le∞ (count m′ p + 0) (count m′ p) (K net p) (omega arith) (marking .within p l))) (alike p l);
+          (λ n. rw n (within-room (net .rule) (K net p) 0 _ (le-le∞ (count m′ p + 0) (count m′ p) (K net p) (omega arith) (marking .within p l)))) (alike p l);
       low = λ p l. ⊎-elim (λ s. rw s (h .low p l)) (λ n. rw n tt) (alike p l);
       small = λ p l. ⊎-elim (λ s. rw s (h .small p l)) (λ n. rw n (omega (arith, marking .inRange p l))) (alike p l);
     })

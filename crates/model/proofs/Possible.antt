@@ -5,85 +5,107 @@ use mathlib.Core.Bool.{Bool, true, false, true≢false}
 use mathlib.Core.List.{List}
 use mathlib.Core.Logic.{inl, inr, ⊎-elim}
 use native.Mathlib.Omega.{arith}
+use Rattle.model.specs.declared.CapacityRule.{CapacityRule}
+use Rattle.model.specs.declared.CapacityRule.the-variants.{Strong, Weak}
 use Rattle.model.specs.declared.Mode.{Mode}
-use Rattle.model.specs.Numbers.{ℕ∞, fin, ∞, _≤∞_, Above}
-use Rattle.model.specs.Rows.{Entry, Counts}
-use Rattle.model.specs.Billington.{Enables}
+use Rattle.model.specs.Numbers.{ℕ∞, fin, ∞, _≤∞_}
+use Rattle.model.specs.Rows.{Entry, Row, Counts}
+use Rattle.model.specs.Allows.{Allows}
 use Rattle.model.specs.Nets.{PNet, pairs, K, count, row}
 use Rattle.model.specs.WellFormed.{WellFormed}
 use Rattle.model.specs.Markings.{Marking}
-use Rattle.model.specs.Firing.{rooms}
-use Rattle.model.specs.Dead.{highestPre, Kills, isDead, lowestMarking}
-use Rattle.model.specs.Complement.{reserve, complementPre, complementPost}
+use Rattle.model.specs.Firing.{roomFor, rooms}
+use Rattle.model.specs.Dead.{preRoom, highestPre, Kills, isDead, lowestMarking}
+use Rattle.model.specs.Complement.{reserve, claim, complementPre, complementPost}
 use Rattle.model.specs.Promises.{DeadExactly, DeadOrLive}
-use Rattle.model.proofs.Numbers.{le-not-above, le-le∞, le-as, room-le}
+use Rattle.model.proofs.Numbers.{le-not-above, not-above, le-le∞, below-least-of}
+use Rattle.model.proofs.Rooms.{room-within, allows-is}
 use Rattle.model.proofs.Tables.{table-at, table-length}
-use Rattle.model.proofs.Firing.{Passes, passes-enables, passes-accepted}
+use Rattle.model.proofs.Firing.{Conditions, Passes, passes-conditions, passes-accepted}
 use Rattle.model.proofs.ComplementNet.{row-small}
 use Rattle.model.proofs.ComplementRow.{reserve-is}
 use Rattle.model.proofs.Dead.{dead-modes}
 
 -- at one pair the count of Pre is within K and passes
-pub record Lives (e : Entry) (k : ℕ∞) : Type 0 where
+pub record Lives (rule : CapacityRule) (e : Entry) (k : ℕ∞) : Type 0 where
   pub within : e .pre ≤∞ k
-  pub room : e .pre + e .post ≤∞ k
+  pub room : e .pre + e .post ≤∞ roomFor rule k (e .pre)
   pub low : e .pre ≤∞ e .inhibitor
 
 -- what an arc has at a pair, by its three numbers
 abbrev entry : ℕ → ℕ → ℕ∞ → Entry
 entry pre post i = record { pre = pre; post = post; inhibitor = i }
 
-lives : (e : Entry) (k : ℕ∞) → ¬ Kills e k → Lives e k
-lives e k h =
-    let both = fits (e .pre) (e .post) k (e .inhibitor) (le-not-above (e .pre) (highestPre e k) (λ a. h (inl a))) (le-not-above (e .post) k (λ a. h (inr a))) in
-    record { within = le-le∞ _ _ k (omega arith) (both .0); room = both .0; low = both .1 }
+lives : (rule : CapacityRule) (e : Entry) (k : ℕ∞) → ¬ Kills rule e k → Lives rule e k
+lives rule e k h =
+    fits rule (e .pre) (e .post) k (e .inhibitor) (le-not-above (e .pre) (highestPre rule e k) (λ a. h (inl a))) (le-not-above (e .post) k (λ a. h (inr a)))
   where
-    fits : (pre post : ℕ) (k i : ℕ∞) → pre ≤∞ highestPre (entry pre post i) k → post ≤∞ k → (pre + post ≤∞ k) × (pre ≤∞ i)
-    fits pre post (fin k) (fin i) a b = omega arith
-    fits pre post (fin k) ∞ a b = (omega arith, tt)
-    fits pre post ∞ (fin i) a b = (tt, a)
-    fits pre post ∞ ∞ a b = (tt, tt)
+    fits : (rule : CapacityRule) (pre post : ℕ) (k i : ℕ∞) → pre ≤∞ highestPre rule (entry pre post i) k → post ≤∞ k → Lives rule (entry pre post i) k
+    fits Strong pre post (fin k) (fin i) a b = record { within = omega arith; room = omega arith; low = omega arith }
+    fits Strong pre post (fin k) ∞ a b = record { within = omega arith; room = omega arith; low = tt }
+    fits Weak pre post (fin k) (fin i) a b = record { within = omega arith; room = omega arith; low = omega arith }
+    fits Weak pre post (fin k) ∞ a b = record { within = omega arith; room = omega arith; low = tt }
+    fits Strong pre post ∞ (fin i) a b = record { within = tt; room = tt; low = a }
+    fits Strong pre post ∞ ∞ a b = record { within = tt; room = tt; low = tt }
+    fits Weak pre post ∞ (fin i) a b = record { within = tt; room = tt; low = a }
+    fits Weak pre post ∞ ∞ a b = record { within = tt; room = tt; low = tt }
 
 -- at the complement of such a pair both numbers are within K
-pub lives-beside : (k : ℕ) (e : Entry) → Lives e (fin k) → (complementPre k e ≤ k) × (complementPost false k e ≤ k)
-lives-beside k e h = omega (arith, go (e .inhibitor) (h .low))
+pub lives-beside : (rule : CapacityRule) (k : ℕ) (e : Entry) → Lives rule e (fin k) → (complementPre rule k e ≤ k) × (complementPost rule false k e ≤ k)
+lives-beside rule k e h = go rule (e .inhibitor) (h .within) (h .room) (h .low)
   where
-    go : (i : ℕ∞) → e .pre ≤∞ i → (max (e .post) (reserve k i) ≤ k) × (max (e .post) (reserve k i) + e .pre - e .post ≤ k)
-    go (fin i) low = rw reserve-is (omega (arith, h .room))
-    go ∞ low = omega (arith, h .room)
+    go : (rule : CapacityRule) (i : ℕ∞) → e .pre ≤ k → e .pre + e .post ≤∞ roomFor rule (fin k) (e .pre) → e .pre ≤∞ i
+        → (max (claim rule e) (reserve k i) ≤ k) × (max (claim rule e) (reserve k i) + e .pre - e .post ≤ k)
+    go Strong (fin i) within room low = rw reserve-is (omega arith)
+    go Strong ∞ within room low = omega arith
+    go Weak (fin i) within room low = rw reserve-is (omega arith)
+    go Weak ∞ within room low = omega arith
 
--- at one pair no count within K passes the three conditions
-kills-stops : (e : Entry) (k : ℕ∞) (m : ℕ) → Kills e k → m ≤∞ k → e .pre ≤ m → m + e .post ≤∞ k → m ≤∞ e .inhibitor → ⊥
-kills-stops e k m dead within enough room low = ⊎-elim (lacking (e .pre) (e .post) k (e .inhibitor) enough room low) (full k room) dead
+-- at one pair no count within K passes the three conditions, for the mode alone or for a step that it is one of, with these sums
+kills-stops : (rule : CapacityRule) (e : Entry) (k : ℕ∞) (m pre post : ℕ) → Kills rule e k → e .pre ≤ pre → e .post ≤ post
+    → m ≤∞ k → pre ≤ m → m + post ≤∞ roomFor rule k pre → m ≤∞ e .inhibitor → ⊥
+kills-stops rule e k m pre post dead a b within enough room low =
+    let fits = go rule k within room in
+    ⊎-elim
+    (not-above (e .pre) (highestPre rule e k)
+    (below-least-of (e .pre) (preRoom rule e k) (e .inhibitor) .1 (fits .0, le-le∞ (e .pre) m (e .inhibitor) (omega arith) low)))
+    (not-above (e .post) k (fits .1)) dead
   where
-    lacking : (pre post : ℕ) (k i : ℕ∞) → pre ≤ m → m + post ≤∞ k → m ≤∞ i → ¬ Above pre (highestPre (entry pre post i) k)
-    lacking pre post (fin k) (fin i) n r l a = omega arith
-    lacking pre post (fin k) ∞ n r l a = omega arith
-    lacking pre post ∞ (fin i) n r l a = omega arith
-    lacking pre post ∞ ∞ n r l a = a
+    go : (rule : CapacityRule) (k : ℕ∞) → m ≤∞ k → m + post ≤∞ roomFor rule k pre → (e .pre ≤∞ preRoom rule e k) × (e .post ≤∞ k)
+    go Strong (fin k) within room = omega arith
+    go Strong ∞ within room = (tt, tt)
+    go Weak (fin k) within room = omega arith
+    go Weak ∞ within room = (tt, tt)
 
-    full : (k : ℕ∞) → m + e .post ≤∞ k → ¬ Above (e .post) k
-    full (fin k) r a = omega arith
-    full ∞ r a = a
+-- a row has what it takes and room for what it puts, at counts that are within K; by document 01's rule they are
+pub record Fits (net : PNet) (r : Row) (M : Counts) : Type 0 where
+  pub within : net .rule ≡ Weak → (p : ℕ) → p < pairs net → M p ≤∞ K net p
+  pub enough : (p : ℕ) → p < pairs net → r p .pre ≤ M p
+  pub room : (p : ℕ) → p < pairs net → M p + r p .post ≤∞ rooms net r p
 
 module _ (net : PNet) (t : Mode) where
-  never : isDead net t ≡ true → (M : Counts) → ¬ Enables (pairs net) (K net) (row net t) M
-  never d M h =
-      let r = dead-modes net t .0 d in
-      let p = r .0 in
-      let room = room-le (M p) (row net t p .post) (K net p) (omega arith) (omega arith) (h .room p (r .1)) in
-      kills-stops (row net t p) (K net p) (M p) (r .2) (le-le∞ (M p) _ (K net p) (omega arith) room) (h .enough p (r .1)) room (le-as (row net t p .inhibitor) (omega arith) (h .uninhibited p (r .1)))
-
-  -- what some counts enable is not dead
-  pub enabled-live : (M : Counts) → Enables (pairs net) (K net) (row net t) M → isDead net t ≡ false
-  enabled-live M h = go (isDead net t) refl
+  -- a mode that has no more Pre and Post at any pair than what fits, and no lower I than the counts, is not dead
+  pub fits-live : (r : Row) (M : Counts) → Fits net r M → ((p : ℕ) → (row net t p .pre ≤ r p .pre) × (row net t p .post ≤ r p .post))
+      → ((p : ℕ) → p < pairs net → M p ≤∞ row net t p .inhibitor) → isDead net t ≡ false
+  fits-live r M fits part low = go (isDead net t) refl
     where
       go : (b : Bool) → isDead net t ≡ b → isDead net t ≡ false
-      go true d = absurd (never d M h)
+      go true d =
+          let at = dead-modes net t .0 d in
+          let p = at .0 in
+          let room = fits .room p (at .1) in
+          absurd
+          (kills-stops (net .rule) (row net t p) (K net p) (M p) (r p .pre) (r p .post) (at .2) (part p .0) (part p .1)
+          (room-within (net .rule) (K net p) (r p .pre) (r p .post) (M p) room (λ e. fits .within e p (at .1))) (fits .enough p (at .1)) room (low p (at .1)))
       go false d = d
 
-  pub lives-at : isDead net t ≡ false → (p : ℕ) → p < pairs net → Lives (row net t p) (K net p)
-  lives-at alive p h = lives (row net t p) (K net p) (λ k. true≢false (sym (dead-modes net t .1 (p, h, k)) ∙ alive))
+  -- so what some counts enable is not dead
+  pub enabled-live : (M : Counts) → (net .rule ≡ Weak → (p : ℕ) → p < pairs net → M p ≤∞ K net p)
+      → Conditions (pairs net) (rooms net (row net t)) (row net t) M → isDead net t ≡ false
+  enabled-live M within h = fits-live (row net t) M (record { within = within; enough = h .enough; room = h .room }) (λ p. omega arith) (h .low)
+
+  pub lives-at : isDead net t ≡ false → (p : ℕ) → p < pairs net → Lives (net .rule) (row net t p) (K net p)
+  lives-at alive p h = lives (net .rule) (row net t p) (K net p) (λ k. true≢false (sym (dead-modes net t .1 (p, h, k)) ∙ alive))
 
   module _ (wf : WellFormed net) (alive : isDead net t ≡ false) where
     low-at : (p : ℕ) → p < pairs net → count (lowestMarking net t) p ≡ row net t p .pre
@@ -109,13 +131,13 @@ module _ (net : PNet) (t : Mode) where
 pub dead-or-live : DeadOrLive
 dead-or-live net wf t =
     record {
-      dead = never net t;
+      dead = λ d M within a. true≢false (sym d ∙ enabled-live net t M within (allows-is (net .rule) (pairs net) (K net) (row net t) M .1 a));
       live = λ alive there. (low-marking net t wf alive, λ about. passes-accepted about net t (lowestMarking net t) there (low-passes net t wf alive));
     }
 
 pub dead-exactly : DeadExactly
-dead-exactly net wf t = (λ d m h. never net t d (count m), go (isDead net t) refl)
+dead-exactly net wf t = (λ d m h. dead-or-live net wf t .dead d (count m) (λ e. h .within), go (isDead net t) refl)
   where
-    go : (b : Bool) → isDead net t ≡ b → ((m : List ℕ) → Marking net m → ¬ Enables (pairs net) (K net) (row net t) (count m)) → isDead net t ≡ true
+    go : (b : Bool) → isDead net t ≡ b → ((m : List ℕ) → Marking net m → ¬ Allows (net .rule) (pairs net) (K net) (row net t) (count m)) → isDead net t ≡ true
     go true e nowhere = e
-    go false e nowhere = absurd (nowhere (lowestMarking net t) (low-marking net t wf e) (passes-enables (low-passes net t wf e)))
+    go false e nowhere = absurd (nowhere (lowestMarking net t) (low-marking net t wf e) (allows-is (net .rule) (pairs net) (K net) (row net t) (count (lowestMarking net t)) .0 (passes-conditions (low-passes net t wf e))))

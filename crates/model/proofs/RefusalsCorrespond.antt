@@ -18,9 +18,10 @@ use Rattle.model.proofs.Numbers.{false-above, le-not-above, true-above}
 use Rattle.model.proofs.Firing.{No, Low, row0, row11, row12, row13, row14, none-stop, lowest-stop, find-stop}
 use Rattle.model.proofs.ComplementStep.{answerInComplement}
 
-module _ (thing : Thing) (n : ℕ) (k : Capacities) (r : Row) (M : Counts) where
+-- `c` are the capacities, which number the complement pairs, and `k` what 12 compares with
+module _ (thing : Thing) (n : ℕ) (c k : Capacities) (r : Row) (M : Counts) where
   abbrev crowd : Option Refusal
-  crowd = lowestCrowded thing n k r M
+  crowd = lowestCrowded thing n c k r M
 
   abbrev At : Why → Type 0
   At why = (p : ℕ) × Low thing n k r M why p
@@ -53,7 +54,7 @@ module _ (thing : Thing) (n : ℕ) (k : Capacities) (r : Row) (M : Counts) where
 
   -- 12 and 13 give way to the lowest crowded pair; the others stay
   abbrev Becomes : Option Refusal → Type 0
-  Becomes o = cond (is12or13 o) crowd o ≡ answerInComplement thing n k r M
+  Becomes o = cond (is12or13 o) crowd o ≡ answerInComplement thing n c k r M
 
   pub row-becomes : Becomes (rowRefusal thing n k r M)
   row-becomes =
@@ -91,7 +92,7 @@ module _ (thing : Thing) (n : ℕ) (k : Capacities) (r : Row) (M : Counts) where
       passed p h = or-neither (stops OverCapacity (r p) (k p) (M p)) _ (only-if-none _ _ (first-each n _ c p h))
 
   -- what the complement accepts, the net accepts
-  pub none-becomes : answerInComplement thing n k r M ≡ none → rowRefusal thing n k r M ≡ none
+  pub none-becomes : answerInComplement thing n c k r M ≡ none → rowRefusal thing n k r M ≡ none
   unfolding rowRefusal
   none-becomes e =
       let rest = right-none (lowestStop thing n k r M Lacking) _ e in

@@ -9,11 +9,12 @@ use lib.Dec.{eqb, ltb}
 use lib.ListN.{length, take, getD}
 use borrow.Author.Tests.{eqb-false, ne-eqb, ltb-false, le-ltb, leb-false}
 use native.Mathlib.Omega.{arith}
+use Rattle.model.specs.declared.CapacityRule.the-variants.{Weak}
 use Rattle.model.specs.declared.Mode.{Mode}
 use Rattle.model.specs.declared.Thing.the-variants.{Argument}
 use Rattle.model.specs.First.{_▸_, first}
 use Rattle.model.specs.Numbers.{ℕ∞, fin, ∞, _≤∞_, Above, above, leastOf, leastOfAll, limit}
-use Rattle.model.specs.Rows.{Entry, noArc, Counts}
+use Rattle.model.specs.Rows.{Entry, noArc, Row, Counts}
 use Rattle.model.specs.Nets.{PNet, total, pairs, modes, modeNo, K, count, row}
 use Rattle.model.specs.Dead.{isDead}
 use Rattle.model.specs.WellFormed.{WellFormed}
@@ -22,12 +23,12 @@ use Rattle.model.specs.Steps.{beside, together, stepRefusal, firedTogeth
 use Rattle.model.proofs.First.{below-or, left-none, right-none, none-then, first-each, first-all, only-if-none}
 use Rattle.model.proofs.Both.{or-neither}
 use Rattle.model.proofs.Each.{Each, each-at, at-each}
-use Rattle.model.proofs.Numbers.{above-true, above-false, not-above, le-le∞, le-room, below-least-of, least-assoc, least-none}
+use Rattle.model.proofs.Numbers.{above-true, above-false, not-above, below-least-of, least-assoc, least-none}
 use Rattle.model.proofs.Decisions.{Decided}
 use Rattle.model.proofs.Firing.{Passes, row-passes, mode-there}
 use Rattle.model.proofs.Markings.{row-fired-at, row-fired-length}
 use Rattle.model.proofs.ComplementNet.{row-small}
-use Rattle.model.proofs.Possible.{enabled-live}
+use Rattle.model.proofs.Possible.{Fits, fits-live}
 
 abbrev pub There : PNet → List Mode → Type 0
 There net ts = Each (λ t. t .0 < modes net) ts
@@ -137,7 +138,7 @@ step-rule net ts m = (
         each-at (λ t. t .0 < modes net) (modeNo 0) ts (a .there),
         record {
           enough = λ p h. rw (← pre-is net p ts) (a .passes .enough p h);
-          room = λ p h. rw (← post-is net p ts) (a .passes .room p h);
+          room = λ p h. rw (← post-is net p ts, ← pre-is net p ts) (a .passes .room p h);
           uninhibited = λ p h. each-at (λ t. count m p ≤∞ row net t p .inhibitor) (modeNo 0) ts (low-each net p (count m p) ts .0 (a .passes .low p h));
         },
         λ p h. rw (step-fired-at net ts m p h) (a .passes .small p h),
@@ -151,7 +152,7 @@ step-rule net ts m = (
         passes =
             record {
               enough = λ p h. rw (pre-is net p ts) (r .3 .enough p h);
-              room = λ p h. rw (post-is net p ts) (r .3 .room p h);
+              room = λ p h. rw (post-is net p ts, pre-is net p ts) (r .3 .room p h);
               low = λ p h. low-each net p (count m p) ts .1 (at-each (λ t. count m p ≤∞ row net t p .inhibitor) (modeNo 0) ts (r .3 .uninhibited p h));
               small = λ p h. rw (← step-fired-at net ts m p h) (r .4 p h);
             };
@@ -164,29 +165,28 @@ step-after net ts m e = (
   step-fired-length net ts m,
 )
 
--- a member has no more Pre and Post than the step, and no lower I: what enables the step shows it alive
-live-each : (net : PNet) (M : Counts) (ts : List Mode) → ((p : ℕ) → p < pairs net → together net ts p .pre ≤ M p)
-    → ((p : ℕ) → p < pairs net → M p + together net ts p .post ≤∞ K net p) → ((p : ℕ) → p < pairs net → M p ≤∞ together net ts p .inhibitor)
-    → Each (λ t. isDead net t ≡ false) ts
+-- a member has no more Pre and Post than the step, and no lower I: what fits the step shows it alive
+live-each : (net : PNet) (r : Row) (M : Counts) → Fits net r M → (ts : List Mode)
+    → ((p : ℕ) → (together net ts p .pre ≤ r p .pre) × (together net ts p .post ≤ r p .post))
+    → ((p : ℕ) → p < pairs net → M p ≤∞ together net ts p .inhibitor) → Each (λ t. isDead net t ≡ false) ts
 unfolding together
-live-each net M [] enough room low = tt
-live-each net M (t ∷ ts) enough room low =
+live-each net r M fits [] part low = tt
+live-each net r M fits (t ∷ ts) part low =
     let least : (p : ℕ) → p < pairs net → (M p ≤∞ row net t p .inhibitor) × (M p ≤∞ together net ts p .inhibitor) =
     λ p h. below-least-of (M p) (row net t p .inhibitor) (together net ts p .inhibitor) .0 (low p h) in (
-      enabled-live net t M
-          (record {
-            enough = λ p h. omega (arith, enough p h);
-            room = λ p h. le-room (M p) (row net t p .post) (K net p) (omega arith) (omega arith) (le-le∞ _ _ (K net p) (omega arith) (room p h));
-            uninhibited = λ p h. least p h .0;
-          }),
-      live-each net M ts (λ p h. omega (arith, enough p h)) (λ p h. le-le∞ _ _ (K net p) (omega arith) (room p h)) (λ p h. least p h .1),
+      fits-live net t r M fits (λ p. omega (arith, part p)) (λ p h. least p h .0),
+      live-each net r M fits ts (λ p. omega (arith, part p)) (λ p h. least p h .1),
     )
 
-pub members-live : (net : PNet) (ts : List Mode) (m : List ℕ) → Accepts net ts m → Each (λ t. isDead net t ≡ false) ts
-members-live net ts m a = live-each net (count m) ts (a .passes .enough) (a .passes .room) (a .passes .low)
+pub members-live : (net : PNet) (ts : List Mode) (m : List ℕ) → (net .rule ≡ Weak → (p : ℕ) → p < pairs net → count m p ≤∞ K net p) → Accepts net ts m
+    → Each (λ t. isDead net t ≡ false) ts
+members-live net ts m within a =
+    live-each net (together net ts) (count m) (record { within = within; enough = a .passes .enough; room = a .passes .room }) ts (λ p. omega arith)
+    (a .passes .low)
 
 pub step-members : StepMembers
-step-members net ts m e = each-at (λ t. isDead net t ≡ false) (modeNo 0) ts (members-live net ts m (step-accepted net ts m e))
+step-members net ts m marking e =
+    each-at (λ t. isDead net t ≡ false) (modeNo 0) ts (members-live net ts m (λ weak. marking weak .within) (step-accepted net ts m e))
 
 -- a step of one mode
 pub entry-is : {a b : Entry} → a .pre ≡ b .pre → a .post ≡ b .post → a .inhibitor ≡ b .inhibitor → a ≡ b

@@ -8,6 +8,7 @@ use mathlib.Core.Option.{Option, none, some}
 use lib.Dec.{eqb, ltb}
 use lib.IntN.{ℤ, pos, negsuc, _-ℤ_}
 use lib.ListN.{length}
+use Rattle.model.specs.declared.CapacityRule.the-variants.{Strong}
 use Rattle.model.specs.declared.Pair.{Pair}
 use Rattle.model.specs.declared.Mode.{Mode}
 use Rattle.model.specs.declared.Thing.{Thing}
@@ -107,7 +108,7 @@ MarkShows = (about : Thing) (net : PNet) → Complementable net → (t : Mode) (
 -- 4. Of one pair of capacity k and nothing else. With K 5, 3 there and room for 2: in step; a token left behind; one lost; one that the complement's marking
 -- alone lacks; one that both lack. Without K: in step, and one more in the net's marking than in the complement's.
 abbrev pub ofOne : ℕ∞ → List ℕ → List ℕ → Option Finding
-ofOne k = audited (record { rule = 0; colours = 1 ∷ []; modesOf = []; capacity = k ∷ []; start = 0 ∷ []; arcs = [] })
+ofOne k = audited (record { rule = Strong; colours = 1 ∷ []; modesOf = []; capacity = k ∷ []; start = 0 ∷ []; arcs = [] })
 
 abbrev pub atPair0 : ℤ → Option Finding
 atPair0 z = some (record { pair = pairNo 0; excess = z })

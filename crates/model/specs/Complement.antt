@@ -1,4 +1,4 @@
--- The complemented net (document 01, "The complemented net"; source document 000, section 6.2.3 and figure 6.4).
+-- The complemented net (document 01, "The complemented net"; document 02, P4 and P10; source document 000, section 6.2.3 and figure 6.4).
 use Prim.Native.Nat.{ℕ, _+_, _-_, _<_, max}
 use mathlib.Core.Path.{_≡_}
 use mathlib.Core.Bool.{Bool, true, false, cond, not, _&&_}
@@ -6,6 +6,8 @@ use mathlib.Core.List.{List, [], _∷_, _++_, map}
 use mathlib.Core.Option.{Option}
 use lib.Dec.{leb, ltb, eqb}
 use lib.ListN.{length, getD, replicate}
+use Rattle.model.specs.declared.CapacityRule.{CapacityRule}
+use Rattle.model.specs.declared.CapacityRule.the-variants.{Strong, Weak}
 use Rattle.model.specs.declared.Mode.{Mode}
 use Rattle.model.specs.declared.Thing.the-variants.{Net}
 use Rattle.model.specs.declared.Fault.the-variants.{InhibitedUnbounded, NoRoom}
@@ -42,26 +44,30 @@ abbrev pub reserve : ℕ → ℕ∞ → ℕ
 reserve k (fin i) = cond (leb k i) 0 (k - i)
 reserve k ∞ = 0
 
--- "Pre: the larger of Post and (K less I ..)"
-abbrev pub complementPre : ℕ → Entry → ℕ
-complementPre k e = max (e .post) (reserve k (e .inhibitor))
+-- "Pre: the larger of Post and (K less I ..)"; by the weak rule "the larger of (Post less Pre, or 0) and (K less I, or 0)"
+abbrev pub claim : CapacityRule → Entry → ℕ
+claim Strong e = e .post
+claim Weak e = e .post - e .pre
+
+abbrev pub complementPre : CapacityRule → ℕ → Entry → ℕ
+complementPre rule k e = max (claim rule e) (reserve k (e .inhibitor))
 
 -- "Post: that number plus the original Pre less the original Post"; "For a locally dead mode .. each complement Post equal to its complement Pre"
-abbrev pub complementPost : Bool → ℕ → Entry → ℕ
-complementPost dead k e = cond dead (complementPre k e) (complementPre k e + e .pre - e .post)
+abbrev pub complementPost : CapacityRule → Bool → ℕ → Entry → ℕ
+complementPost rule dead k e = cond dead (complementPre rule k e) (complementPre rule k e + e .pre - e .post)
 
 -- "All K and I become unbounded. Original Pre, Post and first marking stay."
 abbrev pub original : Entry → Entry
 original e = record { pre = e .pre; post = e .post; inhibitor = ∞ }
 
 -- what a mode, dead or not, has at the complement pair where at the original it has e and the capacity is k; an unbounded pair has none
-abbrev pub complementEntry : Bool → ℕ∞ → Entry → Entry
-complementEntry dead (fin k) e = record { pre = complementPre k e; post = complementPost dead k e; inhibitor = ∞ }
-complementEntry dead ∞ e = noArc
+abbrev pub complementEntry : CapacityRule → Bool → ℕ∞ → Entry → Entry
+complementEntry rule dead (fin k) e = record { pre = complementPre rule k e; post = complementPost rule dead k e; inhibitor = ∞ }
+complementEntry rule dead ∞ e = noArc
 
 -- a row over the n originals, then over their complement pairs; beyond those it is never asked
-unfoldable pub complementRow : Bool → ℕ → Capacities → Row → Row
-complementRow dead n K row p = cond (ltb p n) (original (row p)) (complementEntry dead (K (complemented n K p)) (row (complemented n K p)))
+unfoldable pub complementRow : CapacityRule → Bool → ℕ → Capacities → Row → Row
+complementRow rule dead n K row p = cond (ltb p n) (original (row p)) (complementEntry rule dead (K (complemented n K p)) (row (complemented n K p)))
 
 -- "one for each place with a finite pair, with as many colours as it has finite pairs"
 unfoldable pub newPlaces : Capacities → List ℕ → List ℕ
@@ -99,7 +105,7 @@ complement net =
       modesOf = net .modesOf;
       capacity = replicate (allPairs net) ∞;
       start = net .start ++ map (λ p. less (K net p) (count (net .start) p)) (boundedPairs net);
-      arcs = arcsOf (modes net) (allPairs net) (λ t. complementRow (isDead net t) (pairs net) (K net) (row net t));
+      arcs = arcsOf (modes net) (allPairs net) (λ t. complementRow (net .rule) (isDead net t) (pairs net) (K net) (row net t));
     }
 
 -- Refusals of complementing: "net, 15, 16, 10, each at its first arc in order"; 16 "no longer occurs".

@@ -1,9 +1,12 @@
--- Locally dead modes: "A mode is locally dead when, at some pair, Pre is above the least of K less Post and I, or Post is above K."
+-- Locally dead modes: "A mode is locally dead when, at some pair, Pre is above the least of K less Post and I, or Post is above K." (document 02, P2); by the weak
+-- capacity rule "when, at some pair, Pre is above the lesser of K and I, or Post is above K" (P10).
 use Prim.Native.Nat.{ℕ}
 use mathlib.Core.Bool.{Bool, true, false, _||_}
 use mathlib.Core.List.{List}
 use mathlib.Core.Option.{Option, none, some, Option·map}
 use mathlib.Core.Logic.{_⊎_}
+use Rattle.model.specs.declared.CapacityRule.{CapacityRule}
+use Rattle.model.specs.declared.CapacityRule.the-variants.{Strong, Weak}
 use Rattle.model.specs.declared.Pair.{Pair}
 use Rattle.model.specs.declared.Mode.{Mode}
 use Rattle.model.specs.First.{first, lowest}
@@ -12,19 +15,24 @@ use Rattle.model.specs.Rows.{Entry}
 use Rattle.model.specs.Lists.{table}
 use Rattle.model.specs.Nets.{PNet, pairs, modes, pairNo, modeNo, K, row}
 
--- "the least of K less Post and I"
-abbrev pub highestPre : Entry → ℕ∞ → ℕ∞
-highestPre e k = leastOf (lessThan k (e .post)) (e .inhibitor)
+-- "K less Post", and "K"
+abbrev pub preRoom : CapacityRule → Entry → ℕ∞ → ℕ∞
+preRoom Strong e k = lessThan k (e .post)
+preRoom Weak e k = k
 
-abbrev pub Kills : Entry → ℕ∞ → Type 0
-Kills e k = Above (e .pre) (highestPre e k) ⊎ Above (e .post) k
+-- "the least of K less Post and I", "the lesser of K and I"
+abbrev pub highestPre : CapacityRule → Entry → ℕ∞ → ℕ∞
+highestPre rule e k = leastOf (preRoom rule e k) (e .inhibitor)
 
-abbrev pub kills : Entry → ℕ∞ → Bool
-kills e k = above (e .pre) (highestPre e k) || above (e .post) k
+abbrev pub Kills : CapacityRule → Entry → ℕ∞ → Type 0
+Kills rule e k = Above (e .pre) (highestPre rule e k) ⊎ Above (e .post) k
+
+abbrev pub kills : CapacityRule → Entry → ℕ∞ → Bool
+kills rule e k = above (e .pre) (highestPre rule e k) || above (e .post) k
 
 -- the lowest pair that makes a mode locally dead
 unfoldable pub deadPair : PNet → Mode → Option ℕ
-deadPair net t = lowest (pairs net) (λ p. kills (row net t p) (K net p)) (λ p. p)
+deadPair net t = lowest (pairs net) (λ p. kills (net .rule) (row net t p) (K net p)) (λ p. p)
 
 abbrev pub found : Option ℕ → Bool
 found none = false

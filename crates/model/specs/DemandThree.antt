@@ -19,7 +19,7 @@ use Rattle.model.specs.Numbers.{ℕ∞}
 use Rattle.model.specs.Rows.{Entry, Row, Capacities, Counts}
 use Rattle.model.specs.Nets.{PNet, pairs, modeNo, K, count, row}
 use Rattle.model.specs.WellFormed.{WellFormed}
-use Rattle.model.specs.Firing.{stops, stoppedBy, stopped}
+use Rattle.model.specs.Firing.{stops, stoppedBy, stopped, rooms}
 use Rattle.model.specs.Runs.{Outcome, run}
 use Rattle.model.specs.Complement.{complementPair, complement, complementRefusal, Corresponds}
 
@@ -29,7 +29,7 @@ pub record Complementable (net : PNet) : Type 0 where
   pub offset : ℕ → ℕ
   pub accepted : complementRefusal offset net ≡ none
 
--- 12 or 13 at one pair, where the mode has e, the capacity is k and the count m
+-- 12 or 13 at one pair, where the mode has e, 12 compares with k and the count is m
 abbrev pub crowded : Entry → ℕ∞ → ℕ → Bool
 crowded e k m = stops OverCapacity e k m || stops Inhibited e k m
 
@@ -38,8 +38,9 @@ abbrev pub crowdedBy : Entry → ℕ∞ → ℕ → ℕ
 crowdedBy e k m = max (stoppedBy OverCapacity e k m) (stoppedBy Inhibited e k m)
 
 -- 11 at the complement of the lowest pair that breaks 12 or 13
-abbrev pub lowestCrowded : Thing → ℕ → Capacities → Row → Counts → Option Refusal
-lowestCrowded thing n K row M = lowest n (λ p. crowded (row p) (K p) (M p)) (λ p. stopped thing Lacking (complementPair n K p) (crowdedBy (row p) (K p) (M p)))
+abbrev pub lowestCrowded : Thing → ℕ → Capacities → Capacities → Row → Counts → Option Refusal
+lowestCrowded thing n K room row M =
+    lowest n (λ p. crowded (row p) (room p) (M p)) (λ p. stopped thing Lacking (complementPair n K p) (crowdedBy (row p) (room p) (M p)))
 
 abbrev pub is12or13 : Option Refusal → Bool
 is12or13 r = eqb (number (answer r)) 12 || eqb (number (answer r)) 13
@@ -47,7 +48,7 @@ is12or13 r = eqb (number (answer r)) 12 || eqb (number (answer r)) 13
 -- "Refusals correspond: 11, 12 and 13 in the net become 11 in its complement; 6 and 14 stay." What the net's refusal r of t at m becomes: no refusal,
 -- 6, 11 and 14 keep their positions and amounts, and of 12 and 13 the lowest pair counts that breaks either, with the larger amount there.
 unfoldable pub becomes : Thing → PNet → Mode → List ℕ → Option Refusal → Option Refusal
-becomes thing net t m r = cond (is12or13 r) (lowestCrowded thing (pairs net) (K net) (row net t) (count m)) r
+becomes thing net t m r = cond (is12or13 r) (lowestCrowded thing (pairs net) (K net) (rooms net (row net t)) (row net t) (count m)) r
 
 module _ (net : PNet) (ts : List Mode) where
   abbrev inNet : List Mode → Outcome

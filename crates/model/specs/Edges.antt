@@ -7,6 +7,7 @@ use mathlib.Core.Logic.{_≢_}
 use mathlib.Core.Option.{none, some}
 use lib.Dec.{eqb}
 use lib.ListN.{length}
+use Rattle.model.specs.declared.CapacityRule.the-variants.{Strong}
 use Rattle.model.specs.declared.Thing.the-variants.{Argument}
 use Rattle.model.specs.declared.Why.the-variants.{Lacking, OverCapacity}
 use Rattle.model.specs.declared.Answer.{Answer}
@@ -59,7 +60,7 @@ gives n pre post = record { number = n; pre = pre; post = post }
 abbrev pub edgeNet : ℕ → ℕ∞ → ℕ → ℕ → PNet
 edgeNet k i pre post =
     record {
-      rule = 0;
+      rule = Strong;
       colours = 1 ∷ [];
       modesOf = 1 ∷ [];
       capacity = fin k ∷ [];

@@ -4,6 +4,8 @@ use mathlib.Core.Bool.{Bool}
 use mathlib.Core.List.{List}
 use mathlib.Core.Option.{Option}
 use lib.Dec.{leb}
+use Rattle.model.specs.declared.CapacityRule.{CapacityRule}
+use Rattle.model.specs.declared.CapacityRule.the-variants.{Strong, Weak}
 use Rattle.model.specs.declared.Mode.{Mode}
 use Rattle.model.specs.declared.Thing.{Thing}
 use Rattle.model.specs.declared.Why.{Why}
@@ -12,7 +14,7 @@ use Rattle.model.specs.declared.Fault.the-variants.{NotThere, Stopped}
 use Rattle.model.specs.declared.Refusal.{Refusal}
 use Rattle.model.specs.Refusals.{wrong}
 use Rattle.model.specs.First.{_▸_, onlyIf, lowest}
-use Rattle.model.specs.Numbers.{ℕ∞, fin, above, aboveBy, limit}
+use Rattle.model.specs.Numbers.{ℕ∞, fin, _+∞_, above, aboveBy, limit}
 use Rattle.model.specs.Rows.{Entry, Row, Capacities, Counts}
 use Rattle.model.specs.Lists.{table}
 use Rattle.model.specs.Nets.{NetArc, PNet, pairs, modes, pairNo, K, count, row}
@@ -21,7 +23,7 @@ use Rattle.model.specs.Nets.{NetArc, PNet, pairs, modes, pairNo, K, coun
 abbrev pub after : Entry → ℕ → ℕ
 after e m = m - e .pre + e .post
 
--- What each of 11 to 14 compares at one pair, where the mode has e, the capacity is k and the count m: a number, and the bound that it may not be above.
+-- What each of 11 to 14 compares at one pair, where the mode has e, the capacity is k (or what stands for it, `rooms`) and the count m: a number, and the bound that it may not be above.
 pub record Against : Type 0 where
   pub number : ℕ
   pub bound : ℕ∞
@@ -64,12 +66,18 @@ module _ (thing : Thing) (n : ℕ) (K : Capacities) (row : Row) (M : Counts) whe
 abbrev pub absent : Thing → ℕ → Mode → Option Refusal
 absent thing modes t = onlyIf (leb modes (t .0)) (wrong thing NotThere)
 
--- what 12 compares with in a net: at each pair, for a row; and where an arc stands
+-- "12 reads by the rule in force": what the count plus Post may not be above, where the capacity is k and so much Pre is taken. Document 01's rule has
+-- M + Post ≤ K, and "Rule byte 1 .. means M + Post ≤ K + Pre".
+abbrev pub roomFor : CapacityRule → ℕ∞ → ℕ → ℕ∞
+roomFor Strong k pre = k
+roomFor Weak k pre = k +∞ pre
+
+-- in a net: at each pair, for a row; and where an arc stands
 abbrev pub rooms : PNet → Row → Capacities
-rooms net r = K net
+rooms net r p = roomFor (net .rule) (K net p) (r p .pre)
 
 abbrev pub roomAt : PNet → NetArc → ℕ∞
-roomAt net a = K net (a .pair .0)
+roomAt net a = roomFor (net .rule) (K net (a .pair .0)) (a .entry .pre)
 
 -- "then the mode (6, 11 over all pairs, 12, 13, 14)"
 unfoldable pub modeRefusal : Thing → PNet → Mode → List ℕ → Option Refusal

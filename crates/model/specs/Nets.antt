@@ -6,6 +6,8 @@ use lib.Dec.{eqb}
 use lib.ListN.{take, getD}
 use Rattle.model.specs.declared.Pair.{Pair}
 use Rattle.model.specs.declared.Mode.{Mode}
+use Rattle.model.specs.declared.CapacityRule.{CapacityRule}
+use Rattle.model.specs.declared.CapacityRule.the-variants.{Strong, Weak}
 use Rattle.model.specs.Numbers.{ℕ∞, ∞}
 use Rattle.model.specs.Rows.{Entry, noArc, Row, Capacities, Counts}
 
@@ -15,13 +17,18 @@ pub record NetArc : Type 0 where
   pub entry : Entry
 
 pub record PNet : Type 0 where
-  -- "a rule byte, 0 for now, follows the version" (document 02, P9)
-  pub rule : ℕ
+  -- "a rule byte .. follows the version" (document 02, P9): which capacity rule (P10)
+  pub rule : CapacityRule
   pub colours : List ℕ
   pub modesOf : List ℕ
   pub capacity : List ℕ∞
   pub start : List ℕ
   pub arcs : List NetArc
+
+-- the byte that names a rule: "Rule byte 1 in version 2 means M + Post ≤ K + Pre"
+unfoldable pub ruleNumber : CapacityRule → ℕ
+ruleNumber Strong = 0
+ruleNumber Weak = 1
 
 -- how many in all
 abbrev pub total : List ℕ → ℕ

@@ -1,5 +1,5 @@
 -- Numbers with ∞ (source document 000, Appendix A.1 and A.2.6), and the largest number of document 01.
-use Prim.Native.Nat.{ℕ, _-_, _≤_, _<_, min}
+use Prim.Native.Nat.{ℕ, _+_, _-_, _≤_, _<_, min}
 use mathlib.Core.Bool.{Bool, false}
 use mathlib.Core.List.{List, [], _∷_}
 use lib.Dec.{ltb}
@@ -51,6 +51,12 @@ leastOfAll (k ∷ ks) = leastOf k (leastOfAll ks)
 abbrev pub lessThan : ℕ∞ → ℕ → ℕ∞
 lessThan (fin k) n = fin (k - n)
 lessThan ∞ n = ∞
+
+-- k and n more
+infixl 6 _+∞_
+abbrev pub _+∞_ : ℕ∞ → ℕ → ℕ∞
+fin k +∞ n = fin (k + n)
+∞ +∞ n = ∞
 
 -- A.2.6 and A.3: ∞ - n = ∞, and a vector's difference may be below zero
 infixl 6 _-∞_

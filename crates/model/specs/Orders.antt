@@ -4,6 +4,7 @@ use mathlib.Core.Path.{_≡_}
 use mathlib.Core.List.{List, [], _∷_, List·Memᴰ}
 use mathlib.Core.Logic.{_↔_, _≢_}
 use mathlib.Core.Option.{none, some}
+use Rattle.model.specs.declared.CapacityRule.the-variants.{Strong}
 use Rattle.model.specs.declared.Mode.{Mode}
 use Rattle.model.specs.declared.Thing.the-variants.{Argument}
 use Rattle.model.specs.declared.Fault.the-variants.{MarkingOutside}
@@ -60,7 +61,7 @@ Interleavings = (net : PNet) (ts us vs ws : List Mode) → AllApart net ts us �
 
 -- 4. What the theorem does not say. Nets of two modes with one arc each.
 abbrev pub twoArcs : ℕ∞ → NetArc → NetArc → PNet
-twoArcs k a b = record { rule = 0; colours = 2 ∷ []; modesOf = 2 ∷ []; capacity = k ∷ k ∷ []; start = 0 ∷ 0 ∷ []; arcs = a ∷ b ∷ [] }
+twoArcs k a b = record { rule = Strong; colours = 2 ∷ []; modesOf = 2 ∷ []; capacity = k ∷ k ∷ []; start = 0 ∷ 0 ∷ []; arcs = a ∷ b ∷ [] }
 
 -- 0 then 1 is accepted from m, and 1 then 0 is refused by this number at pair 0
 pub record OneOrderAlone (net : PNet) (m : List ℕ) (refusal : ℕ) : Type 0 where

@@ -9,6 +9,7 @@ use mathlib.Core.Option.{none, some}
 use lib.Dec.{ltb}
 use lib.ListN.{length, take, getD, replicate}
 use lib.IntN.{ℤ, pos, _+ℤ_, _-ℤ_}
+use Rattle.model.specs.declared.CapacityRule.the-variants.{Strong, Weak}
 use Rattle.model.specs.declared.Mode.{Mode}
 use Rattle.model.specs.declared.Thing.{Thing}
 use Rattle.model.specs.declared.Thing.the-variants.{Movements}
@@ -16,9 +17,10 @@ use Rattle.model.specs.declared.Answer.{Answer}
 use Rattle.model.specs.First.{Lowest, NoneBelow}
 use Rattle.model.specs.Refusals.{answer, number, amount, thingNumber}
 use Rattle.model.specs.RefusalTables.{markingTable, modeTable, Reads}
-use Rattle.model.specs.Numbers.{fin, ∞, limit}
+use Rattle.model.specs.Numbers.{fin, ∞, _≤∞_, limit}
 use Rattle.model.specs.Rows.{Entry, Row, Capacities, Counts}
 use Rattle.model.specs.Billington.{Enables, Follows, IK}
+use Rattle.model.specs.Allows.{Allows}
 use Rattle.model.specs.Lists.{joined, listIf}
 use Rattle.model.specs.Nets.{NetArc, PNet, pairs, modes, firstPair, pairNo, modeNo, K, count, arcNo, row}
 use Rattle.model.specs.Markings.{Marking, markingRefusal}
@@ -41,15 +43,15 @@ pub record Amounts : Type 0 where
   pub refused : (about : Thing) (n : ℕ) (k : Capacities) (r : Row) (M : Counts) → rowRefusal about n k r M ≢ none
       → 0 < amount (answer (rowRefusal about n k r M))
 
--- 2. The rule: 14 aside, a row is accepted exactly when source document 000 has it enabled; so a net's mode, where it is there and no new count is above
--- 1,000,000. An accepted movement gives M - Pre + Post at every pair.
+-- 2. The rule: 14 aside, a row is accepted exactly when source document 000 has it enabled; a net's mode exactly when its rule allows it, where it is there and
+-- no new count is above 1,000,000. An accepted movement gives M - Pre + Post at every pair.
 abbrev pub Rule : Type 0
 Rule = (about : Thing) (n : ℕ) (k : Capacities) (r : Row) (M : Counts) → (ruleRefusal about n k r M ≡ none) ↔ Enables n k r M
 
 abbrev pub ModeRule : Type 0
 ModeRule = (about : Thing) (net : PNet) (t : Mode) (m : List ℕ)
     → (modeRefusal about net t m ≡ none)
-    ↔ ((t .0 < modes net) × Enables (pairs net) (K net) (row net t) (count m) × ((p : ℕ) → p < pairs net → count (fired net t m) p ≤ limit))
+    ↔ ((t .0 < modes net) × Allows (net .rule) (pairs net) (K net) (row net t) (count m) × ((p : ℕ) → p < pairs net → count (fired net t m) p ≤ limit))
 
 abbrev pub MarkingAfter : Type 0
 MarkingAfter = (about : Thing) (net : PNet) (t : Mode) (m : List ℕ) → modeRefusal about net t m ≡ none
@@ -93,9 +95,9 @@ abbrev pub FigureAfter : Type 0
 FigureAfter = (net : PNet) (weights : List ℤ) (ts : List Mode) (m : List ℕ)
     → figure net weights (run net ts m .marking) ≡ figure net weights m +ℤ changes net weights (take (run net ts m .accepted) ts)
 
--- 6. Locally dead: "at some pair, Pre is above the least of K less Post and I, or Post is above K"; the first dead mode is the lowest, named with its lowest pair.
+-- 6. Locally dead: "at some pair, Pre is above the least of K less Post and I, or Post is above K", by the weak rule "the lesser of K and I"; the first dead mode is the lowest, named with its lowest pair.
 abbrev pub KillsAt : PNet → Mode → ℕ → Type 0
-KillsAt net t p = Kills (row net t p) (K net p)
+KillsAt net t p = Kills (net .rule) (row net t p) (K net p)
 
 abbrev pub DeadModes : Type 0
 DeadModes = (net : PNet) (t : Mode) → (isDead net t ≡ true) ↔ ((p : ℕ) × (p < pairs net) × KillsAt net t p)
@@ -108,19 +110,21 @@ FirstDead = (net : PNet) (t p : ℕ)
 -- "a mode is locally dead exactly when no marking within capacity satisfies the three firing conditions, refusal 14 aside"
 abbrev pub DeadExactly : Type 0
 DeadExactly = (net : PNet) → WellFormed net → (t : Mode)
-    → (isDead net t ≡ true) ↔ ((m : List ℕ) → Marking net m → ¬ Enables (pairs net) (K net) (row net t) (count m))
+    → (isDead net t ≡ true) ↔ ((m : List ℕ) → Marking net m → ¬ Allows (net .rule) (pairs net) (K net) (row net t) (count m))
 
--- More is true: a dead mode is enabled at no counts of any size; and a mode that is there and not dead is accepted at the marking of its Pre, by 14 too.
+-- More is true: a dead mode is enabled at no counts of any size, which by the weak rule must be within capacity; and a mode that is there and not dead is accepted
+-- at the marking of its Pre, by 14 too.
 pub record DeadOrAccepted (net : PNet) (t : Mode) : Type 0 where
-  pub dead : isDead net t ≡ true → (M : Counts) → ¬ Enables (pairs net) (K net) (row net t) M
+  pub dead : isDead net t ≡ true → (M : Counts) → (net .rule ≡ Weak → (p : ℕ) → p < pairs net → M p ≤∞ K net p)
+      → ¬ Allows (net .rule) (pairs net) (K net) (row net t) M
   pub live : isDead net t ≡ false → t .0 < modes net
       → Marking net (lowestMarking net t) × ((about : Thing) → modeRefusal about net t (lowestMarking net t) ≡ none)
 
 abbrev pub DeadOrLive : Type 0
 DeadOrLive = (net : PNet) → WellFormed net → (t : Mode) → DeadOrAccepted net t
 
--- 7. At the complement of a pair of finite K stand K - IK and, of a mode that is not dead, Pre - Post + K - IK, over the integers: figure 6.4. A dead mode, which
--- source document 000 does not name, has K - IK twice.
+-- 7. By source document 000's own rule, 0: at the complement of a pair of finite K stand K - IK and, of a mode that is not dead, Pre - Post + K - IK, over the
+-- integers: figure 6.4. A dead mode, which it does not name, has K - IK twice. By rule 1 document 02 says what stands there, `complementEntry`.
 pub record Beside (dead : Bool) (k : ℕ) (e c : Entry) : Type 0 where
   pub pre : pos (c .pre) ≡ pos k -ℤ IK k e
   pub post : dead ≡ false → pos (c .post) ≡ (pos (e .pre) -ℤ pos (e .post)) +ℤ (pos k -ℤ IK k e)
@@ -140,7 +144,7 @@ module _ (net : PNet) where
     pub unbounded : complement net .capacity ≡ replicate (pairs (complement net)) ∞
     pub start : Marking net (net .start) → Corresponds net (net .start) (complement net .start)
     pub originals : (t : Mode) (p : ℕ) → t .0 < modes net → p < pairs net → row (complement net) t p ≡ original (row net t p)
-    pub besides : (t : Mode) (p k : ℕ) → t .0 < modes net → p < pairs net → K net p ≡ fin k
+    pub besides : net .rule ≡ Strong → (t : Mode) (p k : ℕ) → t .0 < modes net → p < pairs net → K net p ≡ fin k
         → Beside (isDead net t) k (row net t p) (row (complement net) t (complementPair (pairs net) (K net) p))
 
 abbrev pub Figure64 : Type 0
@@ -156,7 +160,7 @@ onComplement net a =
     record {
       mode = a .mode;
       pair = pairNo (complementPair (pairs net) (K net) (a .pair .0));
-      entry = complementEntry (isDead net (a .mode)) (K net (a .pair .0)) (a .entry);
+      entry = complementEntry (net .rule) (isDead net (a .mode)) (K net (a .pair .0)) (a .entry);
     }
 
 abbrev pub ArcByArc : Type 0

@@ -7,6 +7,7 @@ use mathlib.Core.Logic.{_↔_}
 use mathlib.Core.Option.{Option, none, some}
 use lib.Dec.{eqb, ltb}
 use lib.ListN.{length, getD, replicate}
+use Rattle.model.specs.declared.CapacityRule.the-variants.{Strong, Weak}
 use Rattle.model.specs.declared.Mode.{Mode}
 use Rattle.model.specs.declared.Thing.the-variants.{Movements, Argument}
 use Rattle.model.specs.declared.Why.the-variants.{Lacking, Inhibited}
@@ -18,7 +19,8 @@ use Rattle.model.specs.Numbers.{fin, ∞, _≤∞_, leastOf, limit}
 use Rattle.model.specs.Rows.{Entry, noArc, Row, Counts}
 use Rattle.model.specs.Billington.{Follows}
 use Rattle.model.specs.Nets.{PNet, total, pairs, modes, modeNo, K, count, arcNo, row}
-use Rattle.model.specs.Firing.{stopped, rowRefusal, absent, rooms, modeRefusal, firedRow, fired}
+use Rattle.model.specs.Firing.{stopped, rowRefusal, absent, roomFor, rooms, modeRefusal, firedRow, fired}
+use Rattle.model.specs.Markings.{Marking}
 use Rattle.model.specs.Runs.{run}
 use Rattle.model.specs.Dead.{isDead}
 use Rattle.model.specs.Complement.{complement, complementRefusal, Corresponds}
@@ -49,10 +51,11 @@ unfoldable pub firedTogether : PNet → List Mode → List ℕ → List ℕ
 firedTogether net ts m = firedRow (pairs net) (together net ts) m
 
 -- 1. "It is enabled when, at every pair, summed Pre ≤ M, M + summed Post ≤ K, and M ≤ the least I of its members": accepted, where it has 1 to 64 modes, each of
--- them there, and no new count is above 1,000,000. It gives M - Pre + Post of the sums.
+-- them there, and no new count is above 1,000,000. It gives M - Pre + Post of the sums. "P1's steps take the rule with summed Pre and Post": by the weak rule
+-- M + summed Post ≤ K + summed Pre.
 pub record StepEnables (net : PNet) (ts : List Mode) (M : Counts) : Type 0 where
   pub enough : (p : ℕ) → p < pairs net → total (map (λ t. row net t p .pre) ts) ≤ M p
-  pub room : (p : ℕ) → p < pairs net → M p + total (map (λ t. row net t p .post) ts) ≤∞ K net p
+  pub room : (p : ℕ) → p < pairs net → M p + total (map (λ t. row net t p .post) ts) ≤∞ roomFor (net .rule) (K net p) (total (map (λ t. row net t p .pre) ts))
   pub uninhibited : (p : ℕ) → p < pairs net → (i : ℕ) → i < length ts → M p ≤∞ row net (getD ts i (modeNo 0)) p .inhibitor
 
 abbrev pub StepRule : Type 0
@@ -75,14 +78,14 @@ abbrev pub StepsBack : Type 0
 StepsBack = (net : PNet) → Complementable net → (ts : List Mode) (m m′ : List ℕ) → Corresponds net m m′ → stepRefusal (complement net) ts m′ ≡ none
     → (stepRefusal net ts m ≡ none) × Corresponds net (firedTogether net ts m) (firedTogether (complement net) ts m′)
 
--- "the converse for nets with no finite inhibitor"
+-- "the converse for nets with no finite inhibitor"; "its two statements are kept for rule 0 only", and this one must be: see `WeakSteps`
 abbrev pub StepsForth : Type 0
-StepsForth = (net : PNet) → Complementable net → ((k : ℕ) → k < length (net .arcs) → arcNo (net .arcs) k .entry .inhibitor ≡ ∞)
+StepsForth = (net : PNet) → net .rule ≡ Strong → Complementable net → ((k : ℕ) → k < length (net .arcs) → arcNo (net .arcs) k .entry .inhibitor ≡ ∞)
     → (ts : List Mode) (m m′ : List ℕ) → Corresponds net m m′ → stepRefusal net ts m ≡ none → stepRefusal (complement net) ts m′ ≡ none
 
--- No member of an accepted step is locally dead.
+-- No member of a step accepted at a marking is locally dead; by document 01's rule at no counts at all.
 abbrev pub StepMembers : Type 0
-StepMembers = (net : PNet) (ts : List Mode) (m : List ℕ) → stepRefusal net ts m ≡ none
+StepMembers = (net : PNet) (ts : List Mode) (m : List ℕ) → (net .rule ≡ Weak → Marking net m) → stepRefusal net ts m ≡ none
     → (i : ℕ) → i < length ts → isDead net (getD ts i (modeNo 0)) ≡ false
 
 -- 4. "It is false in general": n + 1 times the one mode of a net passes at the count m, and in the complement, where c stands beside m, only n times does.

@@ -7,6 +7,7 @@ use mathlib.Core.Logic.{_≢_}
 use mathlib.Core.Option.{none}
 use lib.Dec.{eqb, ltb}
 use lib.ListN.{length, take, getD}
+use Rattle.model.specs.declared.CapacityRule.the-variants.{Strong}
 use Rattle.model.specs.declared.Mode.{Mode}
 use Rattle.model.specs.Numbers.{fin, ∞}
 use Rattle.model.specs.Nets.{NetArc, PNet, total, modes, modeNo}
@@ -57,7 +58,7 @@ VisitsBounded = (net : PNet) (ts : List Mode) (m : List ℕ) → visited net ts 
 abbrev pub threeArcs : PNet
 threeArcs =
     record {
-      rule = 0;
+      rule = Strong;
       colours = 3 ∷ [];
       modesOf = 2 ∷ [];
       capacity = ∞ ∷ ∞ ∷ ∞ ∷ [];

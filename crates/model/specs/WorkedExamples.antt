@@ -5,6 +5,7 @@ use mathlib.Core.Path.{_≡_}
 use mathlib.Core.List.{List, [], _∷_, map}
 use mathlib.Core.Option.{none}
 use lib.ListN.{replicate}
+use Rattle.model.specs.declared.CapacityRule.the-variants.{Strong}
 use Rattle.model.specs.Numbers.{ℕ∞, fin, ∞}
 use Rattle.model.specs.Nets.{NetArc, PNet, pairNo, modeNo}
 use Rattle.model.specs.Complement.{complement, complementRefusal}
@@ -21,17 +22,17 @@ arc t p pre post i = record { mode = modeNo t; pair = pairNo p; entry = record {
 abbrev inhibitorExample : Worked
 inhibitorExample =
     record {
-      net = record { rule = 0; colours = 1 ∷ []; modesOf = 1 ∷ []; capacity = fin 5 ∷ []; start = 3 ∷ []; arcs = arc 0 0 1 0 (fin 4) ∷ [] };
+      net = record { rule = Strong; colours = 1 ∷ []; modesOf = 1 ∷ []; capacity = fin 5 ∷ []; start = 3 ∷ []; arcs = arc 0 0 1 0 (fin 4) ∷ [] };
       printed =
-          record { rule = 0; colours = 1 ∷ 1 ∷ []; modesOf = 1 ∷ []; capacity = ∞ ∷ ∞ ∷ []; start = 3 ∷ 2 ∷ []; arcs = arc 0 0 1 0 ∞ ∷ arc 0 1 1 2 ∞ ∷ [] };
+          record { rule = Strong; colours = 1 ∷ 1 ∷ []; modesOf = 1 ∷ []; capacity = ∞ ∷ ∞ ∷ []; start = 3 ∷ 2 ∷ []; arcs = arc 0 0 1 0 ∞ ∷ arc 0 1 1 2 ∞ ∷ [] };
     }
 
 -- s1 has capacity 5 and s2 is unbounded, of one colour each. The transitions, the first markings and the arcs differ.
 abbrev twoPlaces : List ℕ → List ℕ → List NetArc → List ℕ → List NetArc → Worked
 twoPlaces modesOf start arcs start′ arcs′ =
     record {
-      net = record { rule = 0; colours = 1 ∷ 1 ∷ []; modesOf = modesOf; capacity = fin 5 ∷ ∞ ∷ []; start = start; arcs = arcs };
-      printed = record { rule = 0; colours = 1 ∷ 1 ∷ 1 ∷ []; modesOf = modesOf; capacity = ∞ ∷ ∞ ∷ ∞ ∷ []; start = start′; arcs = arcs′ };
+      net = record { rule = Strong; colours = 1 ∷ 1 ∷ []; modesOf = modesOf; capacity = fin 5 ∷ ∞ ∷ []; start = start; arcs = arcs };
+      printed = record { rule = Strong; colours = 1 ∷ 1 ∷ 1 ∷ []; modesOf = modesOf; capacity = ∞ ∷ ∞ ∷ ∞ ∷ []; start = start′; arcs = arcs′ };
     }
 
 -- Section 6.5, nets P1 to P5, where t1 and t2 have one mode each: figures 6.7 and 6.9
@@ -77,9 +78,9 @@ severalColours =
     let arcs : List NetArc = arc 0 2 2 1 (fin 3) ∷ arc 1 0 0 0 (fin 4) ∷ arc 1 4 1 0 ∞ ∷ [] in
     let arcs′ : List NetArc = arc 0 2 2 1 ∞ ∷ arc 0 7 4 5 ∞ ∷ arc 1 4 1 0 ∞ ∷ arc 1 6 1 1 ∞ ∷ arc 1 8 0 1 ∞ ∷ [] in
     record {
-      net = record { rule = 0; colours = 3 ∷ 1 ∷ 2 ∷ []; modesOf = 2 ∷ []; capacity = capacity; start = 1 ∷ 2 ∷ 3 ∷ 4 ∷ 0 ∷ 5 ∷ []; arcs = arcs };
+      net = record { rule = Strong; colours = 3 ∷ 1 ∷ 2 ∷ []; modesOf = 2 ∷ []; capacity = capacity; start = 1 ∷ 2 ∷ 3 ∷ 4 ∷ 0 ∷ 5 ∷ []; arcs = arcs };
       printed =
-          record { rule = 0; colours = 3 ∷ 1 ∷ 2 ∷ 2 ∷ 1 ∷ []; modesOf = 2 ∷ []; capacity = replicate 9 ∞; start = 1 ∷ 2 ∷ 3 ∷ 4 ∷ 0 ∷ 5 ∷ 4 ∷ 4 ∷ 4 ∷ []; arcs = arcs′ };
+          record { rule = Strong; colours = 3 ∷ 1 ∷ 2 ∷ 2 ∷ 1 ∷ []; modesOf = 2 ∷ []; capacity = replicate 9 ∞; start = 1 ∷ 2 ∷ 3 ∷ 4 ∷ 0 ∷ 5 ∷ 4 ∷ 4 ∷ 4 ∷ []; arcs = arcs′ };
     }
 
 abbrev worked : List Worked

@@ -24,6 +24,12 @@ pub enum Version {
     Two,
 }
 
+// Which capacity rule a net has: document 01's own, or "the weak capacity rule" of document 02, P10.
+pub enum CapacityRule {
+    Strong,
+    Weak,
+}
+
 // Which thing was at fault: 0 to 3 of document 01, "Refusal numbers".
 pub enum Thing {
     Net,
@@ -62,6 +68,7 @@ pub enum Fault {
     EndsElsewhere(Pair),
     Unbalanced(Mode),
     EqualFigures,
+    RuleLost,
     FigurePast,
     RecordOutside,
 }

@@ -57,10 +57,10 @@ pairAndArcFields s =
     first (pairCount s) (λ p. pairRefusal s (pairAt (pairsAt s) p))
     ▸ arcSection (versionOf s) s (modeCount s) (pairCount s) (arcCountAt s)
 
--- version 2's rule byte, "0 for now"; "4 for another rule byte"
+-- version 2's rule byte: "4 for another rule byte" than 0 and document 02's 1 (P10)
 unfoldable pub ruleField : Version → List ℕ → Option Refusal
 ruleField One s = none
-ruleField Two s = missing Net s ruleAt 1 ▸ onlyIf (not (eqb (byteAt s ruleAt) 0)) (wrong Net (CountOutside ruleAt))
+ruleField Two s = missing Net s ruleAt 1 ▸ onlyIf (ltb 1 (byteAt s ruleAt)) (wrong Net (CountOutside ruleAt))
 
 unfoldable pub netFields : List ℕ → Option Refusal
 netFields s = ruleField (versionOf s) s ▸ countFields s ▸ pairAndArcFields s

@@ -81,7 +81,7 @@ fn read_rule(s: &[u8]) -> Answer
     if sheet_end(s) < 6 {
         return refused(Thing::Net, Fault::WrongLength(5));
     }
-    if s[5] != 0 {
+    if 1 < s[5] {
         return refused(Thing::Net, Fault::CountOutside(5));
     }
     Answer::Accepted

@@ -27,6 +27,7 @@ use Rattle.opened.proofs.Segments.{first-same}
 -- each part of a shape is what the layout says
 pub record Shaped (s : List ℕ) (net : NetShape) : Type 0 where
   pub version : net .version ≡ versionOf s
+  pub rule : net .rule ≡ netOf s .rule
   pub places : net .places ≡ placeCount s
   pub transitions : net .transitions ≡ transitionCount s
   pub pairs : net .pairs ≡ pairCount s
@@ -61,6 +62,7 @@ module _ {s : List ℕ} {net : NetShape} (o : Open s net) where
   shaped =
       record {
         version = ap (λ n. n .version) (o .shape);
+        rule = ap (λ n. n .rule) (o .shape);
         places = ap (λ n. n .places) (o .shape);
         transitions = ap (λ n. n .transitions) (o .shape);
         pairs = ap (λ n. n .pairs) (o .shape);

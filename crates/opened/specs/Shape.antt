@@ -22,6 +22,7 @@ unfoldable pub shapeOf : List ℕ → NetShape
 shapeOf s =
     record {
       version = versionOf s;
+      rule = netOf s .rule;
       places = placeCount s;
       transitions = transitionCount s;
       pairs = pairCount s;

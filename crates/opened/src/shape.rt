@@ -3,7 +3,9 @@ use crate::groups::count_arcs;
 use heads::bytes::count_at;
 use heads::bytes::u32_at;
 use heads::head::fields_at;
+use heads::rule::rule_of;
 use heads::version::version_of;
+use model::CapacityRule;
 use model::Pair;
 use model::Version;
 use nets::net::mode_count;
@@ -21,10 +23,11 @@ ghost use Rattle.nets.specs.Nets.{netRefusal};
 ghost use Rattle.sheets.specs.Decoded.{netOf};
 ghost use Rattle.opened.specs.Shape.{shapeOf, Open};
 
-// The version of a net's sheet, how many places, transitions, pairs, modes and arcs the net has, and where its pairs, and then its arcs with their counts,
-// stand in the sheet.
+// The version of a net's sheet, the net's capacity rule, how many places, transitions, pairs, modes and arcs the net has, and where its pairs, and then its
+// arcs with their counts, stand in the sheet.
 pub struct NetShape {
     pub version: Version,
+    pub rule: CapacityRule,
     pub places: usize,
     pub transitions: usize,
     pub pairs: usize,
@@ -39,6 +42,7 @@ pub fn shape_of(s: &[u8]) -> NetShape
     ensures { λ r. ⌜ r ≡ shapeOf (now (s .entry)) ⌝ }
 {
     let version = version_of(s);
+    let rule = rule_of(s, version);
     let fields = fields_at(s);
     let places = count_at(s, fields);
     let transitions = count_at(s, fields + 2);
@@ -48,6 +52,7 @@ pub fn shape_of(s: &[u8]) -> NetShape
     let at = first_pair + 8 * pairs;
     NetShape {
         version,
+        rule,
         places,
         transitions,
         pairs,

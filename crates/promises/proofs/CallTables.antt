@@ -24,8 +24,8 @@ use Rattle.model.specs.First.{_▸_, first, onlyIf}
 use Rattle.model.specs.Refusals.{carried, wrong, thingNumber}
 use Rattle.model.specs.RefusalTables.{Table, row, _then_, each, Reads}
 use Rattle.model.specs.Numbers.{ℕ∞, fin, ∞, aboveBy, limit}
-use Rattle.model.specs.Nets.{PNet, pairs, pairNo, modeNo, K, count, modes}
-use Rattle.model.specs.Firing.{stops, stoppedBy, stopped, lowestStop, ruleRefusal, rowRefusal, modeRefusal, fired}
+use Rattle.model.specs.Nets.{PNet, pairs, pairNo, modeNo, count, modes}
+use Rattle.model.specs.Firing.{stops, stoppedBy, stopped, lowestStop, ruleRefusal, rowRefusal, rooms, modeRefusal, fired}
 use Rattle.model.specs.Steps.{together, stepRefusal}
 use Rattle.model.specs.Runs.{Outcome, goOn, runFrom, run, elsewhere, endsAt, certificateRefusal}
 use Rattle.model.specs.Complement.{finite, complement, refusal15, sheetLimits, complementRefusal}
@@ -145,10 +145,10 @@ module _ (net movements marking : List ℕ) where
 
 -- a step: 11 to 14 of its row, in the words of the members
 module _ (net : PNet) (ts : List Mode) (m : List ℕ) where
-  sums-read : (why : Why) {P : ℕ → Type 0} {by : ℕ → ℕ} → ((p : ℕ) → Decided (stops why (together net ts p) (K net p) (count m p)) (P p))
-      → ((p : ℕ) → by p ≡ stoppedBy why (together net ts p) (K net p) (count m p))
+  sums-read : (why : Why) {P : ℕ → Type 0} {by : ℕ → ℕ} → ((p : ℕ) → Decided (stops why (together net ts p) (rooms net (together net ts) p) (count m p)) (P p))
+      → ((p : ℕ) → by p ≡ stoppedBy why (together net ts p) (rooms net (together net ts) p) (count m p))
       → Reads (each (pairs net) (λ p. row (P p) (carried (Refused (stopped Argument why p (by p))))))
-      (lowestStop Argument (pairs net) (K net) (together net ts) (count m) why)
+      (lowestStop Argument (pairs net) (rooms net (together net ts)) (together net ts) (count m) why)
   sums-read why d same = reads-each (pairs net) (λ p l. reads-row _ (d p) (λ h. ap (λ n. carried (Refused (stopped Argument why p n))) (same p)))
 
   step-reads : Reads (stepTable net ts m) (stepRefusal net ts m)
@@ -161,8 +161,9 @@ module _ (net : PNet) (ts : List Mode) (m : List ℕ) where
       (sums-read Lacking (λ p. rw (← pre-is net p ts) (by-less (count m p) (together net ts p .pre)))
       (λ p. ap (λ n. n - count m p) (sym (pre-is net p ts))))
       (reads-then
-      (sums-read OverCapacity (λ p. rw (← post-is net p ts) (by-above (count m p + together net ts p .post) (K net p)))
-      (λ p. ap (λ n. aboveBy (count m p + n) (K net p)) (sym (post-is net p ts))))
+      (sums-read OverCapacity
+      (λ p. rw (← post-is net p ts, ← pre-is net p ts) (by-above (count m p + together net ts p .post) (rooms net (together net ts) p)))
+      (λ p. rw (← post-is net p ts, ← pre-is net p ts)))
       (reads-then (sums-read Inhibited (λ p. by-some net p (count m p) ts) (λ p. ap (aboveBy (count m p)) (sym (low-is net p ts))))
       (sums-read OverLimit
       (λ p. rw (← pre-is net p ts, ← post-is net p ts) (by-less limit (count m p - together net ts p .pre + together net ts p .post)))

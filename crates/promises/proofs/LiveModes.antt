@@ -9,12 +9,13 @@ use borrow.Author.Tests.{leb-false}
 use Rattle.model.specs.declared.Mode.{Mode}
 use Rattle.model.specs.declared.Thing.the-variants.{Argument}
 use Rattle.model.specs.declared.Refusal.{Refusal}
-use Rattle.model.specs.Nets.{modes, count}
+use Rattle.model.specs.Nets.{pairs, modes, K, count, row}
 use Rattle.model.specs.Dead.{isDead, lowestMarking}
 use Rattle.model.specs.WellFormed.{WellFormed}
 use Rattle.model.proofs.First.{left-none, right-none, none-then, only-if-none}
 use Rattle.model.proofs.Firing.{mode-there}
 use Rattle.model.proofs.Markings.{marking-test}
+use Rattle.model.proofs.Rooms.{allows-is}
 use Rattle.model.proofs.Possible.{enabled-live, dead-or-live}
 use Rattle.nets.specs.Nets.{netRefusal}
 use Rattle.sheets.specs.Whole.{wholeNet}
@@ -52,9 +53,10 @@ module _ (net : List ℕ) (t : Mode) where
 
   tests-no : (marking : List ℕ) → testRefusal net marking t ≡ none → told (deadnessOf net t) .value ≡ some false
   tests-no marking e =
+      let n = netOf net in
       let fires = accepted-fire .exactly net marking t .0 e in
       value-is (isDead (netOf net) t) (dead-accepted (fires .sheet) (fires .there))
-      ∙ ap some (enabled-live (netOf net) t (count marking) (fires .enabled))
+      ∙ ap some (enabled-live n t (count marking) (λ _. fires .marked .within) (allows-is (n .rule) (pairs n) (K n) (row n t) (count marking) .1 (fires .enabled)))
 
 pub live-modes : LiveModes
 live-modes net t = record { exactly = (λ e. (lowestMarking (netOf net) t, no-tests net t e), λ r. tests-no net t (r .0) (r .1)); lowest = no-tests net t }

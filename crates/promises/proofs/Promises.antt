@@ -15,6 +15,7 @@ use Rattle.model.proofs.Edges.{starred}
 use Rattle.model.proofs.Steps.{step-rule, step-after, step-of-one, step-members}
 use Rattle.model.proofs.Exclusion.{claim-accepted, figure-constant, out-of-reach}
 use Rattle.model.proofs.CorrespondingSteps.{steps-back, steps-forth, step-examples}
+use Rattle.model.proofs.WeakExamples.{weak-examples, weak-steps}
 use Rattle.model.proofs.Orders.{orders, interleavings}
 use Rattle.model.proofs.ApartInBoth.{orders-in-both, order-examples}
 use Rattle.model.proofs.Visits.{movements-tried, visits-bounded, visits-examples}
@@ -81,6 +82,7 @@ promises =
       never16 = never16;
       deadInComplement = dead-in-complement;
       edges = starred;
+      weakExamples = weak-examples;
       stepRule = step-rule;
       stepAfter = step-after;
       stepOfOne = step-of-one;
@@ -88,6 +90,7 @@ promises =
       stepsForth = steps-forth;
       stepMembers = step-members;
       stepExamples = step-examples;
+      weakSteps = weak-steps;
       orders = orders;
       ordersInBoth = orders-in-both;
       interleavings = interleavings;

@@ -43,5 +43,5 @@ two-steps net out n e marking marking′ modes a h =
       after = λ e.
           let both = steps-back (netOf net) c ts marking marking′ h (sym there ∙ e) in
           rw (stepped-from net marking modes (netOf net) refl (here ∙ both .0), stepped-from sheet marking′ modes (complement (netOf net)) (w .same) e) (both .1);
-      forth = λ free e. there ∙ steps-forth (netOf net) c free ts marking marking′ h (sym here ∙ e);
+      forth = λ strong free e. there ∙ steps-forth (netOf net) strong c free ts marking marking′ h (sym here ∙ e);
     }

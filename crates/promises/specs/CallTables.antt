@@ -14,7 +14,7 @@ use Rattle.model.specs.Refusals.{carriesBy, carries}
 use Rattle.model.specs.RefusalTables.{Table, row, _then_, each, Reads, oneEachTable, markingTable, missingTable, modeTable}
 use Rattle.model.specs.Numbers.{ℕ∞, fin, ∞, Above, aboveBy, leastOfAll, limit}
 use Rattle.model.specs.Nets.{NetArc, PNet, total, pairs, modes, modeNo, K, count, arcNo, row as modeRow}
-use Rattle.model.specs.Firing.{fired}
+use Rattle.model.specs.Firing.{roomFor, fired}
 use Rattle.model.specs.Complement.{complement}
 use Rattle.model.specs.Figures.{figure, change}
 use Rattle.heads.specs.Layout.{sheetEnd, version}
@@ -77,6 +77,10 @@ module _ (net : PNet) (ts : List Mode) (m : List ℕ) where
   abbrev summedPost : ℕ → ℕ
   summedPost p = total (map (λ t. modeRow net t p .post) ts)
 
+  -- "P1's steps take the rule with summed Pre and Post"
+  abbrev room : ℕ → ℕ∞
+  room p = roomFor (net .rule) (K net p) (summedPre p)
+
   abbrev leastInhibitor : ℕ → ℕ∞
   leastInhibitor p = leastOfAll (map (λ t. modeRow net t p .inhibitor) ts)
 
@@ -84,10 +88,10 @@ module _ (net : PNet) (ts : List Mode) (m : List ℕ) where
   stepTable =
       row ((length ts ≡ 0) ⊎ (64 < length ts)) (carries 4 3 0)
       then each (length ts) (λ i. missingTable 3 net (member i))
-      -- "summed Pre ≤ M, M + summed Post ≤ K, and M ≤ the least I of its members"
+      -- "summed Pre ≤ M, M + summed Post ≤ K, and M ≤ the least I of its members"; "12 reads by the rule in force"
       then each (pairs net) (λ p. row (count m p < summedPre p) (carriesBy 11 3 p (summedPre p - count m p)))
       then each (pairs net) (λ p.
-      row (Above (count m p + summedPost p) (K net p)) (carriesBy 12 3 p (aboveBy (count m p + summedPost p) (K net p))))
+      row (Above (count m p + summedPost p) (room p)) (carriesBy 12 3 p (aboveBy (count m p + summedPost p) (room p))))
       then each (pairs net) (λ p.
       row ((i : ℕ) × (i < length ts) × Above (count m p) (modeRow net (member i) p .inhibitor))
       (carriesBy 13 3 p (aboveBy (count m p) (leastInhibitor p))))

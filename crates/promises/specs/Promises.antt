@@ -5,6 +5,7 @@ use Rattle.model.specs.WorkedExamples.{WorkedExamples}
 use Rattle.model.specs.DemandThree.{Demand3}
 use Rattle.model.specs.DeadComplement.{Never16, DeadInComplement}
 use Rattle.model.specs.Steps as step
+use Rattle.model.specs.WeakExamples.{WeakExamples, WeakSteps}
 use Rattle.model.specs.Orders.{Orders, OrdersInBoth, Interleavings, OrderExamples}
 use Rattle.model.specs.Visits as visits
 use Rattle.model.specs.Audit as audit
@@ -66,6 +67,7 @@ pub record Promises : Type 0 where
   pub never16 : Never16
   pub deadInComplement : DeadInComplement
   pub edges : Edges
+  pub weakExamples : WeakExamples
   pub stepRule : step.StepRule
   pub stepAfter : step.StepAfter
   pub stepOfOne : step.StepOfOne
@@ -73,6 +75,7 @@ pub record Promises : Type 0 where
   pub stepsForth : step.StepsForth
   pub stepMembers : step.StepMembers
   pub stepExamples : step.StepExamples
+  pub weakSteps : WeakSteps
   pub orders : Orders
   pub ordersInBoth : OrdersInBoth
   pub interleavings : Interleavings

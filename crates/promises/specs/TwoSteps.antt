@@ -5,6 +5,7 @@ use mathlib.Core.Path.{_≡_}
 use mathlib.Core.List.{List}
 use mathlib.Core.Option.{none}
 use lib.ListN.{length}
+use Rattle.model.specs.declared.CapacityRule.the-variants.{Strong}
 use Rattle.model.specs.Numbers.{∞}
 use Rattle.model.specs.Nets.{PNet, arcNo}
 use Rattle.model.specs.Replies.{yields}
@@ -23,8 +24,8 @@ module _ (net complement marking marking′ modes : List ℕ) where
     -- "a step accepted by a complement is accepted by the net", and the markings after correspond again
     pub back : testStepRefusal complement marking′ modes ≡ none → testStepRefusal net marking modes ≡ none
     pub after : testStepRefusal complement marking′ modes ≡ none → Corresponds (netOf net) (steppedBy net marking modes) (steppedBy complement marking′ modes)
-    -- "the converse for nets with no finite inhibitor"; in general it is false (`StepExamples`)
-    pub forth : NoFiniteInhibitor (netOf net) → testStepRefusal net marking modes ≡ none → testStepRefusal complement marking′ modes ≡ none
+    -- "the converse for nets with no finite inhibitor", "kept for rule 0 only"; in general it is false (`StepExamples`), and by rule 1 too (`WeakSteps`)
+    pub forth : netOf net .rule ≡ Strong → NoFiniteInhibitor (netOf net) → testStepRefusal net marking modes ≡ none → testStepRefusal complement marking′ modes ≡ none
 
 abbrev pub TwoSteps : Type 0
 TwoSteps = (net out : List ℕ) (n : ℕ) → told (complementOf net out) ≡ yields n → (marking marking′ modes : List ℕ)

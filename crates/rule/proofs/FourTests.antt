@@ -12,6 +12,8 @@ use Rattle.model.specs.Numbers.{ℕ∞, fin, ∞, above, limit}
 use Rattle.fields.specs.Numbers.{unbounded, bound}
 use Rattle.model.specs.Rows.{Entry}
 use Rattle.model.specs.Firing.{stops}
+use Rattle.model.specs.WellFormed.{InRange}
+use Rattle.fields.proofs.Bounds.{bound-finite}
 use Rattle.rule.specs.AtPair.{Unstopped}
 
 pub clash : {A : Type 0} → true ≡ false → A
@@ -25,6 +27,10 @@ above-small m i h = go (eqb i unbounded) refl
     go : (t : Bool) → eqb i unbounded ≡ t → ltb i m ≡ above m (cond t ∞ (fin i))
     go true e = le-ltb i m (omega (arith, eqb-true i unbounded e))
     go false e = refl
+
+-- a K in range that is not unbounded is a number of a sheet
+pub finite-in-range : (k : ℕ) → InRange (bound k) → (k ≡ unbounded → ⊥) → k ≤ limit
+finite-in-range k h not = rw (bound-finite k not) at h
 
 module _ (e : Entry) (k : ℕ∞) (m : ℕ) where
   pub one-stops : (why : Why) → stops why e k m ≡ true → (false ≡ true) ↔ Unstopped e k m

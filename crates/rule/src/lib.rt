@@ -1,22 +1,44 @@
 // What a mode meets at one of its pairs: refusals 11 to 14, by how much, and the count after firing.
 use fields::numbers::above_bound;
 use model::Arc;
+use model::CapacityRule;
 use model::Why;
 ghost use mathlib.Core.Path.{_≡_};
 ghost use mathlib.Core.Bool.{true};
 ghost use mathlib.Core.Logic.{_↔_};
 ghost use Prim.Native.Nat.{_+_};
-ghost use Rattle.model.specs.Numbers.{aboveBy};
-ghost use Rattle.model.specs.Firing.{after, stops, stoppedBy};
+ghost use Rattle.model.specs.Numbers.{_+∞_, aboveBy};
+ghost use Rattle.model.specs.Firing.{after, roomFor, stops, stoppedBy};
 ghost use Rattle.fields.specs.Numbers.{bound};
 ghost use Rattle.sheets.specs.Decoded.{netArc};
-ghost use Rattle.rule.specs.AtPair.{Counted, Unstopped};
+ghost use Rattle.rule.specs.AtPair.{Counted, Roomy, Unstopped};
 
-// An arc, K of its pair as the sheet writes it, and the count there.
+// An arc, what 12 compares with at its pair, written as a sheet writes K, and the count there.
 pub struct AtPair {
     pub arc: Arc,
     pub capacity: u32,
     pub count: u32,
+}
+
+fn with_pre(capacity: u32, pre: u32) -> u32
+    requires { ⌜ Roomy capacity pre ⌝ }
+    ensures { λ r. ⌜ bound r ≡ bound capacity +∞ pre ⌝ }
+{
+    if capacity == 0xffff_ffff {
+        return capacity;
+    }
+    capacity + pre
+}
+
+// "12 reads by the rule in force": K, or K + Pre.
+pub fn room(rule: CapacityRule, capacity: u32, pre: u32) -> u32
+    requires { ⌜ Roomy capacity pre ⌝ }
+    ensures { λ r. ⌜ bound r ≡ roomFor rule (bound capacity) pre ⌝ }
+{
+    match rule {
+        CapacityRule::Strong => capacity,
+        CapacityRule::Weak => with_pre(capacity, pre),
+    }
 }
 
 // "Firing gives M - Pre + Post."
@@ -30,7 +52,7 @@ pub fn moved(arc: Arc, count: u32) -> u32
     count - arc.pre + arc.post
 }
 
-// "Pre is not taken off before the capacity test."
+// M + Post, which either rule compares: "Pre is not taken off before the capacity test."
 fn with_post(arc: Arc, count: u32) -> u32
     requires { ⌜ Counted arc count ⌝ }
     ensures { λ r. ⌜ r ≡ count + arc .post ⌝ }

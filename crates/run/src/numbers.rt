@@ -1,13 +1,13 @@
-// One number for each arc of a net, made once for a run: a count passes all four tests when it is at least Pre and below that number.
+// One number for each arc of a net, made once for a run by the net's rule: a count passes all four tests when it is at least Pre and below that number.
 use fields::numbers::least;
 use firing::arcs::meet;
+use firing::arcs::room_at;
 use firing::mode::write_arcs;
 use model::Arc;
 use model::Mode;
 use opened::arcs::arc;
 use opened::arcs::slot;
 use opened::shape::NetShape;
-use opened::shape::capacity;
 use opened::starts::Segment;
 use opened::starts::arcs_of;
 ghost use mathlib.Core.Path.{_≡_};
@@ -43,8 +43,7 @@ fn arc_number(s: &[u8], net: NetShape, arcs: Segment, i: usize) -> u32
     ensures { λ r. ⌜ r ≡ numberOf (netOf (now (s .entry))) (arcs .start + i) ⌝ }
 {
     let arc = arc(s, net, arcs, i);
-    let pair = arc.pair;
-    pass_below(arc, capacity(s, net, pair))
+    pass_below(arc, room_at(s, net, arc))
 }
 
 // The numbers of a mode's arcs, where those of the modes below it are written.

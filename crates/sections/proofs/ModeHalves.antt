@@ -33,7 +33,7 @@ module _ (net : PNet) where
     row-halves : rowArcs net t ≡ joined count (λ i. keptHalf Original (start + i)) ++ joined count (λ i. keptHalf Complement (start + i))
     unfolding rowArcs modeArcs
     row-halves =
-        mode-by-arcs (modeNo t) (isDead net (modeNo t)) (pairs net) (K net) (row net (modeNo t)) count _ (mode-lists net wf (modeNo t) start count arcs)
+        mode-by-arcs (modeNo t) (net .rule) (isDead net (modeNo t)) (pairs net) (K net) (row net (modeNo t)) count _ (mode-lists net wf (modeNo t) start count arcs)
         ∙ ap₂ (λ xs ys. xs ++ ys) (joined-ext count _ _ (λ i h. rw (← arcs .own i h))) (joined-ext count _ _ (λ i h. rw (← arcs .own i h)))
 
     row-bytes : (v : Version) → flatMap (arcBytes v) (rowArcs net t) ≡ joined 2 (λ h. joined count (halfBytes net v (halfNo h) start))

@@ -16,7 +16,7 @@ use Rattle.sheets.specs.Decoded.{netOf, netArc}
 use Rattle.opened.specs.Shape.{Open, ArcIs}
 use Rattle.opened.specs.declared.starts.Segment.{Segment}
 use Rattle.opened.specs.Starts.{SegmentOf, OwnArc}
-use Rattle.opened.proofs.Shapes.{sizes}
+use Rattle.opened.proofs.Shapes.{shaped, sizes}
 use Rattle.halves.specs.declared.half.Half.the-variants.{Complement}
 use Rattle.dead.specs.DeadModes.{DeadAre}
 use Rattle.halves.specs.Bounded.{BelowAre}
@@ -59,9 +59,9 @@ module _ {s : List ℕ} {net : NetShape} {k : ℕ} {a : Arc} (read : ArcIs s net
   -- what it becomes on the complement pair
   pub complement-is : Open s net → {below : List ℕ} → BelowAre (netOf s) below → (dead : Bool) (c : ℕ) (q : Pair) → dead ≡ isDead (netOf s) (a .mode)
       → bound c ≡ K (netOf s) (a .pair .0) → q .0 ≡ net .pairs + getD below (a .pair .0) 0
-      → complementAt q dead (bound c) (netArc a) ≡ halfArc (netOf s) Complement k
+      → complementAt q (net .rule) dead (bound c) (netArc a) ≡ halfArc (netOf s) Complement k
   complement-is o are dead c q d e f =
-      rw (← read .is, d) (ap₂ (λ q k. complementAt q (isDead (netOf s) (a .mode)) k (netArc a)) (ap pairNo (pair-number o are q f)) e)
+      rw (← read .is, d, shaped o .rule) (ap₂ (λ q k. complementAt q (netOf s .rule) (isDead (netOf s) (a .mode)) k (netArc a)) (ap pairNo (pair-number o are q f)) e)
 
   pub complement-pair-is : Open s net → {below : List ℕ} → BelowAre (netOf s) below → (q : Pair) → q .0 ≡ net .pairs + getD below (a .pair .0) 0
       → (new : Arc) → netArc new ≡ halfArc (netOf s) Complement k → q .0 ≡ new .pair .0

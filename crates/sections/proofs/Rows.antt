@@ -36,7 +36,7 @@ one-if false a = omega arith
 module _ (net : PNet) where
   -- what mode t has at pair p in the complement
   abbrev entryAt : ℕ → ℕ → Entry
-  entryAt t p = complementRow (isDead net (modeNo t)) (pairs net) (K net) (row net (modeNo t)) p
+  entryAt t p = complementRow (net .rule) (isDead net (modeNo t)) (pairs net) (K net) (row net (modeNo t)) p
 
   abbrev arcAt : ℕ → ℕ → NetArc
   arcAt t p = record { mode = modeNo t; pair = pairNo p; entry = entryAt t p }

@@ -50,7 +50,7 @@ module _ (net : PNet) where
 
   -- the complement's arcs of one mode
   unfoldable pub rowArcs : ℕ → List NetArc
-  rowArcs t = joined (allPairs net) (λ p. written (modeNo t) p (complementRow (isDead net (modeNo t)) (pairs net) (K net) (row net (modeNo t)) p))
+  rowArcs t = joined (allPairs net) (λ p. written (modeNo t) p (complementRow (net .rule) (isDead net (modeNo t)) (pairs net) (K net) (row net (modeNo t)) p))
 
   -- in version 2 after their count
   abbrev pub rowBytes : Version → ℕ → List ℕ

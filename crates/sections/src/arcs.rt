@@ -49,12 +49,14 @@ pub(crate) fn half_arc(
     requires { ⌜ dead ≡ isDead (netOf (now s)) (arcs .mode) ⌝ }
     ensures { λ r. ⌜ netArc r ≡ halfArc (netOf (now (s .entry))) half (arcs .start + i) ⌝ }
 {
+    let rule = net.rule;
     let a = arc(s, net, arcs, i);
     let pair = a.pair;
     match half {
         Half::Original => original_arc(a),
         Half::Complement => complement_arc(
             a,
+            rule,
             dead,
             capacity(s, net, pair),
             complement_pair(net.pairs, below, pair),

@@ -30,7 +30,7 @@ use Rattle.fields.proofs.BoundNumbers.{unbounded-only}
 use Rattle.nets.proofs.TailsRead.{TailRead}
 use Rattle.nets.proofs.GroupsRead.{within}
 use Rattle.nets.proofs.Valid.{counts-hold, colours-hold, modes-hold, capacity-holds, start-holds, arcs-within, arc-holds, groups-hold}
-use Rattle.sheets.proofs.Meaning.{rule-is, counts-length, counts-at, colours-are, modes-of-are, pairs-are, modes-are, capacities-length, capacity-at, start-length, start-at, arcs-length, arc-at, arcs-two}
+use Rattle.sheets.proofs.Meaning.{counts-length, counts-at, colours-are, modes-of-are, pairs-are, modes-are, capacities-length, capacity-at, start-length, start-at, arcs-length, arc-at, arcs-two}
 use Rattle.sheets.proofs.GroupArcs.{group-arcs-length, arcs-rising, each-arcs}
 
 in-range : (x : ℕ) → outside (bound x) ≡ false → InRange (bound x)
@@ -127,7 +127,6 @@ pub well-formed : AcceptedNet
 unfolding pairCount modeCount
 well-formed s accepted =
     record {
-      rule = rule-is s;
       somePlace = rw (colours-are, counts-length) (counts-hold s accepted .sized .somePlace);
       places = rw colours-are (counts-counted s _ _ (counts-hold s accepted .sized .places) (counts-hold s accepted .pairs) (colours-hold s accepted));
       transitions = rw modes-of-are (counts-counted s _ _ (counts-hold s accepted .sized .transitions) (counts-hold s accepted .modes) (modes-hold s accepted));

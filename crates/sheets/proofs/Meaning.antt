@@ -11,6 +11,7 @@ use Rattle.model.proofs.Tables.{table-length, table-at}
 use Rattle.heads.specs.Bytes.{u16At, u32At}
 use Rattle.heads.specs.Layout.{countAt, counts, coloursAt, placeCount, transitionCount, modesAt, pairCount, modeCount, pairsAt, pairAt, arcCountAt, arcCount, arcsAt, arcAt, capacityAt, startAt}
 use Rattle.heads.specs.Version.{versionOf}
+use Rattle.heads.specs.Rule.{ruleOf}
 use Rattle.fields.specs.Numbers.{bound}
 use Rattle.sheets.specs.Decoded.{netArcAt, arcsOf, netArcs, netOf}
 
@@ -23,7 +24,7 @@ module _ (s : List ℕ) where
   unfolding counts
   counts-at start n i h = table-at n (λ i. u16At s (countAt start i)) 0 i h
 
-  pub rule-is : netOf s .rule ≡ 0
+  pub rule-is : netOf s .rule ≡ ruleOf (versionOf s) s
   unfolding netOf
   rule-is = refl
 

@@ -166,6 +166,9 @@ module _ (s : List ℕ) where
   pairs-read : Reads (pairsTable s) pairFields
   pairs-read = reads-each (pairCount s) (λ p l. pair-reads (pairAt (pairsAt s) p))
 
+  another : (b : ℕ) → Decided (ltb 1 b) ((b ≢ 0) × (b ≢ 1))
+  another b = by-other (by-less 1 b) (λ l. (λ e. omega arith, λ e. omega arith)) (λ h. omega (arith, h))
+
   fields-read : (v : Version)
       → Reads (fieldsTable s v) (ruleField v s ▸ countFields s ▸ pairFields ▸ arcSection v s (modeCount s) (pairCount s) (arcCountAt s))
   unfolding fieldsTable ruleField arcSection arcFields groupFields _▸_
@@ -176,7 +179,7 @@ module _ (s : List ℕ) where
       (reads-then (reads-each (u16At s (arcCountAt s)) (λ k l. arc-reads (arcsAfter (arcCountAt s)) k))
       (left-reads Net s (arcAt (arcsAfter (arcCountAt s)) (u16At s (arcCountAt s)))))))
   fields-read Two =
-      reads-then (reads-then (past-reads Net s ruleAt 1) (reads-plain _ (by-not (by-equal (byteAt s ruleAt) 0))))
+      reads-then (reads-then (past-reads Net s ruleAt 1) (reads-plain _ (another (byteAt s ruleAt))))
       (reads-then counts-read
       (reads-then pairs-read
       (reads-then (reads-each (modeCount s) (λ t l. group-reads (arcCountAt s) t)) (left-reads Net s (groupAt s (arcCountAt s) (modeCount s))))))

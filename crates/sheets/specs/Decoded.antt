@@ -11,6 +11,7 @@ use Rattle.model.specs.Nets.{NetArc, PNet, pairNo, modeNo}
 use Rattle.heads.specs.Bytes.{u16At, u32At}
 use Rattle.heads.specs.Layout.{counts, coloursAt, placeCount, transitionCount, modesAt, pairCount, modeCount, pairsAt, pairAt, arcCountAt, arcCount, arcsAfter, arcsAt, arcAt, groupAt, groupCount, groupArcAt, capacityAt, startAt, arcModeAt, arcTailAt, tailPairAt, tailPreAt, tailPostAt, tailInhibitorAt, movementAt, movementCount, weightCount, weightAt}
 use Rattle.heads.specs.Version.{versionOf}
+use Rattle.heads.specs.Rule.{ruleOf}
 use Rattle.lists.specs.Weights.{signed}
 use Rattle.fields.specs.Numbers.{bound}
 
@@ -41,7 +42,7 @@ netArcs Two s = arcsOf s (arcCountAt s) (modeCount s)
 unfoldable pub netOf : List ℕ → PNet
 netOf s =
     record {
-      rule = 0;
+      rule = ruleOf (versionOf s) s;
       colours = counts s (coloursAt s) (placeCount s);
       modesOf = counts s (modesAt s) (transitionCount s);
       capacity = table (pairCount s) (λ p. bound (u32At s (capacityAt (pairAt (pairsAt s) p))));

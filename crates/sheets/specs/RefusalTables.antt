@@ -131,7 +131,7 @@ module _ (s : List ℕ) where
   abbrev pub pairsTable : Table
   pairsTable = each (pairCount s) (λ p. pairTable (pairAt (pairsAt s) p))
 
-  -- version 2: "a rule byte, 0 for now, follows the version", and "4 for another rule byte"
+  -- version 2: "a rule byte .. follows the version", 0 or (P10) 1, and "4 for another rule byte"
   unfoldable pub fieldsTable : Version → Table
   fieldsTable One =
       countsTable
@@ -140,7 +140,7 @@ module _ (s : List ℕ) where
       then each (u16At s (arcCountAt s)) (arcTable (arcsAfter (arcCountAt s)))
       then leftAfter 0 s (arcAt (arcsAfter (arcCountAt s)) (u16At s (arcCountAt s)))
   fieldsTable Two =
-      (pastEnd 0 s ruleAt 1 then row (byteAt s ruleAt ≢ 0) (carries 4 0 ruleAt))
+      (pastEnd 0 s ruleAt 1 then row ((byteAt s ruleAt ≢ 0) × (byteAt s ruleAt ≢ 1)) (carries 4 0 ruleAt))
       then countsTable
       then pairsTable
       then each (modeCount s) (groupTable (arcCountAt s))

@@ -1,6 +1,6 @@
 -- The sums at one pair, read as an arc, say there what the step says; and the marking is written pair by pair.
-use Prim.Native.Nat.{ℕ, _+_, _≤_, _<_}
-use mathlib.Core.Path.{_≡_, refl, sym, _∙_, ap}
+use Prim.Native.Nat.{ℕ, _+_, _*_, _≤_, _<_}
+use mathlib.Core.Path.{_≡_, refl, sym, _∙_, ap, ap₂}
 use mathlib.Core.Bool.{Bool, true, false}
 use mathlib.Core.List.{List}
 use lib.ListN.{length, set}
@@ -17,11 +17,11 @@ use Rattle.model.specs.declared.Answer.{Answer}
 use Rattle.model.specs.declared.Answer.the-variants.{Accepted, Refused}
 use Rattle.model.specs.First.{_▸_, first}
 use Rattle.model.specs.Refusals.{answer, wrong}
-use Rattle.model.specs.Numbers.{ℕ∞}
+use Rattle.model.specs.Numbers.{ℕ∞, limit}
 use Rattle.model.specs.Rows.{Entry, Row}
 use Rattle.model.specs.Nets.{PNet, pairs, K, count}
 use Rattle.model.specs.Markings.{Marking}
-use Rattle.model.specs.Firing.{after, stops, stoppedBy, ruleRefusal, rowRefusal, firedRow, rooms}
+use Rattle.model.specs.Firing.{after, stops, stoppedBy, ruleRefusal, rowRefusal, firedRow, roomFor, rooms, roomAt}
 use Rattle.model.proofs.First.{then-assoc}
 use Rattle.model.proofs.Markings.{row-fired-at, row-fired-length}
 use Rattle.fields.specs.Numbers.{bound}
@@ -37,6 +37,11 @@ module _ {s : List ℕ} {net : NetShape} (o : Open s net) where
   unfolding stopAt stopOf
   stop-is why r m = rw (sizes o .pairs)
 
+  -- the sums at a pair are those of at most 64 arcs
+  pub summed : {r : Row} {p : ℕ} {a : Arc} → Below 64 (pairs (netOf s)) r → p < net .pairs → SumIs r p a → (a .pair .0 < net .pairs) × (a .pre ≤ 64 * limit)
+  summed {p = p} below h sum =
+      (omega (arith, ap (λ x. x .0) (sum .pair)), omega (arith, below .each p (rw (sizes o .pairs) at h), ap (λ e. e .pre) (sum .entry)))
+
   module _ {m : List ℕ} (marking : Marking (netOf s) m) {r : Row} {p : ℕ} {a : Arc} where
     -- Post of the sums and the count stay in 32 bits
     pub counted : Below 64 (pairs (netOf s)) r → p < net .pairs → SumIs r p a → Counted a (count m p)
@@ -44,13 +49,13 @@ module _ {s : List ℕ} {net : NetShape} (o : Open s net) where
         let inside = rw (sizes o .pairs) at h in
         record { post = omega (arith, below .each p inside, ap (λ e. e .post) (sum .entry)); count = marking .inRange p inside }
 
-module _ (net : PNet) (m : List ℕ) (k : ℕ) {r : Row} {p : ℕ} {a : Arc} (sum : SumIs r p a) (room : bound k ≡ K net (a .pair .0)) (why : Why) {test : Bool}
+module _ (net : PNet) (m : List ℕ) (k : ℕ) {r : Row} {p : ℕ} {a : Arc} (sum : SumIs r p a) (room : bound k ≡ roomAt net (netArc a)) (why : Why) {test : Bool}
     (tested : test ≡ stops why (netArc a .entry) (bound k) (count m p)) where
   -- what is said of the arc that was read is said of the sums
   sums-as : {A : Type 0} (f : Entry → ℕ∞ → ℕ → A) → f (netArc a .entry) (bound k) (count m p) ≡ f (r p) (rooms net r p) (count m p)
   sums-as f =
       ap (λ (e : Entry). f e (bound k) (count m p)) (sum .entry)
-      ∙ ap (λ (b : ℕ∞). f (r p) b (count m p)) (room ∙ ap (λ (x : Pair). K net (x .0)) (sum .pair))
+      ∙ ap (λ (b : ℕ∞). f (r p) b (count m p)) (room ∙ ap₂ (λ (x : Pair) (e : Entry). roomFor (net .rule) (K net (x .0)) (e .pre)) (sum .pair) (sum .entry))
 
   tests : test ≡ stops why (r p) (rooms net r p) (count m p)
   tests = tested ∙ sums-as (stops why)

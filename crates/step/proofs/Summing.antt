@@ -17,9 +17,9 @@ use Rattle.model.specs.declared.Answer.the-variants.{Accepted, Refused}
 use Rattle.model.specs.First.{_▸_, first}
 use Rattle.model.specs.Refusals.{answer, wrong}
 use Rattle.model.specs.Rows.{Row}
-use Rattle.model.specs.Nets.{PNet, pairs, modeNo, count, row}
+use Rattle.model.specs.Nets.{PNet, pairs, modeNo, K, count, row}
 use Rattle.model.specs.WellFormed.{WellFormed}
-use Rattle.model.specs.Firing.{firedRow}
+use Rattle.model.specs.Firing.{roomFor, firedRow}
 use Rattle.model.specs.Steps.{beside, together, stepOutside, stepRefusal, firedTogether}
 use Rattle.model.proofs.First.{then-assoc, left-none, right-none, first-each, first-ext, only-if-none}
 use Rattle.model.proofs.Both.{or-neither}
@@ -114,7 +114,8 @@ module _ {net : PNet} (ms : List ℕ) {r : Row} where
 
     pub sums-refusal : (m : List ℕ) → refusalOf net r m ≡ sumsRefusal net ms m
     unfolding refusalOf sumsRefusal
-    sums-refusal m = row-ext Argument (pairs net) _ _ r (together net (stepModes ms)) (count m) (λ p h. refl) whole
+    sums-refusal m = row-ext Argument (pairs net) _ _ r (together net (stepModes ms)) (count m)
+        (λ p h. ap (λ e. roomFor (net .rule) (K net p) (e .pre)) (whole p h)) whole
 
     pub sums-fired : (m : List ℕ) → firedRow (pairs net) r m ≡ firedTogether net (stepModes ms) m
     unfolding firedTogether

@@ -1,4 +1,5 @@
 // A step at a marking, pair by pair: which of 11 to 14 stops its sums, and the marking after.
+use firing::arcs::room_at;
 use heads::head::refused;
 use model::Answer;
 use model::Arc;
@@ -8,7 +9,6 @@ use model::Pair;
 use model::Thing;
 use model::Why;
 use opened::shape::NetShape;
-use opened::shape::capacity;
 use rule::AtPair;
 use rule::is_stopped;
 use rule::moved;
@@ -58,7 +58,7 @@ fn pair_stop(
     let pair = arc.pair;
     let at = AtPair {
         arc,
-        capacity: capacity(s, net, pair),
+        capacity: room_at(s, net, arc),
         count: marking[p],
     };
     if is_stopped(why, at) {

@@ -7,7 +7,7 @@ use mathlib.Core.Logic.{⊎-elim}
 use mathlib.Core.Option.{none}
 use lib.ListN.{length}
 use native.Mathlib.Omega.{arith}
-use borrow.Author.Tests.{lt-ltb, le-ltb, lt-leb, eq-eqb, ne-eqb}
+use borrow.Author.Tests.{lt-ltb, le-ltb, lt-leb, ne-eqb}
 use Rattle.model.specs.declared.Version.{Version}
 use Rattle.model.specs.declared.Version.the-variants.{One, Two}
 use Rattle.model.specs.declared.Thing.the-variants.{Net}
@@ -35,10 +35,10 @@ module _ (s : List ℕ) where
       rw
       (le-ltb (length s) 4 (omega (arith, there .there)), le-ltb (length s) (sheetEnd s) (there .there), ne-eqb (bodyLength s) 0 (omega (arith, there .versioned)), v)
 
-  pub rule-accepts : (v : Version) → ruleAt + 1 ≤ sheetEnd s → (v ≡ Two → byteAt s ruleAt ≡ 0) → ruleField v s ≡ none
+  pub rule-accepts : (v : Version) → ruleAt + 1 ≤ sheetEnd s → (v ≡ Two → byteAt s ruleAt ≤ 1) → ruleField v s ≡ none
   unfolding ruleField _▸_
   rule-accepts One there r = refl
-  rule-accepts Two there r = rw (le-ltb (sheetEnd s) (ruleAt + 1) there, eq-eqb (byteAt s ruleAt) 0 (r refl))
+  rule-accepts Two there r = rw (le-ltb (sheetEnd s) (ruleAt + 1) there, le-ltb 1 (byteAt s ruleAt) (r refl))
 
   pub count-accepts : (at low high : ℕ) → CountRead s at low high → countRefusal Net s at low high ≡ none
   unfolding countRefusal _▸_

@@ -9,6 +9,7 @@ use Rattle.model.specs.Numbers.{ℕ∞, ∞}
 use Rattle.model.specs.Rows.{Entry, Row}
 use Rattle.model.specs.Nets.{PNet, pairs, modes, arcNo, modeNo}
 use Rattle.model.specs.declared.Version.the-variants.{One}
+use Rattle.model.specs.declared.CapacityRule.the-variants.{Strong}
 use Rattle.model.specs.WellFormed.{ArcOf, Counted, WellFormed}
 use Rattle.model.specs.Complement.{written, arcsOf}
 use Rattle.model.specs.WorkedExamples.{ownExample}
@@ -20,7 +21,7 @@ use Rattle.sheets.proofs.Accepted as sheets
 use Rattle.written.proofs.ByMode.{by-mode}
 use Rattle.written.proofs.NetStands.{ends-of}
 use Rattle.written.specs.Written.{versionBytes, sheetOf}
-use Rattle.written.specs.Promises.{LargestSheet, ExampleLengths}
+use Rattle.written.specs.Promises.{HasSheet, LargestSheet, ExampleLengths}
 use Rattle.written.proofs.RoundTrip.{fields-end, written-then-read}
 use Rattle.written.proofs.Sections.{joined-length}
 use Rattle.written.proofs.SheetLength.{section-one, fields-length, sheet-length, sheet-size, sheet-most}
@@ -38,7 +39,7 @@ fours = replicate 64 4
 largest : PNet
 largest =
     record {
-      rule = 0;
+      rule = Strong;
       colours = fours;
       modesOf = fours;
       capacity = replicate 256 ∞;
@@ -70,7 +71,6 @@ well-formed : WellFormed largest
 unfolding largest
 well-formed =
     record {
-      rule = refl;
       somePlace = omega arith;
       places = counted;
       transitions = counted;
@@ -81,6 +81,10 @@ well-formed =
       eachArc = arc-of;
       rising = sorted-rising (arcsOf 8 256 rows) (sorted-rows 8 256 rows);
     }
+
+has-sheet : HasSheet One largest
+unfolding largest
+has-sheet e = refl
 
 size : length (sheetOf One largest) ≡ 35083
 unfolding largest versionBytes
@@ -99,7 +103,7 @@ largest-sheet =
             sheet-size (versionOf s) (netOf s) (by-mode (netOf s) well),
             sheet-most (versionOf s) (length (netOf s .colours)) (length (netOf s .modesOf)) (pairs (netOf s)) (modes (netOf s)) (length (netOf s .arcs)) (well .places .many) (well .transitions .many) (well .places .inTotal) (well .transitions .inTotal) (well .arcCount),
           );
-      reached = (sheetOf One largest, written-then-read One largest well-formed .accepted, size);
+      reached = (sheetOf One largest, written-then-read One largest well-formed has-sheet .accepted, size);
     }
 
 pub example-lengths : ExampleLengths

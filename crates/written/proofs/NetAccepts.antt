@@ -217,7 +217,7 @@ module _ (s : List ℕ) (well : WellFormed (netOf s)) (ends : arcsEnd (versionOf
   section-by One v end = arcs-read v end
   section-by Two v end = groups-read v end
 
-  pub net-accepts : Headed s → known Net (version s) ≡ true → ruleAt + 1 ≤ sheetEnd s → (versionOf s ≡ Two → byteAt s ruleAt ≡ 0) → netRefusal s ≡ none
+  pub net-accepts : Headed s → known Net (version s) ≡ true → ruleAt + 1 ≤ sheetEnd s → (versionOf s ≡ Two → byteAt s ruleAt ≤ 1) → netRefusal s ≡ none
   unfolding netRefusal netFields pairAndArcFields
   net-accepts headed v there rule =
       none-then (head-accepts s headed v)

@@ -1,21 +1,25 @@
 -- A run in which a well-formed net's sheet stands reads as that net.
-use Prim.Native.Nat.{ℕ, _+_, _*_, _<_}
+use Prim.Native.Nat.{ℕ, _+_, _*_, _≤_, _<_}
 use mathlib.Core.Path.{_≡_, refl, sym, _∙_, ap, subst}
 use mathlib.Core.List.{List, [], _++_, flatten, flatMap}
 use lib.ListN.{length, getD}
 use native.Mathlib.Omega.{arith}
 use Rattle.model.specs.declared.Version.{Version}
 use Rattle.model.specs.declared.Version.the-variants.{One, Two}
+use Rattle.model.specs.declared.CapacityRule.{CapacityRule}
+use Rattle.model.specs.declared.CapacityRule.the-variants.{Strong}
 use Rattle.model.specs.Numbers.{∞}
-use Rattle.model.specs.Nets.{PNet, total, pairs, modes, K, count, arcNo}
+use Rattle.model.specs.Nets.{PNet, ruleNumber, total, pairs, modes, K, count, arcNo}
 use Rattle.model.specs.WellFormed.{WellFormed, Counted}
 use Rattle.model.specs.Lists.{table}
 use Rattle.heads.specs.Bytes.{byteAt, u32At}
 use Rattle.heads.specs.Layout.{bodyLength, version, ruleAt, counts, fieldsFrom, fieldsAt, coloursAt, placeCount, transitionCount, modesAt, modeCount, pairCount, pairsAt, pairAt, arcCountAt, arcCount, arcsAt, arcAt, capacityAt, startAt}
 use Rattle.heads.specs.Version.{versionOf}
+use Rattle.heads.specs.Rule.{ruleOf}
 use Rattle.fields.specs.Numbers.{bound}
 use Rattle.sheets.specs.Decoded.{netArcAt, netArcs, netOf}
 use Rattle.written.specs.Written.{bytes16, bytes32, pairBytes, arcBytes, pairsBytes, versionNumber, versionBytes, headBytes, totalBytes, sectionBytes, fieldsOf, lengthOf, sheetOf}
+use Rattle.written.specs.Promises.{HasSheet}
 use Rattle.written.specs.Puts.{sheetSize}
 use Rattle.written.proofs.Stands.{Stands, InTurn, stands-left, stands-right, moved, in-turn}
 use Rattle.written.proofs.BigEndian.{length16, length32, head-length, read16, read32}
@@ -24,7 +28,7 @@ use Rattle.written.proofs.Records.{pair-length, arc-length, read-capaci
 use Rattle.written.proofs.SheetLength.{counts-section, pairs-section, sheet-length, sheet-size, sheet-most}
 use Rattle.written.proofs.ByMode.{by-mode}
 use Rattle.written.proofs.Groups.{arcs-read-back}
-use Rattle.written.proofs.Versions.{version-is, fields-from}
+use Rattle.written.proofs.Versions.{version-is, rule-small, rule-named, fields-from}
 
 module _ (s : List ℕ) where
   counts-read : (at : ℕ) (xs : List ℕ) → Counted xs → Stands s at (flatMap bytes16 xs) → (n : ℕ) → n ≡ length xs → counts s at n ≡ xs
@@ -43,35 +47,40 @@ module _ (s : List ℕ) where
   unfolding versionBytes
   rule-stands v rule h e = subst (λ v. Stands s 4 (versionBytes v rule)) e h .each 1 5 (omega arith) (omega arith)
 
+  rule-by : (v : Version) (rule : CapacityRule) → (v ≡ One → rule ≡ Strong) → Stands s 4 (versionBytes v (ruleNumber rule)) → ruleOf v s ≡ rule
+  unfolding ruleOf
+  rule-by One rule one h = sym (one refl)
+  rule-by Two rule one h = rule-named s rule (rule-stands Two (ruleNumber rule) h refl)
+
 module _ (s : List ℕ) (v : Version) (net : PNet) (well : WellFormed net) (stands : Stands s 0 (sheetOf v net)) where
   abbrev headOf : List ℕ
-  headOf = headBytes v (net .rule) (lengthOf v net)
+  headOf = headBytes v (ruleNumber (net .rule)) (lengthOf v net)
 
   head : Stands s 0 headOf
   unfolding sheetOf
   head = stands-left headOf (flatten (fieldsOf v net)) stands
 
-  version-stands : Stands s 4 (versionBytes v (net .rule))
+  version-stands : Stands s 4 (versionBytes v (ruleNumber (net .rule)))
   unfolding headBytes
-  version-stands = stands-right (bytes32 (lengthOf v net)) (versionBytes v (net .rule)) head 4 (omega (arith, length32 (lengthOf v net)))
+  version-stands = stands-right (bytes32 (lengthOf v net)) (versionBytes v (ruleNumber (net .rule))) head 4 (omega (arith, length32 (lengthOf v net)))
 
   pub number-read : version s ≡ versionNumber v
-  number-read = number-stands s v (net .rule) version-stands
+  number-read = number-stands s v (ruleNumber (net .rule)) version-stands
 
   pub version-read : versionOf s ≡ v
   version-read = version-is v s number-read
 
-  pub rule-read : v ≡ Two → byteAt s ruleAt ≡ 0
-  rule-read e = rule-stands s v (net .rule) version-stands e ∙ well .rule
+  pub rule-read : v ≡ Two → byteAt s ruleAt ≤ 1
+  rule-read e = omega (arith, rule-stands s v (ruleNumber (net .rule)) version-stands e, rule-small (net .rule))
 
-  fields-are-at : fieldsAt s ≡ 4 + length (versionBytes v (net .rule))
+  fields-are-at : fieldsAt s ≡ 4 + length (versionBytes v (ruleNumber (net .rule)))
   unfolding fieldsAt
-  fields-are-at = ap fieldsFrom version-read ∙ fields-from v (net .rule)
+  fields-are-at = ap fieldsFrom version-read ∙ fields-from v (ruleNumber (net .rule))
 
   fields : InTurn s (fieldsAt s) (fieldsOf v net)
   unfolding sheetOf
   fields =
-      in-turn _ (stands-right headOf (flatten (fieldsOf v net)) stands (fieldsAt s) (omega (arith, fields-are-at, head-length v (net .rule) (lengthOf v net))))
+      in-turn _ (stands-right headOf (flatten (fieldsOf v net)) stands (fieldsAt s) (omega (arith, fields-are-at, head-length v (ruleNumber (net .rule)) (lengthOf v net))))
 
   pub sheet-few : length (sheetOf v net) ≡ sheetSize v (length (net .colours)) (length (net .modesOf)) (pairs net) (modes net) (length (net .arcs))
   sheet-few = sheet-size v net (by-mode net well)
@@ -86,7 +95,7 @@ module _ (s : List ℕ) (v : Version) (net : PNet) (well : WellFormed net) (stan
         sheet-few,
         sheet-most v (length (net .colours)) (length (net .modesOf)) (pairs net) (modes net) (length (net .arcs)) (well .places .many) (well .transitions .many) (well .places .inTotal) (well .transitions .inTotal) (well .arcCount),
       ))
-      (stands-left (bytes32 (lengthOf v net)) (versionBytes v (net .rule)) head)
+      (stands-left (bytes32 (lengthOf v net)) (versionBytes v (ruleNumber (net .rule))) head)
 
   places-read : placeCount s ≡ length (net .colours)
   places-read = read16 s (fieldsAt s) (length (net .colours)) (omega (arith, well .places .many)) (fields .0)
@@ -170,6 +179,9 @@ module _ (s : List ℕ) (v : Version) (net : PNet) (well : WellFormed net) (stan
   arcs-read : netArcs (versionOf s) s ≡ net .arcs
   arcs-read = rw version-read (arcs-by v section-stands)
 
-  pub net-read : netOf s ≡ net
+  rule-is-read : HasSheet v net → ruleOf (versionOf s) s ≡ net .rule
+  rule-is-read has = ap (λ v. ruleOf v s) version-read ∙ rule-by s v (net .rule) has version-stands
+
+  pub net-read : HasSheet v net → netOf s ≡ net
   unfolding netOf
-  net-read = λ i. record { rule = sym (well .rule) i; colours = colours-read i; modesOf = modes-read i; capacity = capacities-read i; start = start-read i; arcs = arcs-read i }
+  net-read has = λ i. record { rule = rule-is-read has i; colours = colours-read i; modesOf = modes-read i; capacity = capacities-read i; start = start-read i; arcs = arcs-read i }

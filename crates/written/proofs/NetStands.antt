@@ -1,16 +1,17 @@
 -- The sheet of the net that was read stands where it was read.
-use Prim.Native.Nat.{ℕ, _+_, _*_, _<_}
+use Prim.Native.Nat.{ℕ, _+_, _*_, _≤_, _<_}
 use mathlib.Core.Path.{_≡_, refl, sym, _∙_, ap}
 use mathlib.Core.List.{List, flatten, flatMap}
 use lib.ListN.{length}
 use native.Mathlib.Omega.{arith}
 use Rattle.model.specs.declared.Version.{Version}
 use Rattle.model.specs.declared.Version.the-variants.{One, Two}
-use Rattle.model.specs.Nets.{pairs, modes, K, count}
+use Rattle.model.specs.Nets.{ruleNumber, pairs, modes, K, count}
 use Rattle.model.specs.WellFormed.{WellFormed}
 use Rattle.heads.specs.Bytes.{byteAt, u16At}
 use Rattle.heads.specs.Layout.{bodyLength, version, ruleAt, counts, fieldsAt, placesAt, transitionsAt, coloursAt, placeCount, transitionCount, modesAt, modeCount, pairsAt, pairAt, arcCountAt, arcCount, arcsAt, arcAt, groupAt}
 use Rattle.heads.specs.Version.{versionOf}
+use Rattle.heads.specs.Rule.{ruleOf}
 use Rattle.sheets.specs.Decoded.{netArcs, netOf}
 use Rattle.written.specs.Written.{bytes16, bytes32, pairBytes, arcBytes, pairsBytes, versionNumber, versionBytes, headBytes, totalBytes, sectionBytes, fieldsOf, lengthOf, sheetOf}
 use Rattle.written.specs.Puts.{sectionSize}
@@ -23,7 +24,7 @@ use Rattle.written.proofs.Records.{pair-length, arc-length, stand-pair,
 use Rattle.written.proofs.SheetLength.{counts-section, pairs-section, section-size, fields-length}
 use Rattle.written.proofs.ByMode.{by-mode}
 use Rattle.written.proofs.Groups.{arcs-stand-back}
-use Rattle.written.proofs.Versions.{fields-from}
+use Rattle.written.proofs.Versions.{rule-number, fields-from}
 
 -- where the arcs of a sheet end
 abbrev pub arcsEnd : Version → List ℕ → ℕ
@@ -85,9 +86,9 @@ module _ (s : List ℕ) where
         (next-stands _ pairs-stand (omega (arith, places-of, transitions-of))
         (next-stands _ (section-by (versionOf s) refl) (omega (arith, places-of, transitions-of, pairs-are s)) none-stand)))))
 
-  pub fields-are-at : fieldsAt s ≡ 4 + length (versionBytes (versionOf s) (netOf s .rule))
+  pub fields-are-at : fieldsAt s ≡ 4 + length (versionBytes (versionOf s) (ruleNumber (netOf s .rule)))
   unfolding fieldsAt
-  fields-are-at = fields-from (versionOf s) (netOf s .rule)
+  fields-are-at = fields-from (versionOf s) (ruleNumber (netOf s .rule))
 
   pub ends-of : WellFormed (netOf s) → 4 + lengthOf (versionOf s) (netOf s) ≡ arcsEnd (versionOf s) s
   ends-of well =
@@ -102,16 +103,17 @@ module _ (s : List ℕ) where
         pairs-are s,
       )
 
-  version-stands : (v : Version) → version s ≡ versionNumber v → (v ≡ Two → byteAt s ruleAt ≡ 0) → Stands s 4 (versionBytes v (netOf s .rule))
+  version-stands : (v : Version) → version s ≡ versionNumber v → (v ≡ Two → byteAt s ruleAt ≡ ruleNumber (netOf s .rule)) → Stands s 4 (versionBytes v (ruleNumber (netOf s .rule)))
   unfolding versionBytes
   version-stands One e r = record { each = λ j k l q. let j≡0 : j ≡ 0 = omega arith in let k≡4 : k ≡ 4 = omega arith in rw (j≡0, k≡4) e }
-  version-stands Two e r = two s 4 e (r refl ∙ sym (rule-is s))
+  version-stands Two e r = two s 4 e (r refl)
 
-  pub sheet-stands : (byte : (i : ℕ) → byteAt s i < 256) → version s ≡ versionNumber (versionOf s) → (versionOf s ≡ Two → byteAt s ruleAt ≡ 0)
+  pub sheet-stands : (byte : (i : ℕ) → byteAt s i < 256) → version s ≡ versionNumber (versionOf s) → (versionOf s ≡ Two → byteAt s ruleAt ≤ 1)
       → bodyLength s ≡ lengthOf (versionOf s) (netOf s) → Stands s 0 (sheetOf (versionOf s) (netOf s))
   unfolding sheetOf headBytes
   sheet-stands byte v r e =
       let l = lengthOf (versionOf s) (netOf s) in
       let length-stands : Stands s 0 (bytes32 l) = rw (← e) (stand32 s byte 0) in
-      let head = stands-both length-stands (version-stands (versionOf s) v r) (omega (arith, length32 l)) in
-      stands-both head (fields-stand byte) (omega (arith, fields-are-at, head-length (versionOf s) (netOf s .rule) l))
+      let rule : versionOf s ≡ Two → byteAt s ruleAt ≡ ruleNumber (netOf s .rule) = λ two. rule-number s (r two) ∙ ap ruleNumber (sym (rule-is s ∙ ap (λ v. ruleOf v s) two)) in
+      let head = stands-both length-stands (version-stands (versionOf s) v rule) (omega (arith, length32 l)) in
+      stands-both head (fields-stand byte) (omega (arith, fields-are-at, head-length (versionOf s) (ruleNumber (netOf s .rule)) l))

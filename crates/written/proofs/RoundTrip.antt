@@ -8,7 +8,7 @@ use lib.ListN.{length, drop, length-append}
 use lib.Seq.{drop-at}
 use native.Mathlib.Omega.{arith}
 use native.Mathlib.Nat.{mul-zero, mul-suc}
-use borrow.Author.Tests.{le-ltb, ltb-false, eqb-true, not-false}
+use borrow.Author.Tests.{le-ltb, ltb-false, not-false}
 use Rattle.model.specs.declared.Thing.the-variants.{Net}
 use Rattle.model.specs.declared.Version.{Version}
 use Rattle.model.specs.declared.Version.the-variants.{One, Two}
@@ -25,7 +25,7 @@ use Rattle.nets.specs.Nets.{arcFields, arcSection, ruleField, pairAndArcFields,
 use Rattle.sheets.specs.Whole.{bytesAfter, wholeNet, rest}
 use Rattle.sheets.specs.Decoded.{netOf}
 use Rattle.written.specs.Written.{lengthOf, sheetOf}
-use Rattle.written.specs.Promises.{WrittenThenRead, ReadThenWritten}
+use Rattle.written.specs.Promises.{HasSheet, WrittenThenRead, ReadThenWritten}
 use Rattle.heads.proofs.Heads.{head-holds}
 use Rattle.nets.proofs.GroupsRead.{before-none, before-next, GroupRead}
 use Rattle.nets.proofs.Valid.{counts-hold, start-holds, arc-count-holds, arc-holds, groups-hold}
@@ -38,16 +38,16 @@ use Rattle.written.proofs.NetAccepts.{net-accepts}
 use Rattle.written.proofs.NetStands.{arcsEnd, sheet-stands, ends-of}
 use Rattle.written.proofs.Versions.{number-is, version-known}
 
--- the version byte is one of a net sheet's, and the rule byte of version 2 is 0
+-- the version byte is one of a net sheet's, and the rule byte of version 2 is 0 or 1
 pub known-holds : (s : List ℕ) → headRefusal Net s ≡ none → known Net (version s) ≡ true
 unfolding headRefusal
 known-holds s e = not-false _ (only-if-none _ _ (right-none _ _ (right-none _ _ (right-none _ _ e))))
 
-rule-holds : (s : List ℕ) → netFields s ≡ none → versionOf s ≡ Two → byteAt s ruleAt ≡ 0
+rule-holds : (s : List ℕ) → netFields s ≡ none → versionOf s ≡ Two → byteAt s ruleAt ≤ 1
 unfolding netFields ruleField
 rule-holds s e v =
     let rule : ruleField Two s ≡ none = rw v at (left-none (ruleField (versionOf s) s) _ e) in
-    eqb-true _ _ (not-false _ (only-if-none _ _ (right-none _ _ rule)))
+    ltb-false _ _ (only-if-none _ _ (right-none _ _ rule))
 
 -- parts that are each there are there together
 all-there : (size start end n : ℕ) → start ≤ end → ((k : ℕ) → k < n → start + size * k + size ≤ end) → start + size * n ≤ end
@@ -116,16 +116,16 @@ alone v net = record { stands = stands-self _; room = omega arith }
 before : (v : Version) (net : PNet) (more : List ℕ) → Begins (sheetOf v net ++ more) v net
 before v net more = record { stands = stands-left _ more (stands-self (sheetOf v net ++ more)); room = omega (arith, length-append (sheetOf v net) more) }
 
-module _ (s : List ℕ) (v : Version) (net : PNet) (well : WellFormed net) (begins : Begins s v net) where
+module _ (s : List ℕ) (v : Version) (net : PNet) (well : WellFormed net) (has : HasSheet v net) (begins : Begins s v net) where
   ends : sheetEnd s ≡ length (sheetOf v net)
   ends = omega (arith, body-length-read s v net well (begins .stands), sheet-length v net)
 
   read-well : WellFormed (netOf s)
-  read-well = subst WellFormed (sym (net-read s v net well (begins .stands))) well
+  read-well = subst WellFormed (sym (net-read s v net well (begins .stands) has)) well
 
   end-read : arcsEnd (versionOf s) s ≡ sheetEnd s
   end-read =
-      let same : lengthOf (versionOf s) (netOf s) ≡ lengthOf v net = rw (version-read s v net well (begins .stands), net-read s v net well (begins .stands)) in
+      let same : lengthOf (versionOf s) (netOf s) ≡ lengthOf v net = rw (version-read s v net well (begins .stands), net-read s v net well (begins .stands) has) in
       omega (arith, ends-of s read-well, ends, sheet-length v net)
 
   accepted : netRefusal s ≡ none
@@ -143,13 +143,13 @@ module _ (s : List ℕ) (v : Version) (net : PNet) (well : WellFormed net) (begi
 
 pub written-then-read : WrittenThenRead
 unfolding wholeNet bytesAfter
-written-then-read v net well =
+written-then-read v net well has =
     let sheet = sheetOf v net in
     record {
       version = version-read sheet v net well (alone v net .stands);
-      accepted = none-then (accepted sheet v net well (alone v net)) (rw (le-ltb (sheetEnd sheet) (length sheet) (omega (arith, ends sheet v net well (alone v net)))));
-      same = net-read sheet v net well (alone v net .stands);
-      acceptedFirst = λ more. accepted (sheet ++ more) v net well (before v net more);
-      sameFirst = λ more. net-read (sheet ++ more) v net well (before v net more .stands);
-      restAfter = λ more. rest-after (sheet ++ more) v net well (before v net more) ∙ drop-at sheet more _ refl;
+      accepted = none-then (accepted sheet v net well has (alone v net)) (rw (le-ltb (sheetEnd sheet) (length sheet) (omega (arith, ends sheet v net well has (alone v net)))));
+      same = net-read sheet v net well (alone v net .stands) has;
+      acceptedFirst = λ more. accepted (sheet ++ more) v net well has (before v net more);
+      sameFirst = λ more. net-read (sheet ++ more) v net well (before v net more .stands) has;
+      restAfter = λ more. rest-after (sheet ++ more) v net well has (before v net more) ∙ drop-at sheet more _ refl;
     }

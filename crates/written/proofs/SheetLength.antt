@@ -7,7 +7,7 @@ use native.Mathlib.Omega.{arith}
 use Rattle.model.specs.declared.Version.{Version}
 use Rattle.model.specs.declared.Version.the-variants.{One, Two}
 use Rattle.model.specs.Lists.{joined}
-use Rattle.model.specs.Nets.{NetArc, PNet, pairs, modes, K, count, arcNo}
+use Rattle.model.specs.Nets.{NetArc, PNet, ruleNumber, pairs, modes, K, count, arcNo}
 use Rattle.written.specs.Written.{bytes16, pairBytes, versionBytes, arcBytes, pairsBytes, ofMode, totalBytes, ownBytes, groupBytes, sectionBytes, fieldsOf, lengthOf, sheetOf}
 use Rattle.written.specs.Puts.{modeSize, sectionSize, versionSize, sheetSize}
 use Rattle.written.proofs.BigEndian.{length16, head-length}
@@ -69,7 +69,7 @@ version-size Two rule = refl
 
 pub sheet-size : (v : Version) (net : PNet) → ByMode net
     → length (sheetOf v net) ≡ sheetSize v (length (net .colours)) (length (net .modesOf)) (pairs net) (modes net) (length (net .arcs))
-sheet-size v net by = omega (arith, sheet-length v net, fields-length v net, section-size v net by, version-size v (net .rule))
+sheet-size v net by = omega (arith, sheet-length v net, fields-length v net, section-size v net by, version-size v (ruleNumber (net .rule)))
 
 -- no sheet with few places, transitions, pairs, modes and arcs is longer than document 01's largest
 pub sheet-most : (v : Version) (places transitions pairs modes arcs : ℕ) → places ≤ 64 → transitions ≤ 64 → pairs ≤ 256 → modes ≤ 256 → arcs ≤ 2048
@@ -79,7 +79,7 @@ sheet-most Two places transitions pairs modes arcs a b c d e = omega arith
 
 -- nor shorter than its head and the first two counts
 pub sheet-least : (v : Version) (net : PNet) → 9 ≤ length (sheetOf v net)
-sheet-least v net = omega (arith, sheet-length v net, fields-length v net, version-size v (net .rule), version-some v)
+sheet-least v net = omega (arith, sheet-length v net, fields-length v net, version-size v (ruleNumber (net .rule)), version-some v)
   where
     version-some : (v : Version) → 1 ≤ versionSize v
     version-some One = omega arith

@@ -1,17 +1,22 @@
 -- The version byte of a sheet, and the parts that the version decides, by its two cases.
-use Prim.Native.Nat.{ℕ, _+_}
+use Prim.Native.Nat.{ℕ, _+_, _≤_}
 use mathlib.Core.Path.{_≡_, refl}
 use mathlib.Core.Bool.{Bool, true, false, cond, _||_}
 use mathlib.Core.List.{List, [], _∷_}
 use lib.Dec.{eqb}
 use lib.ListN.{length}
 use native.Mathlib.Omega.{arith}
-use borrow.Author.Tests.{eqb-true, eq-eqb, ne-eqb}
+use borrow.Author.Tests.{eqb-true, eqb-false, eq-eqb, ne-eqb}
 use Rattle.model.specs.declared.Thing.the-variants.{Net}
 use Rattle.model.specs.declared.Version.{Version}
 use Rattle.model.specs.declared.Version.the-variants.{One, Two}
-use Rattle.heads.specs.Layout.{version, fieldsFrom}
+use Rattle.model.specs.declared.CapacityRule.{CapacityRule}
+use Rattle.model.specs.declared.CapacityRule.the-variants.{Strong, Weak}
+use Rattle.model.specs.Nets.{ruleNumber}
+use Rattle.heads.specs.Bytes.{byteAt}
+use Rattle.heads.specs.Layout.{version, ruleAt, fieldsFrom}
 use Rattle.heads.specs.Version.{versionOf}
+use Rattle.heads.specs.Rule.{ruleOf}
 use Rattle.heads.specs.Checks.{known}
 use Rattle.written.specs.Written.{bytes16, versionNumber, versionBytes, totalBytes, ownBytes}
 use Rattle.written.specs.Puts.{ownSize}
@@ -39,6 +44,25 @@ number-is s e = go (eqb (version s) 2) refl
     go : (b : Bool) → eqb (version s) 2 ≡ b → version s ≡ versionNumber (cond b Two One)
     go true h = eqb-true (version s) 2 h
     go false h = eqb-true (version s) 1 (first _ (rw h at e))
+
+-- and so does the rule byte the rule, where it is 0 or 1
+pub rule-small : (rule : CapacityRule) → ruleNumber rule ≤ 1
+unfolding ruleNumber
+rule-small Strong = omega arith
+rule-small Weak = omega arith
+
+pub rule-named : (s : List ℕ) (rule : CapacityRule) → byteAt s ruleAt ≡ ruleNumber rule → ruleOf Two s ≡ rule
+unfolding ruleOf ruleNumber
+rule-named s Strong e = rw (ne-eqb (byteAt s ruleAt) 1 (λ z. omega arith))
+rule-named s Weak e = rw (eq-eqb (byteAt s ruleAt) 1 e)
+
+pub rule-number : (s : List ℕ) → byteAt s ruleAt ≤ 1 → byteAt s ruleAt ≡ ruleNumber (ruleOf Two s)
+unfolding ruleOf ruleNumber
+rule-number s h = go (eqb (byteAt s ruleAt) 1) refl
+  where
+    go : (b : Bool) → eqb (byteAt s ruleAt) 1 ≡ b → byteAt s ruleAt ≡ ruleNumber (cond b Weak Strong)
+    go true e = eqb-true (byteAt s ruleAt) 1 e
+    go false e = omega (arith, eqb-false (byteAt s ruleAt) 1 e)
 
 -- the fields begin after it, and in version 2 after the rule
 pub fields-from : (v : Version) (rule : ℕ) → fieldsFrom v ≡ 4 + length (versionBytes v rule)

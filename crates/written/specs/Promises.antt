@@ -6,6 +6,7 @@ use mathlib.Core.Option.{none}
 use lib.ListN.{length}
 use Rattle.model.specs.declared.Version.{Version}
 use Rattle.model.specs.declared.Version.the-variants.{One}
+use Rattle.model.specs.declared.CapacityRule.the-variants.{Strong}
 use Rattle.model.specs.Nets.{PNet}
 use Rattle.model.specs.Refusals.{answer}
 use Rattle.model.specs.WellFormed.{WellFormed}
@@ -18,6 +19,10 @@ use Rattle.sheets.specs.Whole.{wholeNet, rest}
 use Rattle.sheets.specs.Decoded.{netOf}
 use Rattle.written.specs.Written.{lengthOf, sheetOf}
 
+-- "Rule byte 1 in version 2": version 1 has no rule byte, and is the sheet of a net with document 01's rule alone
+abbrev pub HasSheet : Version → PNet → Type 0
+HasSheet v net = v ≡ One → net .rule ≡ Strong
+
 -- Both directions of a net sheet, in each version. A net that is written can be read back, alone and with bytes after it, which are handed back.
 pub record ReadBack (v : Version) (net : PNet) : Type 0 where
   pub version : versionOf (sheetOf v net) ≡ v
@@ -28,7 +33,7 @@ pub record ReadBack (v : Version) (net : PNet) : Type 0 where
   pub restAfter : (more : List ℕ) → rest (answer (netRefusal (sheetOf v net ++ more))) (sheetOf v net ++ more) ≡ more
 
 abbrev pub WrittenThenRead : Type 0
-WrittenThenRead = (v : Version) (net : PNet) → WellFormed net → ReadBack v net
+WrittenThenRead = (v : Version) (net : PNet) → WellFormed net → HasSheet v net → ReadBack v net
 
 -- An accepted net sheet is the sheet of the net that was read from it: there is one sheet of each version for each net.
 abbrev pub ReadThenWritten : Type 0

@@ -6,7 +6,7 @@ use lib.ListN.{length}
 use Rattle.model.specs.declared.Version.{Version}
 use Rattle.model.specs.declared.Version.the-variants.{One, Two}
 use Rattle.model.specs.Numbers.{ℕ∞, fin, ∞}
-use Rattle.model.specs.Nets.{NetArc, PNet, pairs, modes, K, count}
+use Rattle.model.specs.Nets.{NetArc, PNet, ruleNumber, pairs, modes, K, count}
 use Rattle.model.specs.Lists.{joined, listIf}
 use Rattle.fields.specs.Numbers.{unbounded}
 
@@ -49,7 +49,7 @@ abbrev pub versionNumber : Version → ℕ
 versionNumber One = 1
 versionNumber Two = 2
 
--- "a version byte 1"; "In version 2 a rule byte, 0 for now, follows the version."
+-- "a version byte 1"; "In version 2 a rule byte .. follows the version."
 unfoldable pub versionBytes : Version → ℕ → List ℕ
 versionBytes One rule = 1 ∷ []
 versionBytes Two rule = 2 ∷ rule ∷ []
@@ -100,7 +100,7 @@ module _ (v : Version) (net : PNet) where
 
   -- L: the version byte, in version 2 the rule byte, and the fields
   abbrev pub lengthOf : ℕ
-  lengthOf = length (versionBytes v (net .rule)) + length (flatten fieldsOf)
+  lengthOf = length (versionBytes v (ruleNumber (net .rule))) + length (flatten fieldsOf)
 
   unfoldable pub sheetOf : List ℕ
-  sheetOf = headBytes v (net .rule) lengthOf ++ flatten fieldsOf
+  sheetOf = headBytes v (ruleNumber (net .rule)) lengthOf ++ flatten fieldsOf

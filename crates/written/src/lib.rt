@@ -1,9 +1,11 @@
 // Bytes out: the parts of a net sheet, big-endian, into a slice that the caller lends. Each put hands back the place after its bytes.
+use model::CapacityRule;
 use model::Version;
 ghost use mathlib.Core.Path.{_≡_};
 ghost use Prim.Native.Nat.{_+_, _-_, _<_, _≤_};
 ghost use mathlib.Core.List.{[], _∷_};
 ghost use lib.ListN.{length};
+ghost use Rattle.model.specs.Nets.{ruleNumber};
 ghost use Rattle.fields.specs.Numbers.{bound};
 ghost use Rattle.written.specs.Written.{bytes16, bytes32, modeBytes, versionBytes, headBytes, pairBytes, totalBytes, ownBytes};
 ghost use Rattle.written.specs.Puts.{Put, Room, Puts, partOf, ownSize, modeSize, sheetSize};
@@ -70,14 +72,24 @@ fn put_version(out: &mut [u8], at: usize, version: Version, rule: u8) -> usize
     }
 }
 
+// "Rule byte 1 in version 2 means M + Post ≤ K + Pre" (document 02, P10)
+fn rule_byte(rule: CapacityRule) -> u8
+    ensures { λ r. ⌜ r ≡ ruleNumber rule ⌝ }
+{
+    match rule {
+        CapacityRule::Strong => 0,
+        CapacityRule::Weak => 1,
+    }
+}
+
 // The head of a sheet of `size` bytes: its length L, its version and its rule.
-pub fn put_head(out: &mut [u8], version: Version, rule: u8, size: usize) -> usize
-    requires { ⌜ Room (now out) 0 (headBytes version rule (size - 4)) ⌝ }
+pub fn put_head(out: &mut [u8], version: Version, rule: CapacityRule, size: usize) -> usize
+    requires { ⌜ Room (now out) 0 (headBytes version (ruleNumber rule) (size - 4)) ⌝ }
     requires { ⌜ (4 ≤ size) × (size < 4294967296) ⌝ }
-    ensures { λ r. ⌜ Puts (now (out .entry)) 0 (headBytes version rule (size - 4)) (now (out .exit)) r ⌝ }
+    ensures { λ r. ⌜ Puts (now (out .entry)) 0 (headBytes version (ruleNumber rule) (size - 4)) (now (out .exit)) r ⌝ }
 {
     let next = put32(out, 0, (size - 4) as u32);
-    put_version(out, next, version, rule)
+    put_version(out, next, version, rule_byte(rule))
 }
 
 // K and the first marking of a pair.

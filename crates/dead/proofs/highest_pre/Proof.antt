@@ -7,8 +7,7 @@ use Rattle.dead.proofs.highest_pre.Tie as tie
 
 returns : tie.Need-returns
 returns c =
-    rw (c .least .ensures, ← c .before .less .ensures)
-    (least-bounds _ _ (omega (arith, c .before .less .ok)) (omega (arith, c .before .before .fits .inhibitor)))
+    rw (c .least .ensures) (least-bounds _ _ (omega (arith, c .before .fits .room)) (omega (arith, c .before .fits .inhibitor)))
 
 pub highest-pre-spec : {M : Type 1} → statement M
-highest-pre-spec = tie.close (tie.spec (λ c κs. search needs) (λ c κs. search needs) returns)
+highest-pre-spec = tie.close (tie.spec (λ c κs. search needs) returns)

@@ -1,19 +1,20 @@
 -- Pre is looked at first, then Post.
 use borrow.Author.Needs.{needs}
+use Rattle.opened.proofs.Shapes.{shaped}
 use Rattle.dead.proofs.kills.Statement.{statement}
 use Rattle.dead.proofs.kills.Tie as tie
 
 returns : tie.Need-returns
 returns c =
     let highest = c .before .before in
-    rw (← highest .before .capacity .ensures, ← highest .highest-pre .ensures, ← c .before .above-bound .ensures, c .if1 .taken)
+    rw (← shaped (highest .before .before .before .before .before .pre .0) .rule, ← highest .before .before .capacity .ensures, ← highest .before .pre-room .ensures, ← highest .highest-pre .ensures, ← c .before .above-bound .ensures, c .if1 .taken)
 
 returns-2 : tie.Need-returns-2
 returns-2 c =
     let highest = c .before .before .before in
-    rw (← highest .before .capacity .ensures, ← highest .highest-pre .ensures, ← c .before .before .above-bound .ensures, c .before .if1 .left)
+    rw (← shaped (highest .before .before .before .before .before .pre .0) .rule, ← highest .before .before .capacity .ensures, ← highest .before .pre-room .ensures, ← highest .highest-pre .ensures, ← c .before .before .above-bound .ensures, c .before .if1 .left)
     (c .above-bound2 .ensures)
 
 pub kills-spec : {M : Type 1} → statement M
 kills-spec =
-    tie.close (tie.spec (λ c κs. search needs) (λ c κs. search needs) (λ c κs. search needs) returns (λ c κs. search needs) returns-2)
+    tie.close (tie.spec (λ c κs. search needs) (λ c κs. search needs) (λ c κs. search needs) (λ c κs. search needs) returns (λ c κs. search needs) returns-2)

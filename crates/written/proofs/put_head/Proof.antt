@@ -10,12 +10,14 @@ put32-requires c κs = long-fits _ _ (c .before .before .pre .0)
 
 put-version-requires : tie.Need-put-version-requires
 unfolding headBytes
-put-version-requires c κs = room-next _ _ (c .before .before .before .before .before .before .pre .0) (put-length (c .before .before .before .put32 .ensures))
+put-version-requires c κs =
+    rw (c .rule-byte .ensures) (room-next _ _ (c .before .before .before .before .before .before .before .pre .0) (put-length (c .before .before .before .before .put32 .ensures)))
 
 returns : tie.Need-returns
 unfolding headBytes
-returns c = puts-both (put-length (c .before .before .before .before .before .before .put32 .ensures)) (c .before .before .put-version .ensures)
+returns c =
+    puts-both (put-length (c .before .before .before .before .before .before .before .put32 .ensures)) (rw (c .before .before .before .rule-byte .ensures) at (c .before .before .put-version .ensures))
 
 pub put-head-spec : {M : Type 1} → statement M
 put-head-spec =
-    tie.close (tie.spec (λ c. search needs) (λ c. search needs) put32-requires put-version-requires (λ c. search needs) returns)
+    tie.close (tie.spec (λ c. search needs) (λ c. search needs) put32-requires (λ c κs. search needs) put-version-requires (λ c. search needs) returns)

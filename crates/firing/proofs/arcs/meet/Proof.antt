@@ -1,9 +1,12 @@
--- The arc, K and the count stand where the net has them.
+-- The arc, its room and the count stand where the net has them.
 use borrow.Author.Needs.{needs}
 use native.Mathlib.Omega.{arith}
 use Rattle.opened.proofs.Shapes.{sizes}
 use Rattle.firing.proofs.arcs.meet.Statement.{statement}
 use Rattle.firing.proofs.arcs.meet.Tie as tie
+
+room-at-requires : tie.Need-room-at-requires
+room-at-requires c κs = (c .before .before .before .before .pre .0, (c .before .arc .ensures .pair, omega (arith, c .before .arc .ensures .pre)))
 
 shared-slice-read-t12 : tie.Need-shared-slice-read-t12
 shared-slice-read-t12 c =
@@ -19,7 +22,7 @@ returns c =
     record {
       arc = arc .is;
       inside = inside;
-      capacity = read .capacity .ensures;
+      capacity = read .room-at .ensures;
       count = search needs;
       post = arc .post;
       inRange = pre .1 .0 .inRange _ inside;
@@ -28,4 +31,4 @@ returns c =
 pub meet-spec : {M : Type 1} → statement M
 meet-spec =
     tie.close
-    (tie.spec (λ c κs. search needs) (λ c κs. search needs) (λ c. search needs) (λ c. search needs) shared-slice-read-t12 returns)
+    (tie.spec (λ c κs. search needs) room-at-requires (λ c. search needs) (λ c. search needs) shared-slice-read-t12 returns)

@@ -1,20 +1,13 @@
--- Either I ≥ K, or both are finite.
+-- The number that means unbounded is no less than K.
 use borrow.Author.Needs.{needs}
+use mathlib.Core.Path.{_∙_}
 use native.Mathlib.Omega.{arith}
-use Rattle.halves.proofs.Entries.{reserve-none, reserve-some}
+use Rattle.halves.proofs.Entries.{reserve-less}
 use Rattle.halves.proofs.entry.reserved.Statement.{statement}
 use Rattle.halves.proofs.entry.reserved.Tie as tie
 
 returns : tie.Need-returns
-returns c = reserve-none _ _ (omega arith)
-
-returns-2 : tie.Need-returns-2
-returns-2 c = reserve-some _ _ (omega arith) (omega arith)
+returns c = c .less .ensures ∙ reserve-less _ _ (omega (arith, c .before .fits .capacity))
 
 pub reserved-spec : {M : Type 1} → statement M
-reserved-spec =
-    tie.close
-    (tie.spec
-    returns
-    (λ c. search needs)
-    returns-2)
+reserved-spec = tie.close (tie.spec (λ c κs. search needs) returns)

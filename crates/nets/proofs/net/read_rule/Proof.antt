@@ -1,6 +1,6 @@
--- The byte is there, then it is 0.
+-- The byte is there, then it is 0 or 1.
 use borrow.Author.Needs.{needs}
-use borrow.Author.Tests.{lt-ltb, le-ltb, eq-eqb, ne-eqb}
+use borrow.Author.Tests.{lt-ltb, le-ltb}
 use native.Mathlib.Omega.{arith}
 use Rattle.model.specs.First.{_▸_}
 use Rattle.heads.specs.Bytes.{byteAt}
@@ -17,13 +17,13 @@ returns-2 : tie.Need-returns-2
 unfolding ruleField _▸_
 returns-2 c =
     let s = c .before .before .before .before .before .before .args .s .now in
-    simp (le-ltb (sheetEnd s) 6 (omega arith), ne-eqb (byteAt s 5) 0 (c .before .if2 .taken)) (c .refused2 .ensures)
+    simp (le-ltb (sheetEnd s) 6 (omega arith), lt-ltb 1 (byteAt s 5) (c .before .if2 .taken)) (c .refused2 .ensures)
 
 returns-3 : tie.Need-returns-3
 unfolding ruleField _▸_
 returns-3 c =
     let s = c .before .before .before .before .before .args .s .now in
-    simp (le-ltb (sheetEnd s) 6 (omega arith), eq-eqb (byteAt s 5) 0 (c .if2 .left))
+    simp (le-ltb (sheetEnd s) 6 (omega arith), le-ltb 1 (byteAt s 5) (c .if2 .left))
 
 pub read-rule-spec : {M : Type 1} → statement M
 read-rule-spec =

@@ -3,22 +3,26 @@ use borrow.Author.Needs.{needs}
 use native.Mathlib.Omega.{arith}
 use Rattle.heads.proofs.Heads.{fields-at-most}
 use Rattle.nets.proofs.Valid.{headed, counts-hold}
+use Rattle.sheets.proofs.Meaning.{rule-is}
 use Rattle.opened.specs.Shape.{shapeOf}
 use Rattle.opened.proofs.shape.shape_of.Statement.{statement}
 use Rattle.opened.proofs.shape.shape_of.Tie as tie
 
+rule-of-requires : tie.Need-rule-of-requires
+rule-of-requires c κs = let counts = counts-hold _ (c .before .before .pre) in omega (arith, headed _ (c .before .before .pre), counts .there, counts .sized .somePlace)
+
 count-at-requires : tie.Need-count-at-requires
-count-at-requires c κs = omega (arith, c .fields-at .ensures .0, counts-hold _ (c .before .before .before .pre))
+count-at-requires c κs = omega (arith, c .fields-at .ensures .0, counts-hold _ (c .before .before .before .before .pre))
 
 count-at-requires-2 : tie.Need-count-at-requires-2
-count-at-requires-2 c κs = omega (arith, c .before .fields-at .ensures .0, counts-hold _ (c .before .before .before .before .pre))
+count-at-requires-2 c κs = omega (arith, c .before .fields-at .ensures .0, counts-hold _ (c .before .before .before .before .before .pre))
 
 mul-at : tie.Need-mul-at
-mul-at c = omega (arith, c .before .before .pair-count .ensures, counts-hold _ (c .before .before .before .before .before .before .before .before .pre))
+mul-at c = omega (arith, c .before .before .pair-count .ensures, counts-hold _ (c .before .before .before .before .before .before .before .before .before .pre))
 
 add-at : tie.Need-add-at
 add-at c =
-    let start = c .before .before .before .before .before .before .before .before in
+    let start = c .before .before .before .before .before .before .before .before .before in
     let counts = counts-hold _ (start .pre) in
     let most = fields-at-most (start .args .s .now) in
     omega (arith, most, c .pairs-at .ensures, c .before .before .pair-count .ensures, counts .pairs, counts .sized .places, counts .sized .transitions)
@@ -26,9 +30,13 @@ add-at c =
 returns : tie.Need-returns
 unfolding shapeOf
 returns c =
+    let rule = c .before .before .before .before .before .before .before .rule-of .ensures in
+    let version = c .before .before .before .before .before .before .before .before .version-of .ensures in
+    let is = rw version at rule in
     let fields = c .before .before .before .before .before .before .fields-at .ensures .0 in
     let places = rw fields at (c .before .before .before .before .before .count-at .ensures .0) in
     let transitions = rw fields at (c .before .before .before .before .count-at2 .ensures .0) in
+    let named = rule-is (c .before .before .before .before .before .before .before .before .before .before .args .s .now) in
     cc
 
 pub shape-of-spec : {M : Type 1} → statement M
@@ -36,13 +44,14 @@ shape-of-spec =
     tie.close
     (tie.spec
     (λ c κs. omega (arith, headed _ (c .before .pre)))
-    (λ c κs. headed _ (c .before .before .pre))
+    rule-of-requires
+    (λ c κs. headed _ (c .before .before .before .pre))
     count-at-requires
     (λ c. search needs)
     count-at-requires-2
-    (λ c κs. counts-hold _ (c .before .before .before .before .before .pre))
     (λ c κs. counts-hold _ (c .before .before .before .before .before .before .pre))
     (λ c κs. counts-hold _ (c .before .before .before .before .before .before .before .pre))
+    (λ c κs. counts-hold _ (c .before .before .before .before .before .before .before .before .pre))
     mul-at
     add-at
     (λ c κs. search needs)

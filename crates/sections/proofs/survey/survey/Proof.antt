@@ -69,7 +69,7 @@ survey-spec =
     survey-mode-requires
     add-count
     (λ c κs. search needs)
-    (λ c. search needs)
+    (λ c. omega (arith, c .before .before .before .before .before .loop-test .taken, sizes (c .before .before .before .before .before .before .before .before .pre .0) .modesWithin))
     (λ c. search needs)
     loop-again
     returns)

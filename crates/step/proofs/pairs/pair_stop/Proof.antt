@@ -1,19 +1,18 @@
 -- The test at one pair, over the sums there, and by how much it stops.
 use borrow.Author.Needs.{needs}
-use mathlib.Core.Path.{ap}
 use native.Mathlib.Omega.{arith}
 use Rattle.opened.proofs.Shapes.{sizes}
-use Rattle.step.proofs.AtPairs.{counted, stop-found, stop-passed}
+use Rattle.step.proofs.AtPairs.{counted, summed, stop-found, stop-passed}
 use Rattle.step.proofs.pairs.pair_stop.Statement.{statement}
 use Rattle.step.proofs.pairs.pair_stop.Tie as tie
 
 sum-at-requires : tie.Need-sum-at-requires
 sum-at-requires c κs = omega (arith, sizes (c .before .before .pre .0) .pairsWithin)
 
-capacity-requires : tie.Need-capacity-requires
-capacity-requires c κs =
+room-at-requires : tie.Need-room-at-requires
+room-at-requires c κs =
     let start = c .before .before .before .before in
-    (start .pre .0, omega (arith, ap (λ x. x .0) (c .before .sum-at .ensures .pair)))
+    (start .pre .0, summed (start .pre .0) (start .pre .1 .1 .0) (start .pre .1 .1 .1) (c .before .sum-at .ensures))
 
 mul-t14 : tie.Need-mul-t14
 mul-t14 c = omega (arith, sizes (c .before .before .before .before .before .pre .0) .pairsWithin)
@@ -36,20 +35,20 @@ stopped-by-requires c κs =
 returns : tie.Need-returns
 returns c =
     let test = c .before .before .before in
-    stop-found _ _ _ (test .before .before .before .before .sum-at .ensures) (test .before .before .capacity .ensures) _ (test .is-stopped .ensures) (c .before .before .if1 .taken)
+    stop-found _ _ _ (test .before .before .before .before .sum-at .ensures) (test .before .before .room-at .ensures) _ (test .is-stopped .ensures) (c .before .before .if1 .taken)
     (c .before .stopped-by .ensures) (c .refused .ensures)
 
 returns-2 : tie.Need-returns-2
 returns-2 c =
     let test = c .before in
-    stop-passed _ _ _ (test .before .before .before .before .sum-at .ensures) (test .before .before .capacity .ensures) _ (test .is-stopped .ensures) (c .if1 .left)
+    stop-passed _ _ _ (test .before .before .before .before .sum-at .ensures) (test .before .before .room-at .ensures) _ (test .is-stopped .ensures) (c .if1 .left)
 
 pub pair-stop-spec : {M : Type 1} → statement M
 pair-stop-spec =
     tie.close
     (tie.spec
     sum-at-requires
-    capacity-requires
+    room-at-requires
     mul-t14
     shared-slice-read-t16
     is-stopped-requires

@@ -1,0 +1,13 @@
+-- By each rule.
+use borrow.Author.Needs.{needs}
+use Rattle.halves.proofs.entry.claimed.Statement.{statement}
+use Rattle.halves.proofs.entry.claimed.Tie as tie
+
+returns : tie.Need-returns
+returns c = rw (c .enum-told .given .1)
+
+returns-2 : tie.Need-returns-2
+returns-2 c = rw (c .before .enum-told2 .given .1) (c .less .ensures)
+
+pub claimed-spec : {M : Type 1} → statement M
+claimed-spec = tie.close (tie.spec (λ c. search needs) (λ c. search needs) (λ c κs. search needs) returns returns-2)
