@@ -19,12 +19,10 @@ use Rattle.model.specs.Refusals.{wrong}
 use Rattle.model.proofs.First.{then-assoc, then-under, none-then, some-then, left-none, right-none, only-if-none}
 use Rattle.heads.specs.Layout.{version}
 use Rattle.heads.specs.Version.{versionOf}
-use Rattle.heads.specs.Rule.{ruleOf}
 use Rattle.heads.specs.Checks.{headRefusal}
 use Rattle.nets.specs.Nets.{netRefusal}
 use Rattle.sheets.specs.Whole.{wholeNet}
 use Rattle.sheets.specs.Decoded.{netOf}
-use Rattle.sheets.proofs.Meaning.{rule-is}
 use Rattle.opened.specs.declared.shape.NetShape.{NetShape}
 use Rattle.opened.specs.declared.Opened.the-variants as opening
 use Rattle.opened.specs.Opened.{opened}
@@ -32,6 +30,7 @@ use Rattle.written.specs.Written.{versionNumber}
 use Rattle.written.specs.Puts.{Puts}
 use Rattle.written.proofs.Puts.{from-start}
 use Rattle.written.proofs.Versions.{version-is}
+use Rattle.written.proofs.RoundTrip.{own-sheet}
 use Rattle.convert.specs.declared.Converted.the-variants.{Length, Refused}
 use Rattle.convert.specs.Converted.{ofVersion, convertedSheet, lostRule, tooShort, openRefusal, converted, output}
 
@@ -69,8 +68,8 @@ kept One Weak e q = let z : _≡_ {A = ℕ} 0 1 = cc in absurd (omega arith)
 kept Two Weak e q = let z : _≡_ {A = ℕ} 0 1 = cc in absurd (omega arith)
 
 pub own-rule : (v : Version) (s : List ℕ) → versionOf s ≡ v → lostRule v (netOf s .rule) ≡ none
-unfolding lostRule ruleOf
-own-rule One s e = rw (rule-is s, e) refl
+unfolding lostRule
+own-rule One s e = rw (own-sheet s e) refl
 own-rule Two s e = refl
 
 -- 10 where the rule is kept, and where there is room

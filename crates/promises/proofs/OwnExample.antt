@@ -78,7 +78,6 @@ start-accepted = refl
 well-formed : WellFormed example
 well-formed =
     record {
-      rule = refl;
       somePlace = omega arith;
       places = record { many = omega arith; each = each-at (λ c. (1 ≤ c) × (c ≤ 64)) 0 (1 ∷ 1 ∷ []) (omega arith); inTotal = omega arith };
       transitions = record { many = omega arith; each = each-at (λ c. (1 ≤ c) × (c ≤ 64)) 0 (1 ∷ []) (omega arith); inTotal = omega arith };

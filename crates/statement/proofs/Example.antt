@@ -7,6 +7,7 @@ use Rattle.model.specs.Firing.{ruleRefusal, rowRefusal, modeRefusal, fired}
 use Rattle.model.specs.Figures.{sum, figure}
 use Rattle.heads.specs.Bytes.{u16At, u32At}
 use Rattle.heads.specs.Version.{versionOf}
+use Rattle.heads.specs.Rule.{ruleOf}
 use Rattle.heads.specs.Layout.{fieldsAt, counts, pairCount, modeCount, arcCount}
 use Rattle.heads.specs.Checks.{known, headRefusal, countRefusal}
 use Rattle.fields.specs.Numbers.{bound}
@@ -23,5 +24,5 @@ use Rattle.lines.specs.Lines.{line, startLine, acceptedLine, refusedLine, endLi
 use Rattle.statement.specs.Replay.{unlessRefused, linesFrom, runText, movementsText, weightsText, sheetsText, replayText}
 
 pub printed : Printed
-unfolding _▸_ first entryAt ruleRefusal rowRefusal modeRefusal table fired sum figure u16At u32At counts pairCount modeCount arcCount versionOf fieldsAt known headRefusal countRefusal bound runningRefusal capacityRefusal startRefusal pairRefusal risesTo notRising tailBlank tailNumbers arcNamesRefusal arcRefusal arcFields arcSection ruleField eachCount countFields pairAndArcFields netFields netRefusal signed weightRefusal weightFields weightsRefusal movementFields movementsRefusal bytesAfter wholeMovements rest netArcIn netArcs netOf weightsOf movementsOf decimalWithin decimal signedDecimal line startLine acceptedLine refusedLine endLine unlessRefused linesFrom runText movementsText weightsText sheetsText replayText
+unfolding _▸_ first entryAt ruleRefusal rowRefusal modeRefusal table fired sum figure u16At u32At counts pairCount modeCount arcCount versionOf ruleOf fieldsAt known headRefusal countRefusal bound runningRefusal capacityRefusal startRefusal pairRefusal risesTo notRising tailBlank tailNumbers arcNamesRefusal arcRefusal arcFields arcSection ruleField eachCount countFields pairAndArcFields netFields netRefusal signed weightRefusal weightFields weightsRefusal movementFields movementsRefusal bytesAfter wholeMovements rest netArcIn netArcs netOf weightsOf movementsOf decimalWithin decimal signedDecimal line startLine acceptedLine refusedLine endLine unlessRefused linesFrom runText movementsText weightsText sheetsText replayText
 printed = refl

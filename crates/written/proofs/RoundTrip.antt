@@ -1,6 +1,6 @@
 -- Both directions of a sheet.
 use Prim.Native.Nat.{ℕ, zero, suc, _+_, _*_, _≤_, _<_}
-use mathlib.Core.Path.{_≡_, refl, sym, _∙_, subst}
+use mathlib.Core.Path.{_≡_, refl, sym, _∙_, ap, subst}
 use mathlib.Core.Bool.{true}
 use mathlib.Core.List.{List, _++_}
 use mathlib.Core.Option.{none}
@@ -19,6 +19,7 @@ use Rattle.model.proofs.First.{left-none, right-none, none-then, only-if-none}
 use Rattle.heads.specs.Bytes.{byteAt}
 use Rattle.heads.specs.Layout.{sheetEnd, version, ruleAt, pairCount, modeCount, pairsAt, arcCountAt, arcsAt, arcCount, arcAt, arcSize, tailSize, arcsAfter, groupAt, groupCount}
 use Rattle.heads.specs.Version.{versionOf}
+use Rattle.heads.specs.Rule.{ruleOf}
 use Rattle.heads.specs.Checks.{known, headRefusal}
 use Rattle.nets.specs.Groups.{groupFields}
 use Rattle.nets.specs.Nets.{arcFields, arcSection, ruleField, pairAndArcFields, netFields, netRefusal}
@@ -29,6 +30,7 @@ use Rattle.written.specs.Promises.{HasSheet, WrittenThenRead, ReadThenWr
 use Rattle.heads.proofs.Heads.{head-holds}
 use Rattle.nets.proofs.GroupsRead.{before-none, before-next, GroupRead}
 use Rattle.nets.proofs.Valid.{counts-hold, start-holds, arc-count-holds, arc-holds, groups-hold}
+use Rattle.sheets.proofs.Meaning.{rule-is}
 use Rattle.sheets.proofs.Accepted.{well-formed}
 use Rattle.written.proofs.Stands.{Stands, stands-left, stands-self, stands-whole}
 use Rattle.written.proofs.BigEndian.{every-byte}
@@ -104,6 +106,11 @@ read-then-written s bytes e =
     let after : length s ≤ sheetEnd s = ltb-false _ _ (only-if-none _ _ (right-none _ _ e)) in
     stands-whole (sheet-stands s (every-byte s bytes) (number-is s (known-holds s head)) (rule-holds s (right-none _ _ net)) (omega arith))
     (omega (arith, head-holds Net s head, sheet-length (versionOf s) (netOf s)))
+
+-- a net that was read has a sheet of the version it was read from
+pub own-sheet : (s : List ℕ) → HasSheet (versionOf s) (netOf s)
+unfolding ruleOf
+own-sheet s e = rule-is s ∙ ap (λ v. ruleOf v s) e
 
 -- a run begins with a net's sheet: with bytes after it, or alone
 record Begins (s : List ℕ) (v : Version) (net : PNet) : Type 0 where
