@@ -1,7 +1,7 @@
 #!/usr/bin/env python3
 """Holds to the crates what docs/CONTRACTS.md says is trusted, once `rt ci` has passed.
 
-1. The kit is the one that .ci/kit names, and every crate was proved by its logic.
+1. The kit is one that .ci/kit names, a line each, and every crate was proved by its logic.
 2. No crate's verdict rests on an axiom; a program's rests on the contracts of the C library's `read` and `write` alone, by way of the kit's `libc`.
 3. No crate declares C functions of its own, in an `extern` block.
 4. Every call of include/pnet.h has a row in tests/stack.c.
@@ -16,7 +16,7 @@ VERDICT = re.compile(r'logic=proved functions=\d+(?: axioms=\d+)?(?: target=\S+)
 
 
 def kit(said, pinned):
-    return [] if said == pinned else [f'the kit is {said!r}, and .ci/kit names {pinned!r}']
+    return [] if said in pinned else [f'the kit is {said!r}, and .ci/kit names {" and ".join(map(repr, pinned))}']
 
 
 def verdict(crate, program, log, logic):
@@ -24,7 +24,7 @@ def verdict(crate, program, log, logic):
     found = VERDICT.fullmatch(line)
     if not found:
         return [f'{crate}: its verdict is {line!r}']
-    faults = [] if found.group(1) == logic else [f'{crate}: proved by the logic {found.group(1)}, and .ci/kit names {logic}']
+    faults = [] if found.group(1) == logic else [f'{crate}: proved by the logic {found.group(1)}, and the logic of the kit is {logic}']
     assumed = set(re.findall(r'[\w:]+::\w+', ' '.join(re.findall(r'^axioms (.*)', log, re.M))))
     counted = int((re.findall(r'axioms=(\d+)', line) or [0])[0])
     if counted != len(assumed) or assumed - (LIBC if program else set()):
@@ -47,7 +47,8 @@ def selftest():
     proved = 'logic=proved functions=9 sum=0a native=nat,char,string logic-built=trusted libraries-built=trusted\n'
     rests = 'axioms libc: %s (1 of the 50 declared)\n' + proved.replace('9 sum', '9 axioms=1 target=x86_64 sum')
     samples = [
-        (kit('kit-1 logic 0a', 'kit-1 logic 0a'), 0), (kit('kit-2 logic 0b', 'kit-1 logic 0a'), 1),
+        (kit('kit-1 logic 0a', ['kit-1 logic 0a']), 0), (kit('kit-2 logic 0b', ['kit-1 logic 0a']), 1),
+        (kit('kit-1 logic 0a', ['kit-2 logic 0b', 'kit-1 logic 0a']), 0), (kit('kit-1 logic', ['kit-1 logic 0a']), 1),
         (verdict('one', False, proved, '0a'), 0), (verdict('one', False, proved, '0b'), 1), (verdict('one', False, '', '0a'), 1),
         (verdict('one', False, proved.replace('proved', 'not-proved'), '0a'), 1), (verdict('one', False, proved.replace('9', '9 foreign=add'), '0a'), 1),
         (verdict('one', False, proved.replace('\n', ' cache=trusted\n'), '0a'), 1), (verdict('one', False, rests % 'libc::write', '0a'), 1),
@@ -66,13 +67,13 @@ def selftest():
 def main():
     if sys.argv[1:] == ['--selftest']:
         return selftest()
-    pinned = (top / '.ci/kit').read_text().strip()
-    faults = kit(subprocess.run(['rt', 'version'], capture_output=True, text=True).stdout.strip(), pinned)
+    said = subprocess.run(['rt', 'version'], capture_output=True, text=True).stdout.strip()
+    faults = kit(said, (top / '.ci/kit').read_text().splitlines())
     crates = re.findall(r'^(\w+):', (top / 'crates.txt').read_text(), re.M)
     for crate in crates:
         logs = [log.read_text(errors='replace') for log in (top / f'target/log/{crate}.{kind}' for kind in ('out', 'say')) if log.is_file()]
         log = next((text for text in logs if re.search('^logic=', text, re.M)), '')
-        faults += verdict(crate, (top / f'crates/{crate}/src/main.rt').exists(), log, pinned.split(' ')[-1])
+        faults += verdict(crate, (top / f'crates/{crate}/src/main.rt').exists(), log, said.split(' ')[-1])
     for source in sorted(top.glob('crates/**/*.rt')):
         faults += foreign(source.relative_to(top), source.read_text())
     faults += unmeasured((top / 'include/pnet.h').read_text(), (top / 'tests/stack.c').read_text())

@@ -134,11 +134,16 @@ def _of_modes(modes):
     return _Numbering("mode", "transition", "modes", modes)
 
 
-def net(colours, modes, pairs, arcs, version=1):
+def net(colours, modes, pairs, arcs, version=1, rule=0):
     """A net sheet, of version 1 or 2. colours: of each place; modes: of each transition; pairs: (K, first marking) of each pair, in the order
-    of their numbers; arcs: (mode, pair, Pre, Post, I), in any order. K and I may be UNBOUNDED."""
+    of their numbers; arcs: (mode, pair, Pre, Post, I), in any order. K and I may be UNBOUNDED. By rule 1, the weak capacity rule, which a sheet of
+    version 2 alone can have, an item may be swapped where there is no room."""
     if version not in (1, 2):
         raise Wrong(f"version {version}: a net sheet has version 1 or 2")
+    if rule not in (0, 1):
+        raise Wrong(f"rule {rule}: a net sheet of version 2 has rule 0 or 1")
+    if (version, rule) == (1, 1):
+        raise Wrong("rule 1: a net sheet of version 1 has rule 0, write version 2")
     all_pairs, all_modes = _of_pairs(colours), _of_modes(modes)
     all_pairs.check_counts(1)
     all_modes.check_counts(0)
@@ -146,7 +151,7 @@ def net(colours, modes, pairs, arcs, version=1):
     for number, numbers in enumerate(pairs):
         _check_pair(all_pairs.name(number), numbers)
     _check_arcs(all_pairs, all_modes, arcs)
-    return encode_net(all_pairs.counts, all_modes.counts, pairs, arcs, version)
+    return encode_net(all_pairs.counts, all_modes.counts, pairs, arcs, version, rule)
 
 
 def weights(kilograms, colours=None):

@@ -5,9 +5,9 @@
  *
  * Words. A pair is a place with one of its colours: a marking has a count for each. A mode is a transition with one of its colours:
  * it is what moves. K is a pair's capacity. At a mode and a pair stand Pre, what the mode takes, Post, what it gives, and the
- * inhibitor I. A mode is enabled where, at every pair, Pre is at most the count, the count and Post together are at most K, and the
- * count is at most I; firing it takes Pre and gives Post. K and I may be unbounded. L, the number in the first 4 bytes of a sheet, is
- * how many bytes follow them.
+ * inhibitor I. A mode is enabled where, at every pair, Pre is at most the count, the count and Post together are at most K (in a net of
+ * rule 1, the weak capacity rule, at most K and Pre together), and the count is at most I; firing it takes Pre and gives Post. K and I
+ * may be unbounded. L, the number in the first 4 bytes of a sheet, is how many bytes follow them.
  *
  * Slices. A pointer is followed by its length in elements. Slices that are only read may overlap one another;
  * a slice that is written (no const) overlaps no other. Counts (uint32_t) and modes are aligned. Where the length is 0, the pointer
@@ -82,7 +82,7 @@ enum {
  *       bytes are left over after the last field, or after the sheet              the first of them
  *    4  a count is outside its limits, or the running total passes 256            the count's field
  *       in version 2 the running total of the modes' arc counts passes 2,048      that count's field
- *       in version 2 the rule byte is not 0                                       5
+ *       in version 2 the rule byte is neither 0 nor 1                             5
  *       a step is empty, or has more than PNET_STEP modes                         0
  *       a fleet's record has PNET_SHIPS ships already                             0
  *    5  a number is outside its range                                             its field; in a marking, the pair
@@ -96,7 +96,7 @@ enum {
  *       `room` is less than the sheet that is to be written takes                 0
  *       `room` is below PNET_TEXT_ROOM, in pnet_statement                         0
  *   11  Pre is above the count                                                    the lowest such pair
- *   12  the count and Post together are above K                                   the lowest such pair
+ *   12  the count and Post together are above K, by rule 1 above K and Pre        the lowest such pair
  *   13  the count is above I                                                      the lowest such pair
  *   14  the new count is above 1,000,000                                          the lowest such pair
  *   15  I is bounded at a pair of unbounded K                                     the arc
@@ -105,6 +105,7 @@ enum {
  *   18  a certificate ends at another marking than is claimed                     the lowest pair that differs
  *   21  a mode's weight change is not 0, in pnet_exclude                          the lowest such mode
  *   22  the claim has the figure of the first marking, in pnet_exclude            0
+ *   23  a net of rule 1 has no sheet of version 1, in pnet_to_version_1           0
  *
  *   24  a figure of a fleet's record would be above 10^18                         0
  *   25  a fleet's record is out of its bounds                                     0
@@ -114,7 +115,7 @@ enum {
  * The amount is a number of tokens at the pair that the position names, at least 1:
  *
  *   11  how many are lacking: Pre less the count
- *   12  how many are over the capacity: the count and Post together, less K
+ *   12  how many are over the capacity: the count and Post together, less K, and by rule 1 less Pre
  *   13  how many are over the inhibitor: the count less I
  *   14  how many are over the counter's limit: the new count less 1,000,000
  *
@@ -267,8 +268,8 @@ struct pnet_answer pnet_fleet_add(struct pnet_fleet *record, const uint8_t *net,
 struct pnet_answer pnet_exclude(const uint8_t *net, size_t net_length, const uint8_t *weights, size_t weights_length,
                                 const uint32_t *claim, size_t counts);
 
-/* Whether the mode is locally dead: at some pair Pre is above the least of K less Post and I, or Post is above K. Exactly then no
- * marking enables it. Writes nothing.
+/* Whether the mode is locally dead: at some pair Pre is above the least of K less Post and I (by rule 1 of K and I), or Post is above K.
+ * Exactly then no marking enables it. Writes nothing.
  * Refuses: the net; 6 for the mode (PNET_ARGUMENT). */
 struct pnet_decided pnet_is_dead(const uint8_t *net, size_t net_length, struct pnet_mode mode);
 
@@ -277,7 +278,7 @@ struct pnet_decided pnet_is_dead(const uint8_t *net, size_t net_length, struct p
 struct pnet_named pnet_first_dead(const uint8_t *net, size_t net_length);
 
 /* Writes the sheet of the net's complement from the first byte of `out` on; the value is its length. No byte after it is touched,
- * and PNET_LARGEST_NET bytes are always room enough. A locally dead mode, which is enabled at no marking of either net, gives back at
+ * and PNET_LARGEST_NET bytes are always room enough. It has the version and the rule of the net. A locally dead mode, which is enabled at no marking of either net, gives back at
  * every complement pair what it takes there.
  * Refuses: the net; 15 at its first arc, of a locally dead mode too; 10 where the complement exceeds a sheet's limits or `room`. A
  * refused call writes nothing. */
@@ -286,8 +287,8 @@ struct pnet_counted pnet_complement(const uint8_t *net, size_t net_length, uint8
 /* Writes the net of a sheet of version 1 as a sheet of version 2 (of rule 0), or back, from the first byte of `out` on; the value is its length.
  * What one wrote, the other takes back to the very bytes that it was written from. No byte after the sheet is touched, and PNET_LARGEST_NET
  * bytes are always room enough.
- * Refuses: the net, a sheet of the version that is to be written by 2; 10 where `room` is less than the sheet takes. A refused call writes
- * nothing. */
+ * Refuses: the net, a sheet of the version that is to be written by 2; 23, to version 1, where the net has rule 1; 10 where `room` is less
+ * than the sheet takes. A refused call writes nothing. */
 struct pnet_counted pnet_to_version_2(const uint8_t *net, size_t net_length, uint8_t *out, size_t room);
 struct pnet_counted pnet_to_version_1(const uint8_t *net, size_t net_length, uint8_t *out, size_t room);
 

@@ -62,6 +62,8 @@ WRONG = {
         "mode 0 (load, pump) at pair 3 (aboard, drum): Pre and Post are 0 and I is UNBOUNDED: the arc is blank, leave it out",
     ),
     "version 3": (lambda: net(PLACES, MOVES, PAIRS, ARCS, version=3), "version 3: a net sheet has version 1 or 2"),
+    "rule 2": (lambda: net(PLACES, MOVES, PAIRS, ARCS, version=2, rule=2), "rule 2: a net sheet of version 2 has rule 0 or 1"),
+    "rule 1 of version 1": (lambda: net(PLACES, MOVES, PAIRS, ARCS, rule=1), "rule 1: a net sheet of version 1 has rule 0, write version 2"),
     "one weight too few": (lambda: weights([0, 0, 9], PLACES), "3 weights for 4 pairs: pair 3 (aboard, drum) has none"),
     "one weight too many": (lambda: weights([0] * 5, PLACES), "5 weights for 4 pairs: 1 too many"),
     "a weight too large": (lambda: weights([0, 0, 0, LIMIT + 1], PLACES), "pair 3 (aboard, drum): the weight is 1000001: it must be -1000000 to 1000000"),
@@ -94,6 +96,9 @@ if len(largest) != 35083:
 largest = net([4] * 64, [4] * 64, [(LIMIT, LIMIT)] * 256, [(at // 8, at % 8, LIMIT, LIMIT, LIMIT) for at in range(2048)], version=2)
 if len(largest) != 31498:
     faults.append(f"the largest net sheet of version 2 has {len(largest)} bytes")
+by_rule = [net(PLACES, MOVES, PAIRS, ARCS, version=2, rule=rule) for rule in (0, 1)]
+if by_rule[1] != by_rule[0][:5] + b"\x01" + by_rule[0][6:]:
+    faults.append("the rule is not the byte after the version, and that alone")
 
 
 def accepts(make, *given):
@@ -121,20 +126,22 @@ def compare_with_replay(rounds):
     pick = random.Random(1)
     counts = {(fine, good): 0 for fine in (True, False) for good in (True, False)}
     for _ in range(rounds):
-        version, parts = pick.choice([1, 2]), random_net(pick)
+        # of version 2 every other one is by rule 1, and a few are by no rule
+        version, rule = pick.choice([(1, 0)] * 20 + [(2, 0)] * 10 + [(2, 1)] * 10 + [(2, 2)])
+        parts = random_net(pick)
         if version == 2:
             # there is no place for an arc whose mode is not there
             parts = (*parts[:3], [arc for arc in parts[3] if arc[0] < sum(parts[1])])
         pairs = sum(parts[0]) + pick.choice([0] * 8 + [1])
         kilograms = [pick.choice([0, 250, -LIMIT, LIMIT] + [LIMIT + 1, -LIMIT - 1] * (pick.random() < 0.05)) for _ in range(pairs)]
-        fine = accepts(net, *parts, version), accepts(weights, kilograms, parts[0])
-        sheets = encode_net(*parts, version) + encode_weights(kilograms) + movements([])
+        fine = accepts(net, *parts, version, rule), accepts(weights, kilograms, parts[0])
+        sheets = encode_net(*parts, version, rule) + encode_weights(kilograms) + movements([])
         ran = subprocess.run([top / "target/bin/replay"], input=sheets, stdout=subprocess.PIPE)
         text = ran.stdout.decode()
         good = not text.startswith("bad 0"), not text.startswith("bad")
         counts[fine] += 1
         if fine[0] != good[0] or all(fine) != good[1]:
-            faults.append(f"replay prints {text!r}, and the sheet maker has {fine} of {parts}, {kilograms}, version {version}")
+            faults.append(f"replay prints {text!r}, and the sheet maker has {fine} of {parts}, {kilograms}, version {version}, rule {rule}")
     return counts
 
 
@@ -144,7 +151,7 @@ if min(compared.values()) < 10:
 
 with tempfile.TemporaryDirectory() as scratch:
     write(scratch + "/new/folder", *three)
-    for example in ("document", "refit"):
+    for example in ("document", "rack", "refit"):
         folder = pathlib.Path(scratch) / example
         subprocess.run([sys.executable, "-B", top / "examples" / example / "make.py", folder], check=True)
         stored = {path.name: path.read_bytes() for path in (top / "examples" / example).glob("*.sheet")}

@@ -37,6 +37,12 @@ case("mode_not_there", LANDING + WEIGHTS + movements([0, 7, 0]), "start 750\n1 0
 case("lacking", one_pair(5, 1, (2, 0, 0), [0]), "start 10\nrefused 1 0 11 0 1\nend 0 10\n")
 case("over_capacity", one_pair(5, 4, (0, 1, UNBOUNDED), [0, 0]), "start 40\n1 0 0 50\nrefused 2 0 12 0 1\nend 1 50\n")
 case("full_swap", one_pair(5, 5, (1, 1, UNBOUNDED), [0]), "start 50\nrefused 1 0 12 0 1\nend 0 50\n")
+# a full rack again, by the weak rule: 1 is swapped for 1; 2 for 1 are 1 too many; and 1 more is none less
+FULL = [1], [1, 1, 1], [(5, 5)], [(0, 0, 1, 1, UNBOUNDED), (1, 0, 1, 2, UNBOUNDED), (2, 0, 0, 1, UNBOUNDED)]
+WEAK = net(*FULL, version=2, rule=1) + weights([10])
+case("full_swap_by_rule_1", WEAK + movements([0, 0, 1]), "start 50\n1 0 0 50\n2 0 0 50\nrefused 3 1 12 0 1\nend 2 50\n")
+case("over_capacity_by_rule_1", WEAK + movements([0, 2]), "start 50\n1 0 0 50\nrefused 2 2 12 0 1\nend 1 50\n")
+case("rule_2", WEAK[:5] + b"\x02" + WEAK[6:] + movements([]), "bad 0 4 5\n")
 case("inhibited", one_pair(6, 4, (0, 1, 4), [0, 0]), "start 40\n1 0 0 50\nrefused 2 0 13 0 1\nend 1 50\n")
 case("over_limit", one_pair(UNBOUNDED, 999999, (0, 1, UNBOUNDED), [0, 0]), "start 9999990\n1 0 0 10000000\nrefused 2 0 14 0 1\nend 1 10000000\n")
 

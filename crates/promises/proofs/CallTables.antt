@@ -15,13 +15,15 @@ use Rattle.model.specs.declared.Thing.{Thing}
 use Rattle.model.specs.declared.Thing.the-variants.{Net, Weights, Movements, Argument}
 use Rattle.model.specs.declared.Why.{Why}
 use Rattle.model.specs.declared.Why.the-variants.{Lacking, OverCapacity, Inhibited, OverLimit}
-use Rattle.model.specs.declared.Fault.the-variants.{CutShort, WrongVersion, WrongLength, EndsElsewhere}
+use Rattle.model.specs.declared.Fault.the-variants.{CutShort, WrongVersion, WrongLength, EndsElsewhere, RuleLost}
+use Rattle.model.specs.declared.CapacityRule.{CapacityRule}
+use Rattle.model.specs.declared.CapacityRule.the-variants.{Strong, Weak}
 use Rattle.model.specs.declared.Version.{Version}
 use Rattle.model.specs.declared.Version.the-variants.{One, Two}
 use Rattle.model.specs.declared.Refusal.{Refusal}
 use Rattle.model.specs.declared.Answer.the-variants.{Refused}
 use Rattle.model.specs.First.{_▸_, first, onlyIf}
-use Rattle.model.specs.Refusals.{carried, wrong, thingNumber}
+use Rattle.model.specs.Refusals.{carries, carried, wrong, thingNumber}
 use Rattle.model.specs.RefusalTables.{Table, row, _then_, each, Reads}
 use Rattle.model.specs.Numbers.{ℕ∞, fin, ∞, aboveBy, limit}
 use Rattle.model.specs.Nets.{PNet, pairs, pairNo, modeNo, count, modes}
@@ -61,7 +63,7 @@ use Rattle.fleet.proofs.Entering.{by-bounds, by-past}
 use Rattle.exclude.specs.Calls.{excludeRefusal}
 use Rattle.dead.specs.IsDead.{deadRefusal}
 use Rattle.complement.specs.Complemented.{complementSheet, roomRefusal, complementingRefusal}
-use Rattle.convert.specs.Converted.{ofVersion, convertedSheet, tooShort, convertRefusal}
+use Rattle.convert.specs.Converted.{ofVersion, convertedSheet, lostRule, tooShort, openRefusal, convertRefusal}
 use Rattle.audit.specs.Audits.{auditingRefusal}
 use Rattle.promises.specs.CallTables.{bytesLeft, wholeNetTable, wholeWeightTable, wholeMovementTable, markingAfter, movesTable, certificateTable, stepTable, roomTable, convertTable, RunReads, CallTables, claimTable, addShipTable}
 
@@ -226,7 +228,28 @@ audit-refusal : (net marking beside : List ℕ)
 unfolding complementingRefusal auditingRefusal auditRefusal
 audit-refusal net marking beside = rw (room-refusal net) (then-assoc _ _ _)
 
--- a conversion: 2 has been given for every version byte that the net's own 2 is for
+-- a conversion: 23 where the target version has no rule byte and the rule is the weak one
+lost : Version → CapacityRule → Bool
+lost One Weak = true
+lost One Strong = false
+lost Two rule = false
+
+by-lost : (target : Version) (rule : CapacityRule) → Decided (lost target rule) ((target ≡ One) × (rule ≡ Weak))
+unfolding lost
+by-lost One Weak = record { sound = λ _. (refl, refl); complete = λ _. refl }
+by-lost One Strong = record { sound = λ e. absurd (false≢true e); complete = λ h. let z = h .1 in let y : _≡_ {A = ℕ} 0 1 = cc in absurd (omega arith) }
+by-lost Two rule = record { sound = λ e. absurd (false≢true e); complete = λ h. let z = h .0 in let y : _≡_ {A = ℕ} 0 1 = cc in absurd (omega arith) }
+
+lost-is : (target : Version) (rule : CapacityRule) → onlyIf (lost target rule) (wrong Net RuleLost) ≡ lostRule target rule
+unfolding lost lostRule
+lost-is One Weak = refl
+lost-is One Strong = refl
+lost-is Two rule = refl
+
+lost-reads : (target : Version) (rule : CapacityRule) → Reads (row ((target ≡ One) × (rule ≡ Weak)) (carries 23 0 0)) (lostRule target rule)
+lost-reads target rule = subst (Reads _) (lost-is target rule) (reads-plain _ (by-lost target rule))
+
+-- 2 has been given for every version byte that the net's own 2 is for
 two-once : (a b c rest : Option Refusal) (k e : Bool) (r : Refusal) → (k ≡ true → e ≡ true)
     → (a ▸ b ▸ c ▸ onlyIf k r) ▸ onlyIf e r ▸ rest ≡ (a ▸ b ▸ c ▸ onlyIf e r) ▸ (a ▸ b ▸ c ▸ onlyIf k r) ▸ rest
 unfolding _▸_
@@ -260,10 +283,11 @@ module _ (source target : Version) (s : List ℕ) (room : ℕ) where
       ∙ sym (two-once _ _ _ (netFields s ▸ bytesAfter Net s) _ _ (wrong Net (WrongVersion 4)) (unknown-other source (version s)))
 
   convert-reads : Reads (convertTable s source target room) (convertRefusal source target s room)
-  unfolding convertRefusal tooShort
+  unfolding convertRefusal openRefusal tooShort
   convert-reads =
-      subst (Reads _) (sym (then-assoc sourceHead _ _) ∙ ap (λ o. o ▸ tooShort target s room) source-refusal)
-      (reads-then source-reads (reads-then (net-reads s) (reads-plain _ (by-less room (length (convertedSheet target s))))))
+      subst (Reads _) (sym (then-assoc sourceHead _ _) ∙ ap (λ o. o ▸ openRefusal target s room) source-refusal)
+      (reads-then source-reads
+      (reads-then (net-reads s) (reads-then (lost-reads target (netOf s .rule)) (reads-plain _ (by-less room (length (convertedSheet target s)))))))
 
 pub call-tables : CallTables
 unfolding beginRefusal testRefusal testStepRefusal certifyRefusal figureRefusal changeRefusal excludeRefusal deadRefusal complementingRefusal

@@ -25,6 +25,7 @@ use Rattle.nets.specs.Nets.{netRefusal}
 use Rattle.lists.specs.Weights.{weightsRefusal}
 use Rattle.lists.specs.Movements.{movementsRefusal}
 use Rattle.sheets.specs.Whole.{wholeNet, wholeWeights, wholeMovements, rest}
+use Rattle.sheets.specs.Decoded.{netOf}
 use Rattle.heads.specs.Bytes.{u16At, u32At}
 use Rattle.written.proofs.SheetLength.{sheet-least}
 use Rattle.fire.specs.Calls.{beginRefusal, testRefusal}
@@ -42,9 +43,10 @@ use Rattle.dead.specs.FirstDead as first
 use Rattle.complement.specs.Complemented.{complementingRefusal}
 use Rattle.size.specs.Sizes as sizing
 use Rattle.complement.specs.Complemented as complementing
-use Rattle.convert.specs.Converted.{ofVersion, convertedSheet, convertRefusal, conversionOf}
+use Rattle.convert.specs.Converted.{ofVersion, convertedSheet, lostRule, convertRefusal, conversionOf}
 use Rattle.convert.specs.Converted as converting
-use Rattle.convert.proofs.Answers.{roomy}
+use Rattle.convert.specs.Promises.{SameNet}
+use Rattle.convert.proofs.Answers.{own-rule, roomy}
 use Rattle.convert.proofs.Promises.{source-only, converted-reads}
 use Rattle.audit.specs.Audits.{finds, auditingRefusal}
 use Rattle.audit.specs.Audits as auditing
@@ -215,10 +217,17 @@ module _ (input out : List ℕ) (o : Stated × List ℕ) (allowed : StatementAll
 own-source : ofVersion One own.net ≡ none
 own-source = source-only .own One own.net (read-back .version) ∙ read-back .accepted
 
-converts : (source target : Version) (net : List ℕ) → ofVersion source net ≡ none
+own-kept : lostRule Two (netOf own.net .rule) ≡ none
+unfolding lostRule
+own-kept = refl
+
+own-two : SameNet Two own.net
+own-two = converted-reads One Two own.net own-source own-kept
+
+converts : (source target : Version) (net : List ℕ) → ofVersion source net ≡ none → lostRule target (netOf net .rule) ≡ none
     → converting.told (conversionOf source target net (slice (length (convertedSheet target net)) .0)) .carried .number ≡ 0
 unfolding convertRefusal
-converts source target net e = rw (none-then e (roomy target net (slice (length (convertedSheet target net)) .1)))
+converts source target net e k = rw (none-then e (roomy target net k (slice (length (convertedSheet target net)) .1)))
 
 pub constant-answers : ConstantAnswers
 unfolding wholeNet wholeWeights wholeMovements beginRefusal testRefusal runOf certifyRefusal figured entered finds decimal decimalWithin signedDecimal
@@ -268,12 +277,12 @@ constant-answers =
           (λ o a. ap (λ o. complementing.told o .carried .number) (a .0) ∙ rw complement-cut);
       toVersion2 =
           varies _ _ (own.net, slice (length (convertedSheet Two own.net)) .0) (lone, [])
-          (λ o a. ap (λ o. converting.told o .carried .number) (a .0) ∙ converts One Two own.net own-source)
+          (λ o a. ap (λ o. converting.told o .carried .number) (a .0) ∙ converts One Two own.net own-source own-kept)
           (λ o a. ap (λ o. converting.told o .carried .number) (a .0) ∙ rw (convert-cut One Two));
       toVersion1 =
           let two = convertedSheet Two own.net in
           varies _ _ (two, slice (length (convertedSheet One two)) .0) (lone, [])
-          (λ o a. ap (λ o. converting.told o .carried .number) (a .0) ∙ converts Two One two (converted-reads One Two own.net own-source .back))
+          (λ o a. ap (λ o. converting.told o .carried .number) (a .0) ∙ converts Two One two (own-two .back) (ap (λ n. lostRule One (n .rule)) (own-two .same) ∙ own-rule One own.net (read-back .version)))
           (λ o a. ap (λ o. converting.told o .carried .number) (a .0) ∙ rw (convert-cut Two One));
       audit =
           varies _ _ (own.net, 3 ∷ 1 ∷ [], 2 ∷ 1 ∷ 3 ∷ []) (lone, [], []) (λ o a. ap (λ r. r .carried .number) (own-example .audit o a))

@@ -26,7 +26,7 @@ use Rattle.written.proofs.RoundTrip.{written-then-read}
 use Rattle.complement.specs.Complemented.{told, complementSheet, complemented, complementingRefusal, outputOf}
 use Rattle.promises.specs.Frauds.{CopiesNet}
 use Rattle.promises.proofs.Accepting.{number-none}
-use Rattle.promises.proofs.DemandThree.{complementable}
+use Rattle.promises.proofs.DemandThree.{complementable, complement-sheet}
 
 length-refused : (o : Option Refusal) (l : ℕ) → told (complemented o l) .carried .number ≡ 0 → o ≡ none
 length-refused none l e = refl
@@ -68,7 +68,7 @@ net-accepted net room e = left-none (netRefusal net) _ (left-none _ _ e)
 
 written-places : (net out : List ℕ) → complementingRefusal net (length out) ≡ none → placeCount (outputOf net out) ≡ length (complement (netOf net) .colours)
 written-places net out e =
-    let back = written-then-read (versionOf net) (complement (netOf net)) (demand3 (netOf net) (complementable net (length out) e) .isNet) in
+    let back = written-then-read (versionOf net) (complement (netOf net)) (demand3 (netOf net) (complementable net (length out) e) .isNet) (complement-sheet net) in
     rw e (places-are _ ∙ ap (λ n. length (n .colours)) (back .sameFirst _))
 
 pub copies-net : CopiesNet

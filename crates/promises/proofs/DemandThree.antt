@@ -15,7 +15,8 @@ use Rattle.sheets.specs.Whole.{wholeNet}
 use Rattle.sheets.specs.Decoded.{netOf}
 use Rattle.opened.specs.Shape.{arcOffset}
 use Rattle.sheets.proofs.Accepted.{well-formed}
-use Rattle.written.proofs.RoundTrip.{written-then-read}
+use Rattle.written.specs.Promises.{HasSheet}
+use Rattle.written.proofs.RoundTrip.{written-then-read, own-sheet}
 use Rattle.complement.specs.Complemented.{complementSheet, roomRefusal, complementingRefusal, outputOf}
 use Rattle.promises.specs.DemandThree.{OverBytes}
 
@@ -28,10 +29,15 @@ complementable net room e =
       accepted = left-none _ _ (right-none _ _ e);
     }
 
+-- the complement has its net's rule, and so a sheet of its version
+pub complement-sheet : (net : List ℕ) → HasSheet (versionOf net) (complement (netOf net))
+unfolding complement
+complement-sheet net = own-sheet net
+
 pub over-bytes : OverBytes
 over-bytes net out e =
     let three = demand3 (netOf net) (complementable net (length out) e) in
-    let back = written-then-read (versionOf net) (complement (netOf net)) (three .isNet) in
+    let back = written-then-read (versionOf net) (complement (netOf net)) (three .isNet) (complement-sheet net) in
     let sheet = complementSheet net in
     let taken : take (length sheet) (outputOf net out) ≡ sheet = rw e (take-append-seam sheet _) in (
       length sheet,

@@ -24,7 +24,7 @@ use Rattle.opened.specs.Shape.{arcOffset}
 use Rattle.heads.specs.Version.{versionOf}
 use Rattle.written.specs.Written.{sheetOf}
 use Rattle.written.specs.Promises.{ReadBack}
-use Rattle.written.proofs.RoundTrip.{written-then-read, read-then-written}
+use Rattle.written.proofs.RoundTrip.{written-then-read, read-then-written, own-sheet}
 use Rattle.fire.specs.Calls.{beginRefusal, testRefusal}
 use Rattle.run.specs.Calls.{beforeRun, runOf, visitedBy, certifyRefusal}
 use Rattle.step.specs.Calls.{testStepRefusal}
@@ -98,7 +98,7 @@ module _ (a : List ℕ) (bytes : Bytes a) (w : wholeNet a ≡ none) (more : List
 
   back : ReadBack (versionOf a) (netOf a)
   unfolding wholeNet
-  back = written-then-read (versionOf a) (netOf a) (well-formed a (left-none (netRefusal a) _ w))
+  back = written-then-read (versionOf a) (netOf a) (well-formed a (left-none (netRefusal a) _ w)) (own-sheet a)
 
   read-before : netRefusal (a ++ more) ≡ none
   read-before = ap (λ s. netRefusal (s ++ more)) is-sheet ∙ back .acceptedFirst more

@@ -94,7 +94,7 @@ well-formed =
     }
 
 pub read-back : ReadBack One example
-read-back = written-then-read One example well-formed
+read-back = written-then-read One example well-formed (λ _. refl)
 
 pub weights-read : wholeWeights 2 sheets.weights ≡ none
 unfolding wholeWeights weightsRefusal weightFields weightRefusal known headRefusal bytesAfter first _▸_ signed u16At u32At

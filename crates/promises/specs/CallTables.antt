@@ -8,6 +8,7 @@ use mathlib.Core.Option.{none}
 use lib.IntN.{ℤ, pos, _+ℤ_}
 use lib.ListN.{length, take, getD}
 use Rattle.model.specs.declared.Mode.{Mode}
+use Rattle.model.specs.declared.CapacityRule.the-variants.{Weak}
 use Rattle.model.specs.declared.Version.{Version}
 use Rattle.model.specs.declared.Version.the-variants.{One, Two}
 use Rattle.model.specs.Refusals.{carriesBy, carries}
@@ -164,12 +165,13 @@ module _ (net : List ℕ) where
   abbrev pub complementTable : ℕ → Table
   complementTable room = wholeNetTable net then roomTable net room
 
-  -- a conversion: "2 to a sheet of its target version", before the fields, where any call has 2; then what any call refuses of the net; "10 to a
-  -- short output"
+  -- a conversion: "2 to a sheet of its target version", before the fields, where any call has 2; then what any call refuses of the net; "Converting a rule-1 sheet to
+  -- version 1 is always refused by 23, before 10."; "10 to a short output"
   abbrev pub convertTable : Version → Version → ℕ → Table
   convertTable source target room =
       headTable 0 net (version net ≢ versionNumber source)
       then wholeNetTable net
+      then row ((target ≡ One) × (netOf net .rule ≡ Weak)) (carries 23 0 0)
       then row (room < length (convertedSheet target net)) (carries 10 0 0)
 
   -- an audit: what complementing refuses where there is room for its sheet, "then 17 for the marking and 17 for the complement's marking"

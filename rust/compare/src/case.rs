@@ -1,20 +1,20 @@
 //! One input for every call: sheets, a marking, one of the complement, a claim, a mode, a step.
 
 use pnet::Mode;
-use reference::Version;
+use reference::Form;
 use reference::build::{PlainNet, movements, weights};
 
 use crate::demand3::completed;
 use crate::generator::{self, Random, Style, total};
 use crate::guarded;
 use crate::same::Same;
-use crate::versions;
+use crate::{rules, versions};
 
 /// What every call is tried on.
 #[derive(Clone)]
 pub struct Case {
-    /// The version of the net's sheet, before any damage.
-    pub version: Version,
+    /// The version and rule of the net's sheet, before any damage.
+    pub form: Form,
     pub net: Vec<u8>,
     pub weights: Vec<u8>,
     pub movements: Vec<u8>,
@@ -32,9 +32,9 @@ pub struct Case {
 }
 
 impl Case {
-    /// A case without a fault around a net, its sheet of this version and its list at most so long.
-    pub fn of(random: &mut Random, style: Style, plain: &PlainNet, version: Version, most: usize) -> Case {
-        let net = plain.sheet_in(version);
+    /// A case without a fault around a net, its sheet of this version and rule and its list at most so long.
+    pub fn of(random: &mut Random, style: Style, plain: &PlainNet, form: Form, most: usize) -> Case {
+        let net = plain.sheet_in(form);
         let first: Vec<u32> = plain.pairs.iter().map(|&(_, count)| count).collect();
         let marking = if random.once_in(2) {
             first.clone()
@@ -55,7 +55,7 @@ impl Case {
             both[pair] = random.pick(&[0, 1, both[pair] ^ 1, u32::MAX]);
         }
         Case {
-            version,
+            form,
             both,
             weights: weights(&generator::weights(random, plain.pairs.len())),
             movements: sheet,
@@ -95,6 +95,9 @@ impl Case {
         let input = [&self.net[..], &self.weights, &self.movements].concat();
         same.statement(&input, if self.room < pnet::LARGEST_NET { self.room } else { pnet::TEXT_ROOM });
         versions::answer_equally(same, self);
+        if reference::size(&self.net).is_ok() && rules::is_weak(&self.net) {
+            same.hits.value("a net of rule 1, over every call");
+        }
     }
 }
 

@@ -1,6 +1,6 @@
 //! Damage of every kind that the refusal table names.
 
-use reference::Version;
+use reference::Form;
 use reference::build::{OPEN, PlainNet, sheet};
 
 use crate::case::Case;
@@ -12,7 +12,7 @@ pub fn damage(random: &mut Random, case: &mut Case, plain: &mut PlainNet) {
         0..=2 => spoil_sheet(random, &mut case.net),
         3..=7 => {
             spoil_net(random, plain);
-            case.net = plain.sheet_in(case.version);
+            case.net = plain.sheet_in(case.form);
         }
         8 => spoil_sheet(random, &mut case.weights),
         9 => spoil_weights(random, case),
@@ -32,7 +32,7 @@ pub fn damage(random: &mut Random, case: &mut Case, plain: &mut PlainNet) {
             let length = random.below(case.both.len() + 3);
             case.both.resize(length, 1);
         }
-        17 if case.version == Version::Two => spoil_version_2(random, &mut case.net, plain),
+        17 if case.form != Form::One => spoil_version_2(random, &mut case.net, plain),
         _ => case.room = random.below(case.net.len() + 64),
     }
 }
@@ -41,9 +41,9 @@ pub fn damage(random: &mut Random, case: &mut Case, plain: &mut PlainNet) {
 fn spoil_version_2(random: &mut Random, net: &mut Vec<u8>, plain: &PlainNet) {
     let modes = total(&plain.modes);
     match random.below(4) {
-        0 => put(net, 5, &[random.pick(&[1, 2, 255])]),
+        0 => put(net, 5, &[random.pick(&[2, 3, 255])]),
         1 => *net = vec![0, 0, 0, 1, 2],
-        _ if modes == 0 => put(net, 5, &[1]),
+        _ if modes == 0 => put(net, 5, &[2]),
         _ => {
             let mode = random.below(modes) as u16;
             let own = plain.arcs.iter().filter(|arc| arc.mode == mode).count() as u16;

@@ -1,12 +1,12 @@
-//! Locally dead modes: on small nets a marking that enables a mode is looked for by brute force.
+//! Locally dead modes: on small nets a marking that enables a mode is looked for by brute force, by either rule.
 
 use pnet::Mode;
 use reference::build::PlainNet;
 use reference::search::marking_where;
 
 use crate::generator::total;
-use crate::guarded;
 use crate::same::Same;
+use crate::{guarded, rules};
 
 /// Counts up to this are tried, more than a small net's Pre.
 const MOST: u32 = 5;
@@ -16,14 +16,22 @@ pub fn searched(same: &mut Same, net: &PlainNet) {
     if net.pairs.len() > 3 {
         return;
     }
-    let sheet = net.sheet();
+    rules::sheets(net).iter().for_each(|sheet| of_rule(same, net, sheet));
+}
+
+fn of_rule(same: &mut Same, net: &PlainNet, sheet: &[u8]) {
     for mode in 0..total(&net.modes) as u16 {
-        let accepts = |counts: &[u32]| guarded::test(&sheet, counts, Mode(mode)).is_ok();
+        let accepts = |counts: &[u32]| guarded::test(sheet, counts, Mode(mode)).is_ok();
         let found = marking_where(net, MOST, accepts).is_some();
         let of = format!("{}: mode {mode} of {net:?}", same.part);
-        assert_eq!(guarded::is_dead(&sheet, Mode(mode)), Ok(!found), "{of}");
+        assert_eq!(guarded::is_dead(sheet, Mode(mode)), Ok(!found), "{of}");
         assert_eq!(accepts(&pre(net, mode)), found, "{of}, where the marking is its Pre");
-        same.hits.value(if found { "a marking found" } else { "no marking found" });
+        same.hits.value(match (found, rules::is_weak(sheet)) {
+            (true, false) => "a marking found",
+            (false, false) => "no marking found",
+            (true, true) => "a marking found by rule 1",
+            (false, true) => "no marking found by rule 1",
+        });
     }
 }
 

@@ -1,18 +1,18 @@
 //! A net and its complement: what docs/RULES.md says of the two, for any list of movements and any step.
 
 use pnet::Mode;
-use reference::Version;
 use reference::build::{OPEN, PlainArc, PlainNet, movements};
 
 use crate::case::walk;
 use crate::generator::{self, Random, Style, total};
 use crate::guarded;
+use crate::rules::{is_weak, over};
 use crate::same::{Plain, Same};
 use crate::versions::in_version_1;
 
 /// The net and its complement accept the same movements, stop at the same one, and stay in step, from the first marking and from others.
 pub fn in_step(same: &mut Same, random: &mut Random, style: Style, net: &PlainNet, most: usize) -> bool {
-    let sheet = net.sheet_in(random.pick(&Version::BOTH));
+    let sheet = net.sheet_in(generator::form(random));
     let Some(complement) = same.complement(&sheet, pnet::LARGEST_NET) else { return false };
     assert_eq!(guarded::read_net(&complement), Ok(&[][..]), "{}: the complement of {net:?}", same.part);
     no_mode_is_dead(same, net, &sheet, &complement);
@@ -46,7 +46,10 @@ fn one(
     let (answer, after) = same.fire(sheet, counts, mode);
     let (other, both_after) = same.fire(complement, &completed(net, counts), mode);
     let of = format!("{}: mode {mode} at {counts:?} of {net:?}", same.part);
-    assert_eq!(other, corresponding(net, counts, mode, answer), "{of}");
+    assert_eq!(other, corresponding(net, is_weak(sheet), counts, mode, answer), "{of}");
+    if is_weak(sheet) && matches!(answer.0, 12 | 13) {
+        same.hits.value("12 or 13 by rule 1, and 11 in the complement");
+    }
     assert_eq!(both_after, completed(net, &after), "{of}");
     if other.3 > answer.3 {
         same.hits.value("by more in the complement");
@@ -94,8 +97,9 @@ fn no_mode_is_dead(same: &mut Same, net: &PlainNet, sheet: &[u8], complement: &[
     }
     let as_live = |arc: &&PlainArc| {
         let capacity = net.pairs[usize::from(arc.pair)].0;
+        let taken_up = arc.post.saturating_sub(if is_weak(sheet) { arc.pre } else { 0 });
         capacity != OPEN
-            && arc.post.max(capacity.saturating_sub(arc.inhibitor)) + arc.pre - arc.post > 1_000_000
+            && taken_up.max(capacity.saturating_sub(arc.inhibitor)) + arc.pre - arc.post > 1_000_000
     };
     for arc in net.arcs.iter().filter(as_live) {
         assert_eq!(guarded::is_dead(sheet, Mode(arc.mode)), Ok(true), "{of}: {arc:?}");
@@ -120,12 +124,13 @@ fn one_by_one(
     let (both_accepted, other, both_after) = same.run(complement, &bytes, &completed(net, start));
     assert_eq!(accepted, both_accepted, "{}: {net:?}", same.part);
     assert_eq!(both_after, completed(net, &after), "{}: {net:?}", same.part);
-    let last = list.get(accepted).map_or(answer, |&mode| corresponding(net, &after, mode, answer));
+    let last =
+        list.get(accepted).map_or(answer, |&mode| corresponding(net, is_weak(sheet), &after, mode, answer));
     assert_eq!(last, other, "{}: {net:?}", same.part);
 }
 
 /// A step that the complement accepts the net accepts, and the markings after correspond; where no inhibitor is finite, a step that
-/// the net accepts the complement accepts.
+/// the net accepts by rule 0 the complement accepts.
 fn at_once(
     same: &mut Same,
     net: &PlainNet,
@@ -138,10 +143,18 @@ fn at_once(
     let (own, both) = (answer.0 == 0, other.0 == 0);
     let uninhibited = net.arcs.iter().all(|arc| arc.inhibitor == OPEN);
     assert!(own || !both, "{}: {modes:?} at {counts:?} of {net:?}", same.part);
-    assert!(both || !own || !uninhibited, "{}: {modes:?} at {counts:?} of {net:?}", same.part);
+    assert!(
+        both || !own || !uninhibited || is_weak(sheet),
+        "{}: {modes:?} at {counts:?} of {net:?}",
+        same.part
+    );
     if both {
         assert_eq!(both_after, completed(net, &after), "{}: {modes:?} at {counts:?} of {net:?}", same.part);
-        same.hits.value(if uninhibited { "step without an inhibitor" } else { "step of both" });
+        same.hits.value(match (is_weak(sheet), uninhibited) {
+            (true, _) => "step of both by rule 1",
+            (false, true) => "step without an inhibitor",
+            (false, false) => "step of both",
+        });
     } else if own {
         same.hits.value("step of the net alone");
     }
@@ -155,14 +168,13 @@ pub fn completed(net: &PlainNet, counts: &[u32]) -> Vec<u32> {
 
 /// "11, 12 and 13 in the net become 11 in its complement; 6 and 14 stay": 12 and 13 at the complement of the lowest pair that breaks
 /// either, by the larger of the two amounts there. 6, 11 and 14 keep their position and amount.
-fn corresponding(net: &PlainNet, counts: &[u32], mode: u16, answer: Plain) -> Plain {
+fn corresponding(net: &PlainNet, weak: bool, counts: &[u32], mode: u16, answer: Plain) -> Plain {
     if !matches!(answer.0, 12 | 13) {
         return answer;
     }
-    // An unbounded K or I is above every count.
+    // An unbounded I is above every count.
     let above = |arc: &PlainArc| {
-        let (capacity, count) = (net.pairs[usize::from(arc.pair)].0, counts[usize::from(arc.pair)]);
-        (count + arc.post).saturating_sub(capacity).max(count.saturating_sub(arc.inhibitor))
+        over(net, weak, counts, arc).max(counts[usize::from(arc.pair)].saturating_sub(arc.inhibitor))
     };
     // Arcs rise by their pairs.
     let own = net.arcs.iter().filter(|arc| arc.mode == mode);

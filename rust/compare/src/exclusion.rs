@@ -3,6 +3,7 @@
 use std::collections::BTreeSet;
 
 use pnet::Mode;
+use reference::Form;
 use reference::build::{PlainNet, weights};
 use reference::search::marking_where;
 
@@ -13,9 +14,9 @@ use crate::same::Same;
 /// Counts up to this are tried as claims, K of a small net.
 const MOST: u32 = 4;
 
-/// Every marking within capacity is claimed, by weights that every mode keeps.
-pub fn searched(same: &mut Same, net: &PlainNet, kilograms: &[i32]) {
-    let (sheet, kilograms) = (net.sheet(), weights(kilograms));
+/// Every marking within capacity is claimed, by weights that every mode keeps; the net's sheet is of this version and rule.
+pub fn searched(same: &mut Same, net: &PlainNet, form: Form, kilograms: &[i32]) {
+    let (sheet, kilograms) = (net.sheet_in(form), weights(kilograms));
     let first: Vec<u32> = net.pairs.iter().map(|&(_, count)| count).collect();
     let reached = reached(&sheet, first.clone(), total(&net.modes) as u16);
     marking_where(net, MOST, |claim| {

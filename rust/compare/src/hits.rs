@@ -75,6 +75,7 @@ const STOPPED: &[Told] = &[(11, 3), (12, 3), (13, 3), (14, 3)];
 const MOVEMENT: &[Told] = &[(6, 2), (11, 2), (12, 2), (13, 2), (14, 2)];
 const ELSEWHERE: &[Told] = &[(18, 3)];
 const NO_ROOM: &[Told] = &[(10, 0)];
+const OF_RULE_1: &[Told] = &[(23, 0)];
 const COMPLEMENT: &[Told] = &[(15, 0), (10, 0)];
 
 const EXCLUSION: &[Told] = &[(21, 0), (22, 0)];
@@ -95,7 +96,8 @@ fn refusals(call: Call) -> Vec<Told> {
         Exclude => [NET, WEIGHTS, MARKING, EXCLUSION].concat(),
         IsDead => [NET, MODE].concat(),
         Complement => [NET, COMPLEMENT].concat(),
-        ToVersion2 | ToVersion1 => [NET, NO_ROOM].concat(),
+        ToVersion2 => [NET, NO_ROOM].concat(),
+        ToVersion1 => [NET, OF_RULE_1, NO_ROOM].concat(),
         Audit => [NET, COMPLEMENT, ONE_EACH].concat(),
         Statement => NO_ROOM.to_vec(),
     }
@@ -109,7 +111,7 @@ pub struct Hits {
     runs: usize,
     whole: usize,
     longest: usize,
-    /// Values that are no numbers: yes, no, a mode named, none named; what a search for a marking found; what a text is of; by which of a net and its complement a step is accepted; that a complement refuses by more than its net; what a dead mode is there; what an audit found, and whose 17 it was; what a search for all markings in reach says of a claim; which arcs a run visits; which fault a sheet of version 2 has alone; what the two versions of a net have in common.
+    /// Values that are no numbers: yes, no, a mode named, none named; what a search for a marking found; what a text is of; by which of a net and its complement a step is accepted; that a complement refuses by more than its net; what a dead mode is there; what an audit found, and whose 17 it was; what a search for all markings in reach says of a claim; which arcs a run visits; which fault a sheet of version 2 has alone; what the two versions of a net have in common, and its two rules.
     values: BTreeMap<&'static str, usize>,
     /// Refusals by an amount above 1, by their number.
     by_more: BTreeMap<u64, usize>,
@@ -198,6 +200,18 @@ impl Hits {
             "bytes returned exactly from version 2",
             "equal nets, and equal answers",
             "equal nets, and equal complements",
+            "a net of rule 1, over every call",
+            "a marking found by rule 1",
+            "no marking found by rule 1",
+            "12 or 13 by rule 1, and 11 in the complement",
+            "step of both by rule 1",
+            "step of the net alone by rule 1, without an inhibitor",
+            "a swap where there is no room, by rule 1 alone",
+            "12 by both rules",
+            "12 otherwise by rule 1",
+            "13 by rule 1, where rule 0 gives 12",
+            "dead by rule 0 alone",
+            "no K, and nothing by the rule",
         ] {
             if self.values.get(value).copied().unwrap_or(0) < ENOUGH {
                 wants.push(format!("the value '{value}' came up too rarely"));

@@ -16,6 +16,7 @@ mod generator;
 mod guarded;
 mod hits;
 mod limits;
+mod rules;
 mod same;
 mod truncation;
 mod version_2;
@@ -27,8 +28,8 @@ use std::time::Instant;
 
 use case::Case;
 use generator::{Random, Style};
-use reference::Version;
 use reference::build::{OPEN, PlainNet, arc};
+use reference::{Form, Rule};
 use same::Same;
 
 const STYLES: [Style; 3] = [Style::Small, Style::Edges, Style::Lively];
@@ -57,10 +58,12 @@ fn main() -> ExitCode {
         }
         if round % 32 == 0 {
             dead::searched(&mut same, &generator::net(&mut searches, Style::Small, 2, 2, 8));
+            rules(&mut same, &mut searches);
         }
         if round % 64 == 0 {
             let (net, kilograms) = generator::balanced(&mut searches);
-            exclusion::searched(&mut same, &net, &kilograms);
+            let form = generator::form(&mut searches);
+            exclusion::searched(&mut same, &net, form, &kilograms);
         }
         if round % 400 == 0 {
             at_limits(&mut same, &mut random, round as usize / 400);
@@ -75,8 +78,8 @@ fn main() -> ExitCode {
     same.part = format!("seed {seed}, the limits of version 2");
     version_2::at_limits(&mut same, &mut random);
     same.part = format!("seed {seed}, the largest nets cut");
-    largest_cut(&mut same, &mut random, Version::One, pnet::LARGEST_NET);
-    largest_cut(&mut same, &mut random, Version::Two, 31_498);
+    largest_cut(&mut same, &mut random, Form::One, pnet::LARGEST_NET);
+    largest_cut(&mut same, &mut random, Form::Two(Rule::Weak), 31_498);
     println!(
         "seed {seed}, {rounds} rounds, {} calls compared in {:.1} s",
         same.hits.total(),
@@ -96,15 +99,26 @@ fn any_net(random: &mut Random) -> (PlainNet, Style) {
     (generator::net(random, style, places, transitions, arcs), style)
 }
 
-/// A net of any size, in either version, in half of the rounds with one to three faults.
+/// A net of any size, in either version and rule, in half of the rounds with one to three faults.
 fn any(same: &mut Same, random: &mut Random) {
     let (mut net, style) = any_net(random);
-    let version = random.pick(&Version::BOTH);
-    let mut case = Case::of(random, style, &net, version, 24);
+    let form = generator::form(random);
+    let mut case = Case::of(random, style, &net, form, 24);
     for _ in 0..random.pick(&[0, 0, 0, 0, 1, 1, 2, 3]) {
         damage::damage(random, &mut case, &mut net);
     }
     case.compare(same);
+}
+
+/// Small nets by both rules, one of them without a K.
+fn rules(same: &mut Same, random: &mut Random) {
+    rules::swapped_at_once(same, random);
+    for style in STYLES {
+        let mut net = generator::net(random, style, 4, 3, 16);
+        rules::beside(same, random, style, &net);
+        net.pairs.iter_mut().for_each(|pair| pair.0 = OPEN);
+        rules::beside(same, random, style, &net);
+    }
 }
 
 /// Nets in step with their complements.
@@ -122,8 +136,8 @@ fn at_limits(same: &mut Same, random: &mut Random, at: usize) {
     let shape = limits::SHAPES[at % limits::SHAPES.len()];
     for style in [Style::Edges, Style::Lively] {
         let mut net = limits::net(random, style, shape);
-        let version = random.pick(&Version::BOTH);
-        let mut case = Case::of(random, style, &net, version, 8_192);
+        let form = generator::form(random);
+        let mut case = Case::of(random, style, &net, form, 8_192);
         case.compare(same);
         demand3::in_step(same, random, style, &net, 16);
         damage::damage(random, &mut case, &mut net);
@@ -136,17 +150,17 @@ fn cut_everywhere(same: &mut Same, random: &mut Random) {
     let style = random.pick(&STYLES);
     let net = generator::net(random, style, 3, 2, 4);
     let example = PlainNet::plain(1, &[(5, 3), (OPEN, 0)], &[arc(0, 0, 1, 0, 4), arc(0, 1, 0, 1, OPEN)]);
-    for version in Version::BOTH {
-        let case = Case::of(random, style, &net, version, 6);
+    for form in Form::ALL {
+        let case = Case::of(random, style, &net, form, 6);
         truncation::every_call(same, &case);
-        truncation::every_call(same, &Case::of(random, Style::Small, &example, version, 4));
+        truncation::every_call(same, &Case::of(random, Style::Small, &example, form, 4));
     }
 }
 
-/// The largest net sheet of a version, its weights and the longest list, cut at every offset, for the readers.
-fn largest_cut(same: &mut Same, random: &mut Random, version: Version, length: usize) {
+/// The largest net sheet of a version and rule, its weights and the longest list, cut at every offset, for the readers.
+fn largest_cut(same: &mut Same, random: &mut Random, form: Form, length: usize) {
     let net = limits::net(random, Style::Lively, (64, 4, 64, 4, 2_048));
-    let case = Case::of(random, Style::Lively, &net, version, 8_192);
+    let case = Case::of(random, Style::Lively, &net, form, 8_192);
     assert_eq!(case.net.len(), length);
     truncation::every_reader(same, &case);
 }

@@ -1,8 +1,8 @@
 //! What a net sheet of version 2 has alone: its rule byte, an arc count for each mode, arcs of 14 bytes.
 
 use pnet::{Fault, Length, Refusal};
-use reference::Version;
 use reference::build::{OPEN, PlainNet, arc};
+use reference::{Form, Rule};
 
 use crate::case::Case;
 use crate::generator::{Random, Style};
@@ -39,9 +39,15 @@ fn filled(modes: u16, arcs: u32) -> PlainNet {
     PlainNet { colours: vec![64; 4], modes: vec![1; modes.into()], pairs: vec![(OPEN, 5); 256], arcs }
 }
 
+/// A case in version 2, by either rule.
+fn of(random: &mut Random, net: &PlainNet) -> Case {
+    let form = Form::Two(random.pick(&Rule::BOTH));
+    Case::of(random, Style::Lively, net, form, 16)
+}
+
 /// Every call on a net with these bytes written over at an offset, which its reader answers so.
 fn with(same: &mut Same, random: &mut Random, net: &PlainNet, at: u64, bytes: [u8; 2], answer: Plain) {
-    let mut case = Case::of(random, Style::Lively, net, Version::Two, 16);
+    let mut case = of(random, net);
     case.net[at as usize..][..2].copy_from_slice(&bytes);
     answers(same, &case, answer);
 }
@@ -56,8 +62,8 @@ fn answers(same: &mut Same, case: &Case, answer: Plain) {
 pub fn at_limits(same: &mut Same, random: &mut Random) {
     let accepted = (0, 0, 0, 0);
     let (eight, mut nine) = (filled(8, 2_048), filled(9, 2_048));
-    answers(same, &Case::of(random, Style::Lively, &eight, Version::Two, 16), accepted);
-    answers(same, &Case::of(random, Style::Lively, &nine, Version::Two, 16), accepted);
+    answers(same, &of(random, &eight), accepted);
+    answers(same, &of(random, &nine), accepted);
     // 4 at the count, before its arc is looked at: the arc is not there, and it is there.
     let ninth = nine.count_offset_2(8);
     with(same, random, &nine, ninth, [0, 1], (4, 0, ninth, 0));
@@ -68,8 +74,8 @@ pub fn at_limits(same: &mut Same, random: &mut Random) {
     with(same, random, &eight, count, 2_048u16.to_be_bytes(), (6, 0, next, 0));
     with(same, random, &eight, count, 2_049u16.to_be_bytes(), (4, 0, count, 0));
     let many = PlainNet { modes: vec![4; 64], ..filled(0, 0) };
-    answers(same, &Case::of(random, Style::Lively, &many, Version::Two, 16), accepted);
-    let mut case = Case::of(random, Style::Lively, &many, Version::Two, 16);
+    answers(same, &of(random, &many), accepted);
+    let mut case = of(random, &many);
     case.net = vec![0, 0, 0, 1, 2];
     answers(same, &case, (3, 0, 5, 0));
 }

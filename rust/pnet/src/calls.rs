@@ -180,8 +180,8 @@ pub fn exclude(net: &[u8], weights: &[u8], claim: &[u32]) -> Result<(), Refusal>
     .result(Sheets { net, weights, ..Sheets::default() })
 }
 
-/// Whether the mode is locally dead: at some pair Pre is above the least of K less Post and I, or Post is above K. Exactly then no marking
-/// enables it.
+/// Whether the mode is locally dead: at some pair Pre is above the least of K less Post and I, by rule 1 of K and I, or Post is above K. Exactly
+/// then no marking enables it.
 pub fn is_dead(net: &[u8], mode: Mode) -> Result<bool, Refusal> {
     // SAFETY: the pointer and the length are a slice's, which is only read.
     unsafe { pnet_is_dead(net.as_ptr(), net.len(), mode) }.result(Sheets::net(net))
@@ -194,7 +194,7 @@ pub fn first_dead(net: &[u8]) -> Result<Option<(Mode, Pair)>, Refusal> {
     Ok(named.found.then_some((named.mode, named.pair)))
 }
 
-/// Writes the sheet of the net's complement, of the version given, and says how long it is. No byte after it is touched;
+/// Writes the sheet of the net's complement, of the version and rule given, and says how long it is. No byte after it is touched;
 /// [`LARGEST_NET`](crate::LARGEST_NET) bytes are always room enough.
 pub fn complement(net: &[u8], out: &mut [u8]) -> Result<usize, Refusal> {
     // SAFETY: pointers and lengths are slices', and the one that is written is lent by `&mut`.
@@ -211,7 +211,7 @@ pub fn to_version_2(net: &[u8], out: &mut [u8]) -> Result<usize, Refusal> {
 }
 
 /// Writes the sheet of version 1 of a net in version 2, as [`to_version_2`] does the other way: the bytes that were converted come back
-/// exactly. A sheet of any other version than 2 is refused by 2.
+/// exactly. A sheet of any other version than 2 is refused by 2, and one of the weak capacity rule by 23.
 pub fn to_version_1(net: &[u8], out: &mut [u8]) -> Result<usize, Refusal> {
     // SAFETY: pointers and lengths are slices', and the one that is written is lent by `&mut`.
     let written = unsafe { pnet_to_version_1(net.as_ptr(), net.len(), out.as_mut_ptr(), out.len()) };

@@ -10,8 +10,8 @@ pub enum Fault {
     WrongVersion,
     /// 3: the sheet is not as long as it says.
     WrongLength(Length),
-    /// 4: a count outside its limits, or the running total passes 256, or 2,048 of arcs; another rule byte than 0; a step that is empty or has
-    /// more than 64 modes.
+    /// 4: a count outside its limits, or the running total passes 256, or 2,048 of arcs; another rule byte than 0 and 1; a step that is
+    /// empty or has more than 64 modes.
     CountOutside,
     /// 5: a number outside its range.
     NumberOutside,
@@ -27,7 +27,7 @@ pub enum Fault {
     NoRoom,
     /// 11: Pre is above the count.
     Lacking,
-    /// 12: the count plus Post is above K.
+    /// 12: the count plus Post is above K, or by rule 1 above K plus Pre.
     OverCapacity,
     /// 13: the count is above I.
     Inhibited,
@@ -45,6 +45,8 @@ pub enum Fault {
     Unbalanced,
     /// 22: an exclusion's claim has the figure of the first marking.
     EqualFigures,
+    /// 23: a net of rule 1 has no sheet of version 1.
+    WeakRule,
     /// A number that has no name here yet.
     Other(u64),
 }
@@ -85,6 +87,7 @@ impl Fault {
             18 => EndsElsewhere,
             21 => Unbalanced,
             22 => EqualFigures,
+            23 => WeakRule,
             other => Other(other),
         }
     }
@@ -113,6 +116,7 @@ impl Fault {
             EndsElsewhere => 18,
             Unbalanced => 21,
             EqualFigures => 22,
+            WeakRule => 23,
             Other(number) => number,
         }
     }
@@ -126,7 +130,7 @@ mod tests {
     fn every_fault_has_its_number_and_no_number_panics() {
         for number in (1..100).chain([u64::MAX]) {
             let fault = Fault::of(number, || Length::Nothing);
-            let named = matches!(number, 1..=18 | 21 | 22);
+            let named = matches!(number, 1..=18 | 21..=23);
             assert_eq!((fault.number(), matches!(fault, Fault::Other(_))), (number, !named));
         }
     }

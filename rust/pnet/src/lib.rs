@@ -1,7 +1,8 @@
 //! The calls of a P-net engine (Billington, TR 222) whose every function is proved to do what the published definition says.
 //!
 //! Nets, weights and movements are lent as the bytes of their sheets, a net's of version 1 or 2, a marking as a slice of counts, one for each
-//! pair.
+//! pair. By a net sheet of version 2 and rule 1, the weak capacity rule, an item may be swapped where there is no room: Pre is taken off before the
+//! capacity test.
 //! Every call answers for any bytes and any counts: what it gives, or the first [`Refusal`] in the order of docs/RULES.md.
 //! A refused call writes nothing; a run that stops leaves the marking that its accepted movements gave.
 //!

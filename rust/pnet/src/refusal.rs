@@ -142,6 +142,7 @@ impl fmt::Display for Refusal {
             (Fault::EndsElsewhere, _) => write!(f, "pair {at} ends at another count than is claimed"),
             (Fault::Unbalanced, _) => write!(f, "mode {at} changes the figure, which so excludes nothing"),
             (Fault::EqualFigures, _) => write!(f, "the claim has the figure of the first marking"),
+            (Fault::WeakRule, _) => write!(f, "a net of the weak capacity rule has no sheet of version 1"),
             (Fault::Other(_), thing) => write!(f, "the {thing} is refused at {at}"),
         }
     }

@@ -2,6 +2,7 @@
 
 use pnet::*;
 use reference::build::{OPEN, PlainNet, arc, movements, sheet, weights};
+use reference::{Form, Rule};
 
 /// The small net of docs/RULES.md, with other arcs and pairs.
 fn net(pairs: &[(u32, u32)], arcs: &[reference::build::PlainArc]) -> Vec<u8> {
@@ -125,6 +126,20 @@ fn of_a_marking_and_a_mode() {
 }
 
 #[test]
+fn of_the_weak_capacity_rule() {
+    let rack = PlainNet::plain(2, &[(5, 5)], &[arc(0, 0, 1, 1, OPEN), arc(1, 0, 1, 3, OPEN)]);
+    let (strict, weak) = (rack.sheet(), rack.sheet_in(Form::Two(Rule::Weak)));
+    says(test(&strict, &[5], Mode(0)), "12: pair 0 with what is added is 1 over the capacity");
+    assert_eq!(test(&weak, &[5], Mode(0)), Ok(()));
+    says(test(&weak, &[5], Mode(1)), "12: pair 0 with what is added is 2 over the capacity");
+    says(test_step(&weak, &[5], &[Mode(0), Mode(1)]), "12: pair 0 with what is added is 2 over the capacity");
+    assert_eq!((is_dead(&strict, Mode(1)), is_dead(&weak, Mode(1))), (Ok(false), Ok(false)));
+    let full = PlainNet::plain(1, &[(5, 5)], &[arc(0, 0, 5, 5, OPEN)]);
+    assert_eq!(is_dead(&full.sheet(), Mode(0)), Ok(true));
+    assert_eq!(is_dead(&full.sheet_in(Form::Two(Rule::Weak)), Mode(0)), Ok(false));
+}
+
+#[test]
 fn of_an_amount_above_1() {
     let one = |pair: (u32, u32), arc| net(&[(5, 3), pair], &[arc]);
     says(test(&one((9, 2), arc(0, 1, 9, 0, OPEN)), &[3, 2], Mode(0)), "11: pair 1 holds 7 too few");
@@ -188,6 +203,9 @@ fn of_version_2_and_conversions() {
         sheet
     };
     says(read_net(&with(4, 3)), "2: the net sheet is of no version that this call reads");
+    says(to_version_1(&with(5, 1), room), "23: a net of the weak capacity rule has no sheet of version 1");
+    says(to_version_1(&with(5, 1), &mut []), "23: a net of the weak capacity rule has no sheet of version 1");
+    says(read_net(&with(5, 2)), "4: the rule or count at byte 5 of the net sheet is outside its limits");
     says(read_net(&with(5, 9)), "4: the rule or count at byte 5 of the net sheet is outside its limits");
     says(read_net(&with(32, 9)), "4: the count at byte 32 of the net sheet is outside its limits");
     says(read_net(&with(35, 7)), "6: the mode or pair at byte 34 of the net sheet is not there");

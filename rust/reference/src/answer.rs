@@ -54,7 +54,7 @@ pub enum Refusal {
     NoRoom = 10,
     /// "Pre above the count."
     Pre = 11,
-    /// "Count plus Post above K."
+    /// "Count plus Post above K", or by rule 1 above K plus Pre: "12 reads by the rule in force".
     Post = 12,
     /// "Count above I."
     Inhibitor = 13,
@@ -71,6 +71,8 @@ pub enum Refusal {
     Unbalanced = 21,
     /// "22 when the figures are equal."
     EqualFigures = 22,
+    /// "Converting a rule-1 sheet to version 1 is always refused by 23, before 10."
+    WeakRule = 23,
 }
 
 impl Answer {

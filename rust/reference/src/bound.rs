@@ -46,6 +46,14 @@ impl Bound {
         }
     }
 
+    /// The bound with a number added, unbounded where it is unbounded.
+    pub fn plus(self, number: u32) -> Bound {
+        match self {
+            Bound::Finite(most) => Bound::Finite(most + number),
+            Bound::Unbounded => Bound::Unbounded,
+        }
+    }
+
     /// The bound less a number, unbounded where it is unbounded; none where the number is above it.
     pub fn less(self, number: u32) -> Option<Bound> {
         match self {

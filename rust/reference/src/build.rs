@@ -1,6 +1,7 @@
 //! Plain nets, weights and movements, written as sheets. Nothing is checked: a wrong sheet can be built too.
 
-use crate::limits::{RULE, UNBOUNDED};
+use crate::form::Form;
+use crate::limits::UNBOUNDED;
 use crate::version::Version;
 
 /// A plain net: what a net sheet says, field by field.
@@ -49,22 +50,22 @@ impl PlainNet {
 
     /// The net sheet of version 1.
     pub fn sheet(&self) -> Vec<u8> {
-        self.sheet_in(Version::One)
+        self.sheet_in(Form::One)
     }
 
-    /// The net sheet of a version. In version 2 an arc stands with those of its mode, and one whose mode is not there
-    /// nowhere.
-    pub fn sheet_in(&self, version: Version) -> Vec<u8> {
-        let mut fields = Vec::new();
-        if version == Version::Two {
-            fields.push(RULE);
+    /// The net sheet of a version, or of a version and rule. In version 2 an arc stands with those of its mode, and one
+    /// whose mode is not there nowhere.
+    pub fn sheet_in(&self, form: impl Into<Form>) -> Vec<u8> {
+        let (form, mut fields) = (form.into(), Vec::new());
+        if let Form::Two(rule) = form {
+            fields.push(rule as u8);
         }
         self.put_counts_and_pairs(&mut fields);
-        match version {
-            Version::One => self.put_arcs(&mut fields),
-            Version::Two => self.put_arcs_of_modes(&mut fields),
+        match form {
+            Form::One => self.put_arcs(&mut fields),
+            Form::Two(_) => self.put_arcs_of_modes(&mut fields),
         }
-        sheet_in(version, &fields)
+        sheet_in(form.version(), &fields)
     }
 
     fn put_counts_and_pairs(&self, fields: &mut Vec<u8>) {

@@ -10,11 +10,12 @@ use crate::limits::{ARCS, PLACES, TOTAL, UNBOUNDED};
 use crate::net::Net;
 use crate::net_sheet::whole_net;
 use crate::output::{no_room, written};
+use crate::rule::Rule;
 
 /// Writes the complement's sheet: it "writes the version and rule it was given".
 pub fn complement(net: &[u8], output: &mut [u8]) -> Result<usize, Answer> {
     let net = whole_net(net)?;
-    written(&complemented_within_limits(&net)?.sheet_in(net.version), output)
+    written(&complemented_within_limits(&net)?.sheet_in(net.form), output)
 }
 
 /// The complement of a net that has one. Complementing: net, 15 at its first arc, 10; "15 is still given, for a dead
@@ -99,9 +100,14 @@ fn complement_flow(net: &Net, arc: &Arc, dead: bool) -> Option<(u32, u32)> {
         Bound::Finite(inhibitor) if inhibitor < capacity => capacity - inhibitor,
         _ => 0,
     };
-    // "Pre: the larger of Post and that"; "Post: that number plus the original Pre less the original Post".
-    let pre = arc.flow.post.max(reserved);
-    // "For a locally dead mode write each complement Post equal to its complement Pre."
+    // "Pre: the larger of Post and that"; by rule 1 of "Post less Pre, or 0" and that.
+    let taken_up = match net.rule() {
+        Rule::Strict => arc.flow.post,
+        Rule::Weak => arc.flow.post.saturating_sub(arc.flow.pre),
+    };
+    let pre = taken_up.max(reserved);
+    // "For a locally dead mode write each complement Post equal to its complement Pre"; else "that number plus the
+    // original Pre less the original Post".
     let post = if dead { pre } else { pre + arc.flow.pre - arc.flow.post };
     Some((pre, post))
 }

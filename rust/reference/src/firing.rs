@@ -45,7 +45,7 @@ pub fn next_marking(net: &Net, marking: &[u32], mode: Mode, thing: Thing) -> Res
 }
 
 /// The marking M - Pre + Post by the Pre, Post and I of one mode, or summed over a step: "11 over all
-/// pairs, 12, 13, 14", each with its amount at the lowest pair that breaks it.
+/// pairs, 12, 13, 14", each with its amount at the lowest pair that breaks it. "12 reads by the rule in force."
 pub fn next_by(net: &Net, marking: &[u32], flows: &[Flow], thing: Thing) -> Result<Vec<u32>, Answer> {
     // Pre is at most M once 11 is passed over, so M - Pre + Post is never below zero.
     let new_count = |p: usize| marking[p] - flows[p].pre + flows[p].post;
@@ -57,7 +57,9 @@ pub fn next_by(net: &Net, marking: &[u32], flows: &[Flow], thing: Thing) -> Resu
         None => Ok(()),
     };
     refuse(Refusal::Pre, &|p| Bound::Finite(marking[p]).passed_by(flows[p].pre))?;
-    refuse(Refusal::Post, &|p| net.capacity[p].passed_by(marking[p] + flows[p].post))?;
+    refuse(Refusal::Post, &|p| {
+        net.rule().room(net.capacity[p], flows[p].pre).passed_by(marking[p] + flows[p].post)
+    })?;
     refuse(Refusal::Inhibitor, &|p| flows[p].inhibitor.passed_by(marking[p]))?;
     refuse(Refusal::NewCount, &|p| Bound::Finite(LARGEST).passed_by(new_count(p)))?;
     Ok(pairs().map(new_count).collect())

@@ -1,7 +1,7 @@
 //! A plain reading of docs/RULES.md: reading a finite P-net, testing and firing one mode or a step of
 //! several at once, running a list of movements, checking a certificate, complementing, auditing a marking
 //! by the complement's, the figure, markings out of reach, locally dead modes, both versions of a net
-//! sheet, `replay`.
+//! sheet and both rules of version 2, `replay`.
 //!
 //! Each call takes sheets as bytes and gives the answer, value and lent slices of docs/RULES.md exactly.
 
@@ -18,6 +18,7 @@ mod dead;
 mod exclusion;
 mod figure;
 mod firing;
+mod form;
 mod kinds;
 mod limits;
 mod marking;
@@ -26,6 +27,7 @@ mod net;
 mod net_sheet;
 mod output;
 mod replay;
+mod rule;
 mod run;
 mod sheet;
 mod size;
@@ -47,10 +49,12 @@ pub use dead::{first_dead, is_dead};
 pub use exclusion::exclude;
 pub use figure::figure;
 pub use firing::{fire, test};
+pub use form::Form;
 pub use kinds::{Mode, Pair};
 pub use movement_sheet::read_movements;
 pub use net_sheet::read_net;
 pub use replay::replay;
+pub use rule::Rule;
 pub use run::{Ran, run};
 pub use size::{Size, size};
 pub use step::{fire_step, test_step};

@@ -29,9 +29,6 @@ pub const ARC_BYTES: usize = 16;
 /// "Arcs of 14 bytes without the mode", of version 2.
 pub const SHORT_ARC_BYTES: usize = 14;
 
-/// "A rule byte, 0 for now."
-pub const RULE: u8 = 0;
-
 /// "Mode numbers, 2 bytes each, at most 8,192."
 pub const MOVEMENTS: usize = 8_192;
 

@@ -2,14 +2,15 @@
 
 use crate::arc::{Arc, BLANK, Flow};
 use crate::bound::Bound;
+use crate::form::Form;
 use crate::kinds::Mode;
-use crate::version::Version;
+use crate::rule::Rule;
 
 /// A net that its sheet's reader accepted.
 #[derive(Clone, Debug)]
 pub struct Net {
-    /// The version of its sheet.
-    pub version: Version,
+    /// The version of its sheet, and the rule.
+    pub form: Form,
     /// Colours of each place.
     pub colours: Vec<u16>,
     /// Modes of each transition.
@@ -23,6 +24,11 @@ pub struct Net {
 }
 
 impl Net {
+    /// The rule in force.
+    pub fn rule(&self) -> Rule {
+        self.form.rule()
+    }
+
     /// How many pairs the net has.
     pub fn pair_count(&self) -> usize {
         self.capacity.len()

@@ -5,9 +5,11 @@ use std::ops::RangeInclusive;
 use crate::answer::{Answer, Refusal, Thing};
 use crate::arc::{Arc, bound, number, read_arc, read_arc_of};
 use crate::bound::Bound;
+use crate::form::Form;
 use crate::kinds::Mode;
-use crate::limits::{ARCS, COLOURS, PLACES, RULE, TOTAL, TRANSITIONS};
+use crate::limits::{ARCS, COLOURS, PLACES, TOTAL, TRANSITIONS};
 use crate::net::Net;
+use crate::rule::Rule;
 use crate::sheet::{Read, Sheet, answer_and_taken, whole};
 use crate::version::Version;
 
@@ -33,30 +35,29 @@ pub fn net_at(run: &[u8]) -> Read<Net> {
 
 fn net_of(run: &[u8], versions: &[Version]) -> Read<Net> {
     let mut sheet = Sheet::open(run, Thing::Net, versions)?;
-    let version = sheet.version();
-    if version == Version::Two {
-        rule(&mut sheet)?;
-    }
+    let form = form(&mut sheet)?;
     let places = count(&mut sheet, 1..=PLACES)?;
     let transitions = count(&mut sheet, 0..=TRANSITIONS)?;
     let colours = counts(&mut sheet, places)?;
     let modes = counts(&mut sheet, transitions)?;
     let (capacity, first) = pairs(&mut sheet, colours.iter().sum())?;
-    let mut net = Net { version, colours, modes, capacity, first, arcs: Vec::new() };
-    net.arcs = match version {
+    let mut net = Net { form, colours, modes, capacity, first, arcs: Vec::new() };
+    net.arcs = match form.version() {
         Version::One => arcs(&mut sheet, net.mode_count(), net.pair_count())?,
         Version::Two => arcs_of_modes(&mut sheet, net.all_modes(), net.pair_count())?,
     };
     Ok((net, sheet.close()?))
 }
 
-/// "4 for another rule byte."
-fn rule(sheet: &mut Sheet) -> Result<(), Answer> {
-    let offset = sheet.offset();
-    if sheet.one()? != RULE {
-        return Err(sheet.refuse(Refusal::Count, offset));
+/// The version, and the rule byte of version 2: "4 for another rule byte" than 0 and 1.
+fn form(sheet: &mut Sheet) -> Result<Form, Answer> {
+    if sheet.version() == Version::One {
+        return Ok(Form::One);
     }
-    Ok(())
+    let offset = sheet.offset();
+    let byte = sheet.one()?;
+    let rule = Rule::BOTH.into_iter().find(|&rule| rule as u8 == byte);
+    rule.map(Form::Two).ok_or(sheet.refuse(Refusal::Count, offset))
 }
 
 /// "A count outside its limits": 4 at the count field.

@@ -5,7 +5,7 @@
 pub enum Version {
     /// "Arc count (2 bytes, 0..2,048); the arcs."
     One = 1,
-    /// "A rule byte, 0 for now, follows the version. The arc count and the arcs are replaced by, for each mode, a
+    /// "A rule byte follows the version. The arc count and the arcs are replaced by, for each mode, a
     /// 2-byte arc count and that many arcs of 14 bytes without the mode."
     Two = 2,
 }

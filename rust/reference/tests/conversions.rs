@@ -4,7 +4,7 @@
 mod generator;
 mod support;
 
-use generator::{Random, Style, net, spoil, spoil_net};
+use generator::{Random, Style, form, net, spoil, spoil_net};
 use reference::build::PlainNet;
 use reference::*;
 use support::*;
@@ -84,15 +84,18 @@ fn a_conversion_refuses_what_the_reader_refuses() {
     let mut random = Random::new(62);
     for _ in 0..4_000 {
         let mut plain = net(&mut random, Style::Small, 3, 3, 9);
-        let version = random.pick(&Version::BOTH);
+        let form = form(&mut random);
         if random.once_in(2) {
             spoil_net(&mut random, &mut plain);
         }
-        let mut sheet = plain.sheet_in(version);
+        let mut sheet = plain.sheet_in(form);
         spoil(&mut random, &mut sheet);
         let [one, two] = [to_version_2 as Conversion, to_version_1].map(|convert| converted(convert, &sheet));
         match (size(&sheet), sheet.get(4)) {
             (Ok(_), Some(1)) => assert!(one.is_ok() && two == Err(refused(2, NET, 4))),
+            (Ok(_), _) if sheet[5] == 1 => {
+                assert_eq!((one, two), (Err(refused(2, NET, 4)), Err(refused(23, NET, 0))));
+            }
             (Ok(_), _) => assert!(two.is_ok() && one == Err(refused(2, NET, 4))),
             (Err(answer), Some(1)) => assert_eq!(one, Err(answer)),
             (Err(answer), _) => assert_eq!(two, Err(answer)),

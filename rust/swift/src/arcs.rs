@@ -14,7 +14,7 @@ pub fn run_list(layout: &Layout, list: &[[u8; 2]], marking: &mut [u32; 256]) -> 
         let own = layout.arcs_of(mode);
         arcs += own.len();
         let enabled = |arc: Arc| {
-            let rule = Rule::of(arc, layout.capacity(arc.pair()));
+            let rule = Rule::of(arc, layout.room(layout.capacity(arc.pair()), arc.pre));
             let left = marking[arc.pair()].wrapping_sub(rule.pre);
             ((left | rule.span.wrapping_sub(left)) as i32) >= 0
         };

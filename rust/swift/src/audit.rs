@@ -41,8 +41,8 @@ fn arc_count(layout: &Layout, mates: &Mates) -> Result<usize, Answer> {
                 faults |= arc.inhibitor != UNBOUNDED;
                 continue;
             }
-            dead |= dead_at(arc, capacity);
-            let (pre, post) = mated(arc, capacity, false);
+            dead |= dead_at(arc, capacity, layout.weak);
+            let (pre, post) = mated(arc, capacity, layout.weak, false);
             live += usize::from(pre | post != 0);
             at_death += usize::from(pre != 0);
         }

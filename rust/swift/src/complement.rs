@@ -68,15 +68,17 @@ impl Mates {
 /// Pre and Post on the complement pair of a finite K, for a live mode and for a dead one: "for a locally dead mode
 /// write each complement Post equal to its complement Pre".
 #[inline(always)]
-pub fn mated(arc: Arc, capacity: u32, dead: bool) -> (u32, u32) {
-    let pre = arc.post.max(capacity.saturating_sub(arc.inhibitor));
+pub fn mated(arc: Arc, capacity: u32, weak: bool, dead: bool) -> (u32, u32) {
+    let taken_up = arc.post.saturating_sub(if weak { arc.pre } else { 0 });
+    let pre = taken_up.max(capacity.saturating_sub(arc.inhibitor));
     (pre, if dead { pre } else { pre + arc.pre - arc.post })
 }
 
-/// "Pre is above the least of K less Post and I, or Post is above K."
+/// "Pre is above the least of K less Post and I, or Post is above K", by the weak rule "of K and I".
 #[inline(always)]
-pub fn dead_at(arc: Arc, capacity: u32) -> bool {
-    (arc.pre + arc.post > capacity) | (arc.pre > arc.inhibitor)
+pub fn dead_at(arc: Arc, capacity: u32, weak: bool) -> bool {
+    let most = if weak { arc.pre.max(arc.post) } else { arc.pre + arc.post };
+    (most > capacity) | (arc.pre > arc.inhibitor)
 }
 
 /// The complement's arcs as its sheet has them: each mode's original arcs, then those at complement pairs.
@@ -94,10 +96,10 @@ fn arcs_of(layout: &Layout, mates: &Mates) -> Result<Vec<[u8; 16]>, Answer> {
             }
         }
         let originals = arcs.count;
-        if arcs.put_mates(&rest[..own], mates, false) {
+        if arcs.put_mates(&rest[..own], mates, layout.weak, false) {
             // What a live mode would have is put aside: few modes are dead.
             arcs.count = originals;
-            arcs.put_mates(&rest[..own], mates, true);
+            arcs.put_mates(&rest[..own], mates, layout.weak, true);
         }
         rest = &rest[own..];
     }
@@ -126,7 +128,7 @@ impl Arcs {
     /// A mode's arcs at complement pairs, as of a live mode or of a dead one; whether a pair of finite K shows that it
     /// is dead. (Where one of unbounded K does, its inhibitor is finite, and there is no complement.)
     #[inline(always)]
-    fn put_mates(&mut self, own: &[[u8; 16]], mates: &Mates, dead: bool) -> bool {
+    fn put_mates(&mut self, own: &[[u8; 16]], mates: &Mates, weak: bool, dead: bool) -> bool {
         let mut shown = false;
         for bytes in own {
             let arc = Arc::of(bytes);
@@ -135,8 +137,8 @@ impl Arcs {
                 self.inhibited |= arc.inhibitor != UNBOUNDED;
                 continue;
             }
-            shown |= dead_at(arc, capacity);
-            let (pre, post) = mated(arc, capacity, dead);
+            shown |= dead_at(arc, capacity, weak);
+            let (pre, post) = mated(arc, capacity, weak, dead);
             if pre | post != 0 {
                 self.put(open_arc(arc.key & 0xFFFF_0000 | mate, pre, post));
             }
@@ -156,7 +158,7 @@ pub fn inhibited(layout: &Layout, mates: &Mates) -> Answer {
 /// Writes the sheet, of the version given, into a slice of its length.
 fn write(layout: &Layout, mates: &Mates, counts: &Counts, arcs: &[[u8; 16]], output: &mut [u8]) {
     let mut rest = Rest(output);
-    rest.head(layout.version, counts);
+    rest.head(layout.version, layout.weak, counts);
     rest.copy(layout.colours);
     mates.places.iter().for_each(|place| rest.put(place.to_be_bytes()));
     rest.copy(layout.mode_counts);

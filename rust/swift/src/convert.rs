@@ -16,6 +16,9 @@ pub fn to_version_1(net: &[u8], output: &mut [u8]) -> Result<usize, Answer> {
 
 fn convert(net: &[u8], from: u8, to: u8, output: &mut [u8]) -> Result<usize, Answer> {
     let layout = whole_net_of(net, from..=from)?;
+    if layout.weak {
+        return Err(Answer::refused(23, NET, 0));
+    }
     let counts = Counts {
         places: layout.colours.len() / 2,
         transitions: layout.mode_counts.len() / 2,
@@ -25,7 +28,7 @@ fn convert(net: &[u8], from: u8, to: u8, output: &mut [u8]) -> Result<usize, Ans
     };
     let length = counts.length(to);
     let mut rest = Rest(output.get_mut(..length).ok_or(Answer::refused(10, NET, 0))?);
-    rest.head(to, &counts);
+    rest.head(to, false, &counts);
     rest.copy(layout.colours);
     rest.copy(layout.mode_counts);
     rest.copy(layout.table.as_flattened());

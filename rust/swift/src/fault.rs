@@ -40,11 +40,11 @@ fn fields(sheet: &[u8]) -> Result<Infallible, Answer> {
     }
 }
 
-/// "4 for another rule byte."
+/// "4 for another rule byte" than 0 and 1.
 fn of_rule(sheet: &[u8]) -> Result<(), Answer> {
     match sheet.get(5) {
         None => refuse(3, 5),
-        Some(0) => Ok(()),
+        Some(0 | 1) => Ok(()),
         Some(_) => refuse(4, 5),
     }
 }
@@ -161,11 +161,11 @@ pub fn of_movement(layout: &Layout, marking: &[u32; 256], mode: usize) -> Answer
     }
     let own = layout.arcs_of(mode);
     let count = |arc: Arc| marking[arc.pair()];
-    let capacity = |arc: Arc| layout.capacity(arc.pair());
+    let room = |arc: Arc| layout.room(layout.capacity(arc.pair()), arc.pre);
     // What is compared, and the most that it may be.
     let compared: [&dyn Fn(Arc) -> (u32, u32); 4] = [
         &|arc| (arc.pre, count(arc)),
-        &|arc| (count(arc) + arc.post, capacity(arc)),
+        &|arc| (count(arc) + arc.post, room(arc)),
         &|arc| (count(arc), arc.inhibitor),
         &|arc| (count(arc) - arc.pre + arc.post, LARGEST),
     ];

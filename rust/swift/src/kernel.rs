@@ -11,7 +11,7 @@ const OPEN: u32 = 3 * LARGEST;
 #[derive(Clone, Copy)]
 pub struct Rule {
     pub pre: u32,
-    /// The least of K less Post, I and what keeps the new count within 1,000,000, less Pre; below zero
+    /// The least of the room less Post, I and what keeps the new count within 1,000,000, less Pre; below zero
     /// (as a signed number) where no count is enabled.
     pub span: u32,
     pub post: u32,
@@ -21,13 +21,14 @@ impl Rule {
     /// The rule where no arc is written.
     pub const BLANK: Rule = Rule { pre: 0, span: OPEN, post: 0 };
 
+    /// The room is K, or by the weak rule K + Pre.
     #[inline(always)]
-    pub fn of(arc: Arc, capacity: u32) -> Rule {
+    pub fn of(arc: Arc, room: u32) -> Rule {
         let Arc { pre, post, .. } = arc;
         let (pre, post) = (pre as i32, post as i32);
-        let capacity = capacity.min(OPEN) as i32 - post;
+        let room = room.min(OPEN) as i32 - post;
         let inhibitor = arc.inhibitor.min(OPEN) as i32;
-        let most = capacity.min(inhibitor).min(LARGEST as i32 + pre - post);
+        let most = room.min(inhibitor).min(LARGEST as i32 + pre - post);
         Rule { pre: pre as u32, span: (most - pre) as u32, post: post as u32 }
     }
 }
@@ -106,7 +107,7 @@ fn form(layout: &Layout, movements: usize) -> Form {
 #[cfg(test)]
 mod tests {
     use super::{Form, Reach, form, run_in};
-    use crate::generator::{Random, Style, list, net};
+    use crate::generator::{Random, Style, form as sheet_form, list, net};
     use crate::layout::whole_net;
     use crate::list::whole_list;
     use reference::build::movements;
@@ -130,7 +131,8 @@ mod tests {
                 random.pick(&[(1, 1, 3), (4, 3, 12), (12, 6, 60), (64, 64, 2_048)]);
             let most = if round % 10 == 0 { 400 } else { 20 };
             let net = net(&mut random, style, places, transitions, arcs);
-            let (sheet, list) = (net.sheet(), list(&mut random, &net, most));
+            let sheet = net.sheet_in(sheet_form(&mut random));
+            let list = list(&mut random, &net, most);
             let mut first = [0; 256];
             first.iter_mut().zip(&net.pairs).for_each(|(count, pair)| *count = pair.1);
             let (list, length) = (movements(&list), list.len());

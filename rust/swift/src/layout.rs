@@ -11,6 +11,8 @@ use crate::sheet::{open, two};
 pub struct Layout<'a> {
     /// Its version, 1 or 2.
     pub version: u8,
+    /// Whether its rule byte is 1: "M + Post ≤ K + Pre".
+    pub weak: bool,
     /// How many bytes the sheet takes, 4 + L.
     pub length: usize,
     /// How many pairs the net has.
@@ -67,7 +69,7 @@ fn net_of(run: &[u8], versions: RangeInclusive<u8>) -> Result<Layout<'_>, Answer
     parts(sheet).ok_or_else(|| fault::of_net(sheet))
 }
 
-/// Where the place count stands: in version 2 "a rule byte, 0 for now, follows the version".
+/// Where the place count stands: in version 2 "a rule byte follows the version".
 pub fn places_at(sheet: &[u8]) -> usize {
     if sheet[4] == 2 { 6 } else { 5 }
 }
@@ -76,7 +78,7 @@ pub fn places_at(sheet: &[u8]) -> usize {
 fn parts(sheet: &[u8]) -> Option<Layout<'_>> {
     let (version, at) = (sheet[4], places_at(sheet));
     let (places, transitions) = (two(sheet, at)?, two(sheet, at + 2)?);
-    if places == 0 || places > 64 || transitions > 64 || (version == 2 && sheet[5] != 0) {
+    if places == 0 || places > 64 || transitions > 64 || (version == 2 && sheet[5] > 1) {
         return None;
     }
     let (colours, rest) = sheet[at + 4..].split_at_checked(2 * places)?;
@@ -92,7 +94,8 @@ fn parts(sheet: &[u8]) -> Option<Layout<'_>> {
         1 => Cow::Borrowed(arcs_at(rest, modes, test)?),
         _ => Cow::Owned(arcs_with_modes(rest, modes, test)?),
     };
-    Some(Layout { version, length: sheet.len(), pairs, modes, colours, mode_counts, table, arcs })
+    let weak = version == 2 && sheet[5] == 1;
+    Some(Layout { version, weak, length: sheet.len(), pairs, modes, colours, mode_counts, table, arcs })
 }
 
 /// "Arc count (2 bytes, 0..2,048); the arcs."
@@ -258,5 +261,11 @@ impl Layout<'_> {
     #[inline(always)]
     pub fn capacity(&self, pair: usize) -> u32 {
         pair_of(&self.table[pair]).0
+    }
+
+    /// The most that M + Post may be where K and Pre are these: K, or by the weak rule K + Pre.
+    #[inline(always)]
+    pub fn room(&self, capacity: u32, pre: u32) -> u32 {
+        capacity.saturating_add(if self.weak { pre } else { 0 })
     }
 }

@@ -69,7 +69,7 @@ fn blocks_of(layout: &Layout, width: usize) -> Vec<Block> {
     let mut blocks = vec![BLANK; layout.modes * width];
     for bytes in &*layout.arcs {
         let arc = Arc::of(bytes);
-        let rule = Rule::of(arc, capacities[arc.pair()]);
+        let rule = Rule::of(arc, layout.room(capacities[arc.pair()], arc.pre));
         let (block, lane) = (&mut blocks[arc.mode() * width + arc.pair() / 4], arc.pair() % 4);
         block.pre.0[lane] = rule.pre;
         block.span.0[lane] = rule.span;

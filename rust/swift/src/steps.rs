@@ -30,8 +30,8 @@ const FILLERS: [Step; TOGETHER] = {
 
 impl Step {
     #[inline(always)]
-    fn of(arc: Arc, capacities: &[u32; 256]) -> Step {
-        let mut rule = Rule::of(arc, capacities[arc.pair()]);
+    fn of(arc: Arc, room: u32) -> Step {
+        let mut rule = Rule::of(arc, room);
         if (rule.span as i32) < 0 {
             // No count less this Pre is within a span of 0.
             rule = Rule { pre: 1 << 31, span: 0, post: 0 };
@@ -58,7 +58,8 @@ fn steps_of(layout: &Layout) -> Steps {
     let places = steps.as_flattened_mut();
     for (at, bytes) in layout.arcs.iter().enumerate() {
         let arc = Arc::of(bytes);
-        places[at + usize::from(behind[arc.mode() & 255])] = Step::of(arc, &capacities);
+        places[at + usize::from(behind[arc.mode() & 255])] =
+            Step::of(arc, layout.room(capacities[arc.pair()], arc.pre));
     }
     Steps { steps, spans, arc_counts }
 }

@@ -25,11 +25,11 @@ impl Counts {
 
 impl Rest<'_> {
     /// All before the colours: the length, the version, in version 2 the rule byte, the first two counts.
-    pub fn head(&mut self, version: u8, counts: &Counts) {
+    pub fn head(&mut self, version: u8, weak: bool, counts: &Counts) {
         self.put((self.0.len() as u32 - 4).to_be_bytes());
         self.put([version]);
         if version == 2 {
-            self.put([0]);
+            self.put([u8::from(weak)]);
         }
         self.put((counts.places as u16).to_be_bytes());
         self.put((counts.transitions as u16).to_be_bytes());

@@ -5,9 +5,9 @@ mod generator;
 
 use std::collections::BTreeSet;
 
-use generator::{Random, Style, list, marking, net, spoil, spoil_net, total};
-use reference::Version;
+use generator::{Random, Style, form, list, marking, net, spoil, spoil_net, total};
 use reference::build::{PlainNet, movements, sheet_in, weights};
+use reference::{Form, Version};
 
 const STYLES: [Style; 3] = [Style::Small, Style::Edges, Style::Lively];
 
@@ -37,12 +37,12 @@ fn any_net(random: &mut Random) -> (PlainNet, Style) {
     (net(random, style, places, transitions, arcs), style)
 }
 
-/// A net's sheet of either version.
+/// A net's sheet of either version and rule.
 fn any_sheet(random: &mut Random, net: &PlainNet) -> Vec<u8> {
-    net.sheet_in(random.pick(&Version::BOTH))
+    net.sheet_in(form(random))
 }
 
-/// A net's sheet of either version, the net or the sheet spoiled once in so many times.
+/// A net's sheet of either version and rule, the net or the sheet spoiled once in so many times.
 fn sheet_of(random: &mut Random, net: &PlainNet, times: usize) -> Vec<u8> {
     let mut net = net.clone();
     if random.once_in(2 * times) {
@@ -211,7 +211,7 @@ fn long_runs_give_the_same_answer() {
             let net = net(&mut random, Style::Lively, places, 8, arcs);
             let counts = marking(&mut random, Style::Lively, &net);
             let list = movements(&list(&mut random, &net, 1_500));
-            same_run(&net.sheet(), &list, &counts, &mut seen);
+            same_run(&any_sheet(&mut random, &net), &list, &counts, &mut seen);
         }
     }
     assert!(seen.contains(&0));
@@ -233,8 +233,10 @@ fn every_width_of_a_net_runs_the_same() {
         for most in [3, 300] {
             let list = movements(&list(&mut random, &net, most));
             let counts: Vec<u32> = (0..pairs).map(|_| 1 + random.below(8) as u32).collect();
-            same_run(&net.sheet(), &list, &counts, &mut seen);
-            same_run(&net.sheet(), &list, &vec![5; pairs], &mut seen);
+            for sheet in Form::ALL.map(|form| net.sheet_in(form)) {
+                same_run(&sheet, &list, &counts, &mut seen);
+                same_run(&sheet, &list, &vec![5; pairs], &mut seen);
+            }
         }
     }
 }
@@ -264,7 +266,7 @@ fn converting_gives_the_same_sheet() {
         let sheet = sheet_of(&mut random, &net, 5);
         same_conversions(&sheet, room, &mut seen);
     }
-    assert_eq!(seen, (0..=10).collect());
+    assert_eq!(seen, (0..=10).chain([23]).collect());
 }
 
 /// The counts of a net and its complement: in step, or one of them anything.
@@ -316,7 +318,7 @@ fn excluding_gives_the_same_answer() {
         same_exclusion(&sheet, &maybe_spoiled(&mut random, kilograms, 15), &claim, &mut seen);
         let (net, kilograms) = generator::balanced(&mut random);
         let claim = marking(&mut random, Style::Small, &net);
-        same_exclusion(&net.sheet(), &weights(&kilograms), &claim, &mut seen);
+        same_exclusion(&any_sheet(&mut random, &net), &weights(&kilograms), &claim, &mut seen);
     }
     assert_eq!(seen, (0..=9).chain([17, 21, 22]).collect());
 }
@@ -363,7 +365,7 @@ fn long_replays_print_the_same_text() {
         for scale in [0, 1, 1_000, 1_000_000] {
             let w: Vec<i32> = (0..pairs).map(|_| random.below(2 * scale + 1) as i32 - scale as i32).collect();
             let list = movements(&list(&mut random, &net, 8_000));
-            same_replay(&[net.sheet(), weights(&w), list].concat());
+            same_replay(&[any_sheet(&mut random, &net), weights(&w), list].concat());
         }
     }
 }
@@ -429,8 +431,7 @@ fn at_the_complements_limits_the_answers_are_the_same() {
             seen.insert(same_audit(&net.sheet(), &[2; 8], &[[2; 8], [3; 8]].concat()).0);
             // This one is blank at its original pair.
             net.arcs.push(reference::build::arc(128, 7, 0, 0, 4));
-            for version in Version::BOTH {
-                let sheet = net.sheet_in(version);
+            for sheet in Form::ALL.map(|form| net.sheet_in(form)) {
                 same_complement(&sheet, 36_000, &mut seen);
                 seen.insert(same_audit(&sheet, &[2; 8], &[[2; 8], [3; 8]].concat()).0);
             }
@@ -448,7 +449,7 @@ fn at_the_limits_of_lists_and_arcs_the_answers_are_the_same() {
     }
     for arcs in [2_047, 2_048, 2_049] {
         net.arcs = (0..arcs).map(|n| reference::build::arc(n / 20, n % 20, 1, 0, u32::MAX)).collect();
-        for sheet in Version::BOTH.map(|version| net.sheet_in(version)) {
+        for sheet in Form::ALL.map(|form| net.sheet_in(form)) {
             same_read(&sheet, &mut seen);
             same_run(&sheet, &movements(&[0, 50, 102, 128, 0]), &[2; 20], &mut seen);
         }

@@ -14,8 +14,8 @@ use swift::{Answer, LARGEST, Ran};
 #[derive(Clone, Copy)]
 struct Visit {
     pre: u32,
-    /// Enabled below this count: one more than the least of K less Post, I and 1,000,000 less Post plus Pre;
-    /// 0 where Post is above K.
+    /// Enabled below this count: one more than the least of the room less Post, I and 1,000,000 less Post plus Pre;
+    /// 0 where Post is above the room.
     below: u32,
     /// Post less Pre, without a wrap where the arc is enabled.
     gain: u32,
@@ -31,11 +31,10 @@ struct Visits {
 
 impl Visit {
     #[inline(always)]
-    fn of(arc: Arc, capacities: &[u32; 256]) -> Visit {
+    fn of(arc: Arc, room: u32) -> Visit {
         let Arc { pre, post, inhibitor, .. } = arc;
-        let capacity = capacities[arc.pair()];
-        let room = if capacity == u32::MAX { u32::MAX } else { (capacity + 1).saturating_sub(post) };
-        let below = room.min(inhibitor.saturating_add(1)).min(LARGEST + pre + 1 - post);
+        let below = if room == u32::MAX { u32::MAX } else { (room + 1).saturating_sub(post) };
+        let below = below.min(inhibitor.saturating_add(1)).min(LARGEST + pre + 1 - post);
         Visit { pre, below, gain: post.wrapping_sub(pre), pair: arc.pair() as u8 }
     }
 
@@ -57,7 +56,7 @@ fn visits_of(layout: &Layout) -> Visits {
         if span.1 == 0 {
             span.0 = arcs.len() as u16;
         }
-        arcs.push(Visit::of(arc, &capacities));
+        arcs.push(Visit::of(arc, layout.room(capacities[arc.pair()], arc.pre)));
         span.1 = arcs.len() as u16;
     }
     Visits { arcs, spans }

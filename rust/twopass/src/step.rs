@@ -28,11 +28,11 @@ impl Sum {
         self.inhibitor = self.inhibitor.min(arc.inhibitor);
     }
 
-    /// Whether the sums allow a count where the capacity is K.
+    /// Whether the sums allow a count where so much is room: K, or by the weak rule K and the summed Pre.
     #[inline(always)]
-    fn allows(&self, count: u32, capacity: u32) -> bool {
+    fn allows(&self, count: u32, room: u32) -> bool {
         let after = count.wrapping_sub(self.pre).wrapping_add(self.post);
-        let within = (count + self.post <= capacity) & (count <= self.inhibitor);
+        let within = (count + self.post <= room) & (count <= self.inhibitor);
         (self.pre <= count) & within & (after <= LARGEST)
     }
 }
@@ -53,7 +53,8 @@ pub fn fire_step(net: &[u8], marking: &mut [u32], modes: &[u16]) -> Answer {
     };
     let sums = Sums::of(&layout, modes, times);
     let allowed = |&pair: &u8| {
-        sums.of_pair(pair).allows(marking[usize::from(pair)], layout.capacity(usize::from(pair)))
+        let (sum, at) = (sums.of_pair(pair), usize::from(pair));
+        sum.allows(marking[at], layout.room(layout.capacity(at), sum.pre))
     };
     let named = &sums.pairs[..sums.count];
     if !named.iter().all(allowed) {
@@ -139,13 +140,14 @@ fn fault(layout: &Layout, sums: &Sums, marking: &[u32]) -> Answer {
     // What is compared, and the most that it may be.
     let compared: [fn(&Sum, u32, u32) -> (u32, u32); 4] = [
         |sum, count, _| (sum.pre, count),
-        |sum, count, capacity| (count + sum.post, capacity),
+        |sum, count, room| (count + sum.post, room),
         |sum, count, _| (count, sum.inhibitor),
         |sum, count, _| (count - sum.pre + sum.post, LARGEST),
     ];
     for (number, compared) in (11..).zip(compared) {
         for pair in 0..layout.pairs {
-            let (compared, most) = compared(&sums.at[pair], marking[pair], layout.capacity(pair));
+            let sum = &sums.at[pair];
+            let (compared, most) = compared(sum, marking[pair], layout.room(layout.capacity(pair), sum.pre));
             if compared > most {
                 return Answer::refused(number, ARGUMENT, pair).by(compared - most);
             }

@@ -5,8 +5,8 @@ mod generator;
 
 use std::collections::BTreeSet;
 
-use generator::{Random, Style, list, marking, net, spoil, step};
-use reference::Version;
+use generator::{Random, Style, form, list, marking, net, spoil, step};
+use reference::Form;
 use reference::build::{PlainNet, movements};
 
 /// An answer as number, thing, position and amount.
@@ -36,7 +36,7 @@ fn running_gives_the_same_answer() {
     for _ in 0..12_000 {
         let (net, style) = any_net(&mut random, &SMALL);
         let (mut twice, list) = (marking(&mut random, style, &net), movements(&list(&mut random, &net, 40)));
-        let mut sheet = net.sheet_in(random.pick(&Version::BOTH));
+        let mut sheet = net.sheet_in(form(&mut random));
         if random.once_in(20) {
             spoil(&mut random, &mut sheet);
         }
@@ -67,7 +67,7 @@ fn a_step_gives_the_same_answer() {
     for _ in 0..12_000 {
         let (net, style) = any_net(&mut random, &SMALL);
         let (counts, modes) = (marking(&mut random, style, &net), step(&mut random, &net));
-        let mut sheet = net.sheet_in(random.pick(&Version::BOTH));
+        let mut sheet = net.sheet_in(form(&mut random));
         if random.once_in(20) {
             spoil(&mut random, &mut sheet);
         }
@@ -83,7 +83,7 @@ fn steps_of_the_largest_nets_give_the_same_answer() {
     for _ in 0..300 {
         let (net, style) = any_net(&mut random, &[(20, 20, 200), (64, 64, 2_048), (64, 2, 2_048)]);
         let (counts, modes) = (marking(&mut random, style, &net), step(&mut random, &net));
-        same_step(&net.sheet_in(random.pick(&Version::BOTH)), &counts, &modes, &mut seen);
+        same_step(&net.sheet_in(form(&mut random)), &counts, &modes, &mut seen);
     }
     assert!(seen.contains(&0) && seen.contains(&11), "{seen:?}");
 }
@@ -95,7 +95,7 @@ fn a_step_that_names_all_256_pairs_gives_the_same_answer() {
     let mut seen = BTreeSet::new();
     for length in [1, 4, 8, 9, 10, 64, 65] {
         let modes: Vec<u16> = (0..length).map(|n| n % 2).collect();
-        same_step(&net.sheet(), &[8; 256], &modes, &mut seen);
+        Form::ALL.iter().for_each(|&form| same_step(&net.sheet_in(form), &[8; 256], &modes, &mut seen));
     }
     assert_eq!(seen, [0, 4, 11].into());
 }

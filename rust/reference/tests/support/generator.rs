@@ -2,6 +2,7 @@
 #![allow(dead_code)]
 
 use reference::build::{OPEN, PlainArc, PlainNet};
+use reference::{Form, Rule};
 
 /// Xorshift, 64 bits.
 pub struct Random(u64);
@@ -60,6 +61,11 @@ pub fn net(random: &mut Random, style: Style, places: usize, transitions: usize,
         net.arcs = cells.into_iter().map(|(mode, pair)| arc(random, style, mode, pair)).collect();
     }
     net
+}
+
+/// How its sheet is written: as often in version 1 as in version 2, and in version 2 as often by the one rule as by the other.
+pub fn form(random: &mut Random) -> Form {
+    random.pick(&[Form::One, Form::One, Form::Two(Rule::Strict), Form::Two(Rule::Weak)])
 }
 
 /// Counts of colours or modes whose total stays within 256.
