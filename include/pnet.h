@@ -106,7 +106,6 @@ enum {
  *   21  a mode's weight change is not 0, in pnet_exclude                          the lowest such mode
  *   22  the claim has the figure of the first marking, in pnet_exclude            0
  *   23  a net of rule 1 has no sheet of version 1, in pnet_to_version_1           0
- *
  *   24  a figure of a fleet's record would be above 10^18                         0
  *   25  a fleet's record is out of its bounds                                     0
  *
