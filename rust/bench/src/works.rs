@@ -75,7 +75,7 @@ pub const STATEMENT: Work = beside(
 pub const SIZED: [Work; 4] = [READ, RUN, COMPLEMENT, STATEMENT];
 
 /// The other calls, at full size; a call with a mode is given the last.
-pub const OTHERS: [Work; 17] = [
+pub const OTHERS: [Work; 18] = [
     beside("size", |i, _| pnet::size(&i.net).is_ok(), |i, _| swift::size(&i.net).is_ok()),
     own("read_weights", |i, _| pnet::read_weights(&i.weights, i.pairs).is_ok()),
     own("read_movements", |i, _| pnet::read_movements(&i.movements).is_ok()),
@@ -91,6 +91,18 @@ pub const OTHERS: [Work; 17] = [
             None,
         ],
     },
+    beside(
+        "fleet_add",
+        |i, _| {
+            let mut record = pnet::Fleet::default();
+            pnet::fleet_add(&mut record, &i.net, &i.weights, &i.movements).is_ok() && record.refused == [0; 5]
+        },
+        |i, _| {
+            let mut record = swift::Fleet::default();
+            swift::fleet_add(&mut record, &i.net, &i.weights, &i.movements).number == 0
+                && record.refused == [0; 5]
+        },
+    ),
     own("certify", |i, _| pnet::certify(&i.net, &i.movements, &i.claim).is_ok()),
     own("figure", |i, l| pnet::figure(&i.net, &i.weights, &l.marking).is_ok()),
     own("change", |i, _| pnet::change(&i.net, &i.weights, Mode(i.last)).is_ok()),

@@ -9,7 +9,7 @@ use std::cell::RefCell;
 use std::ffi::{c_char, c_int, c_uint, c_void};
 use std::{ptr, slice};
 
-use pnet::{Mode, OutOfStep, Pair, Ran, Refusal, Size};
+use pnet::{Fleet, Mode, OutOfStep, Pair, Ran, Refusal, Size};
 
 /// Whole pages; the longest slice that is lent is the room for `replay`'s text.
 const ROOM: usize = 1 << 19;
@@ -210,6 +210,16 @@ pub fn run(net: &[u8], movements: &[u8], marking: &mut [u32]) -> Ran {
         let ran = pnet::run(lent.net.show(net), lent.sheet.show(movements), held);
         marking.copy_from_slice(held);
         ran
+    })
+}
+
+pub fn fleet_add(record: &mut Fleet, net: &[u8], weights: &[u8], movements: &[u8]) -> Result<(), Refusal> {
+    lend(|lent| {
+        let [held] = lent.written.lend(&[*record]) else { unreachable!("one record was lent") };
+        let (net, weights) = (lent.net.show(net), lent.counts.show(weights));
+        let counted = pnet::fleet_add(held, net, weights, lent.sheet.show(movements));
+        *record = *held;
+        counted
     })
 }
 

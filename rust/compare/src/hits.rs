@@ -15,6 +15,7 @@ pub enum Call {
     TestStep,
     FireStep,
     Run,
+    FleetAdd,
     Certify,
     Figure,
     Change,
@@ -31,7 +32,7 @@ pub enum Call {
 
 use Call::*;
 
-const CALLS: [Call; 21] = [
+const CALLS: [Call; 22] = [
     ReadNet,
     ReadWeights,
     ReadMovements,
@@ -41,6 +42,7 @@ const CALLS: [Call; 21] = [
     TestStep,
     FireStep,
     Run,
+    FleetAdd,
     Certify,
     Figure,
     Change,
@@ -67,6 +69,8 @@ pub const ENOUGH: usize = 100;
 const NET: &[Told] = &[(1, 0), (2, 0), (3, 0), (4, 0), (5, 0), (6, 0), (7, 0), (8, 0), (9, 0)];
 const WEIGHTS: &[Told] = &[(1, 1), (2, 1), (3, 1), (5, 1), (17, 1)];
 const MOVEMENTS: &[Told] = &[(1, 2), (2, 2), (3, 2), (4, 2)];
+/// Of a fleet's record.
+const FLEET: &[Told] = &[(4, 3), (24, 0), (25, 0)];
 const MARKING: &[Told] = &[(17, 3), (5, 3), (9, 3)];
 const ONE_EACH: &[Told] = &[(17, 3)];
 const MODE: &[Told] = &[(6, 3)];
@@ -90,6 +94,7 @@ fn refusals(call: Call) -> Vec<Told> {
         Test | Fire => [NET, MARKING, MODE, STOPPED].concat(),
         TestStep | FireStep => [NET, MARKING, STEP, MODE, STOPPED].concat(),
         Run => [NET, MOVEMENTS, MARKING, MOVEMENT].concat(),
+        FleetAdd => [NET, WEIGHTS, MOVEMENTS, FLEET].concat(),
         Certify => [NET, MOVEMENTS, ONE_EACH, MOVEMENT, ELSEWHERE].concat(),
         Figure => [NET, WEIGHTS, MARKING].concat(),
         Change => [NET, WEIGHTS, MODE].concat(),
@@ -201,6 +206,11 @@ impl Hits {
             "equal nets, and equal answers",
             "equal nets, and equal complements",
             "a net of rule 1, over every call",
+            "a ship counted",
+            "a ship refused, and the record as found",
+            "a record counted past its bounds",
+            "added 10^18",
+            "removed 10^18",
             "a marking found by rule 1",
             "no marking found by rule 1",
             "12 or 13 by rule 1, and 11 in the complement",

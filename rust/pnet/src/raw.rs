@@ -5,6 +5,7 @@ use std::hint::black_box;
 
 use crate::calls::Size;
 use crate::fault::{Fault, Length};
+use crate::fleet::Fleet;
 use crate::kinds::{Mode, Pair, Thing};
 use crate::refusal::Refusal;
 
@@ -124,6 +125,15 @@ unsafe extern "C" {
     pub fn pnet_is_dead(net: *const u8, net_length: usize, mode: Mode) -> With<bool>;
     pub fn pnet_first_dead(net: *const u8, net_length: usize) -> With<Named>;
     pub fn pnet_complement(net: *const u8, net_length: usize, out: *mut u8, room: usize) -> With<u64>;
+    pub fn pnet_fleet_add(
+        record: *mut Fleet,
+        net: *const u8,
+        net_length: usize,
+        weights: *const u8,
+        weights_length: usize,
+        movements: *const u8,
+        movements_length: usize,
+    ) -> Answer;
     pub fn pnet_to_version_2(net: *const u8, net_length: usize, out: *mut u8, room: usize) -> With<u64>;
     pub fn pnet_to_version_1(net: *const u8, net_length: usize, out: *mut u8, room: usize) -> With<u64>;
     pub fn pnet_audit(
