@@ -33,9 +33,6 @@ module _ (f : Fleet) (s : Ship) {o : Answer × Fleet} (allowed : AddShipAllows f
   unfolding entered
   entered-is e = allowed .1 ∙ rw (was-accepted e)
 
-  left-is : o .1 ≡ entered f s .fleet
-  left-is = allowed .1
-
 -- what the calls have counted and leave is what the definition counts and leaves
 record Same (f : Fleet) (ships counted : List Ship) (last : Fleet) : Type 0 where
   counts : counted ≡ countedBy f ships
@@ -46,19 +43,27 @@ unfolding afterAll countedBy entered
 same noShip = record { counts = refl; leaves = refl }
 same (counts {f} {last} {s} {ships} o a e c) =
     let rest = rw (entered-is f s a e) at (same c) in
-    rw (was-accepted f s a e) (record { counts = ap (λ l. s ∷ l) (rest .counts); leaves = rest .leaves })
+    let accepted = was-accepted f s a e in
+    record { counts = rw accepted (ap (λ l. s ∷ l) (rest .counts)); leaves = rw accepted (rest .leaves) }
 same (refuses {f} {last} {s} {ships} {counted} o a e c) = go (shipRefusal f s) refl (same c)
   where
     go : (r : Option Refusal) → shipRefusal f s ≡ r → Same (o .1) ships counted last → Same f (s ∷ ships) counted last
     go none h rest = absurd (e (ap number (a .0) ∙ rw h))
-    go (some r) h rest = let kept : o .1 ≡ f = a .1 ∙ rw h in let g = rw kept at rest in rw h (record { counts = g .counts; leaves = g .leaves })
+    go (some r) h rest =
+        let kept : o .1 ≡ f = a .1 ∙ rw h in
+        let same = rw kept at rest in
+        record { counts = rw h (same .counts); leaves = rw h (same .leaves) }
 
 pub fleet-of-calls : FleetOfCalls
 fleet-of-calls ships counted last calls =
     let is = same calls in
     let stated = fleet-statement ships in
-    rw (is .counts, is .leaves)
-    (record { totalled = stated .totalled; balances = stated .balances; few = stated .few; inBounds = stated .inBounds })
+    record {
+      totalled = rw (is .counts, is .leaves) (stated .totalled);
+      balances = rw (is .counts, is .leaves) (stated .balances);
+      few = rw (is .counts) (stated .few);
+      inBounds = rw (is .leaves) (stated .inBounds);
+    }
 
 -- one that loses raises the total
 one-raises : (f : Mode → ℕ) (ts : List Mode) (k : ℕ) → k < length ts → 0 < f (getD ts k (modeNo 0)) → 0 < total (map f ts)
