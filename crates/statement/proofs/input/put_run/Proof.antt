@@ -4,6 +4,7 @@ use mathlib.Core.Path.{_∙_}
 use native.Mathlib.Omega.{arith}
 use mir.Facts.{toZ-ofZ}
 use Rattle.opened.proofs.Shapes.{sizes}
+use Rattle.run.proofs.Reporting.{run-tells}
 use Rattle.statement.proofs.Texts.{started-weighs, run-told}
 use Rattle.statement.proofs.input.put_run.Statement.{statement}
 use Rattle.statement.proofs.input.put_run.Tie as tie
@@ -14,8 +15,8 @@ figure-of-requires c κs =
     let sheets = wrote .before .before .before .before .before .before .before .pre .0 in
     (sheets .opened, (sheets .weighed, rw (wrote .write-start .ensures) (sizes (sheets .opened) .wellFormed .start)))
 
-run-list-requires : tie.Need-run-list-requires
-run-list-requires c κs =
+run-tabled-requires : tie.Need-run-tabled-requires
+run-tabled-requires c κs =
     let tabled = c .before .before in
     let wrote = tabled .before .before .before .before .before .before .before .before .before in
     let sheets = wrote .before .before .before .before .before .before .before .pre .0 in
@@ -33,7 +34,7 @@ put-movements-requires c κs =
       (
         tabled .starts .ensures,
         (
-          rw (wrote .write-start .ensures) at (ran .run-list .ensures),
+          rw (wrote .write-start .ensures) at (run-tells (ran .run-tabled .ensures)),
           (
             started-weighs _ _ (wrote .write-start .ensures) (toZ-ofZ (record { sfits = weighed .figure-of .ok }) ∙ weighed .figure-of .ensures),
             omega (arith, began .put-start .ensures .next, began .put-start .ensures .within, began .put-start .kept .0, pre .1 .1),
@@ -60,7 +61,7 @@ put-run-spec =
     figure-of-requires
     (λ c κs. search needs)
     (λ c κs. search needs)
-    run-list-requires
+    run-tabled-requires
     put-movements-requires
     (λ c. search needs)
     (λ c. search needs)
