@@ -4,15 +4,21 @@ use model::Answer;
 use opened::listed::movement;
 use opened::shape::NetShape;
 use opened::starts::starts;
-use run::movements::run_tabled;
+use run::Ran;
+use run::movements::run_listed;
+use run::numbers::write_numbers;
 use weigh::changes::write_changes;
 ghost use mathlib.Core.Path.{_≡_};
+ghost use mathlib.Core.Option.{none};
 ghost use Prim.Native.Nat.{_≤_};
 ghost use lib.IntN.{pos, natAbs};
 ghost use lib.ListN.{length};
+ghost use Rattle.model.specs.Markings.{Marking};
 ghost use Rattle.model.specs.Runs.{run};
 ghost use Rattle.sheets.specs.Decoded.{netOf, movementsOf};
+ghost use Rattle.lists.specs.Movements.{movementsRefusal};
 ghost use Rattle.opened.specs.Read.{Read};
+ghost use Rattle.opened.specs.Shape.{Open};
 ghost use Rattle.opened.specs.Starts.{StartsAre};
 ghost use Rattle.run.specs.Parts.{RunTells};
 ghost use Rattle.fleet.specs.Ships.{ship, gained as gainedBy, lost as lostBy, voyageOf};
@@ -38,6 +44,26 @@ fn lost(change: i64) -> i64
     ensures { λ r. ⌜ r ≡ pos (lostBy change) ⌝ }
 {
     if change < 0 { 0 - change } else { 0 }
+}
+
+// The numbers of the arcs (8 KiB) stand on the stack only while the list runs, where the table of changes comes after: one caller each, so that both are
+// inlined there (docs/SPEED.md).
+fn run_list(
+    s: &[u8],
+    net: NetShape,
+    starts: &[u16; 257],
+    movements: &[u8],
+    marking: &mut [u32],
+) -> Ran
+    requires { ⌜ Open (now s) net ⌝ }
+    requires { ⌜ StartsAre (netOf (now s) .arcs) (now starts) ⌝ }
+    requires { ⌜ movementsRefusal (now movements) ≡ none ⌝ }
+    requires { ⌜ Marking (netOf (now s)) (now marking) ⌝ }
+    ensures { λ r. ⌜ RunTells (run (netOf (now (s .entry))) (movementsOf (now (movements .entry))) (now (marking .entry))) (r .accepted) (r .answer) ⌝ }
+{
+    let mut numbers = [0u32; 2048];
+    write_numbers(s, net, starts, &mut numbers);
+    run_listed(s, net, starts, &numbers, movements, marking)
 }
 
 // The list has been run: what its accepted movements changed is added up, by the table of all modes' changes.
@@ -82,7 +108,7 @@ fn sail(s: &[u8], net: NetShape, weights: &[u8], movements: &[u8], marking: &mut
 {
     write_start(s, net, marking);
     let starts = starts(s, net);
-    let ran = run_tabled(s, net, &starts, movements, marking);
+    let ran = run_list(s, net, &starts, movements, marking);
     let answer = ran.answer;
     weigh_run(s, net, &starts, weights, movements, ran.accepted, answer)
 }

@@ -158,7 +158,7 @@ pub fn run_modes(
 }
 
 // The list of a movement sheet that was accepted, with both tables lent.
-pub(crate) fn run_listed(
+pub fn run_listed(
     s: &[u8],
     net: NetShape,
     starts: &[u16; 257],
@@ -184,25 +184,6 @@ pub(crate) fn run_listed(
     )
 }
 
-// The same with the table of numbers made once: its 8 KiB stand on the stack only while the list runs.
-pub fn run_tabled(
-    s: &[u8],
-    net: NetShape,
-    starts: &[u16; 257],
-    movements: &[u8],
-    marking: &mut [u32],
-) -> Ran
-    requires { ⌜ Open (now s) net ⌝ }
-    requires { ⌜ StartsAre (netOf (now s) .arcs) (now starts) ⌝ }
-    requires { ⌜ movementsRefusal (now movements) ≡ none ⌝ }
-    requires { ⌜ Marking (netOf (now s)) (now marking) ⌝ }
-    ensures { λ r. ⌜ Reports (run (netOf (now (s .entry))) (movementsOf (now (movements .entry))) (now (marking .entry))) (visited (netOf (now (s .entry))) (movementsOf (now (movements .entry))) (now (marking .entry))) r (now (marking .exit)) ⌝ }
-{
-    let mut numbers = [0u32; 2048];
-    write_numbers(s, net, starts, &mut numbers);
-    run_listed(s, net, starts, &numbers, movements, marking)
-}
-
 // The same with both tables made once.
 pub(crate) fn run_sheet(s: &[u8], net: NetShape, movements: &[u8], marking: &mut [u32]) -> Ran
     requires { ⌜ Open (now s) net ⌝ }
@@ -211,5 +192,7 @@ pub(crate) fn run_sheet(s: &[u8], net: NetShape, movements: &[u8], marking: &mut
     ensures { λ r. ⌜ Reports (run (netOf (now (s .entry))) (movementsOf (now (movements .entry))) (now (marking .entry))) (visited (netOf (now (s .entry))) (movementsOf (now (movements .entry))) (now (marking .entry))) r (now (marking .exit)) ⌝ }
 {
     let starts = starts(s, net);
-    run_tabled(s, net, &starts, movements, marking)
+    let mut numbers = [0u32; 2048];
+    write_numbers(s, net, &starts, &mut numbers);
+    run_listed(s, net, &starts, &numbers, movements, marking)
 }

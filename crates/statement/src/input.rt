@@ -1,5 +1,6 @@
 // The three sheets of an input, each read in the part after the one before it: "A bad sheet prints only `bad`".
 use crate::movements::put_movements;
+use crate::movements::run_list;
 use fire::start::write_start;
 use lines::put_bad;
 use lines::put_start;
@@ -9,7 +10,6 @@ use nets::net::read_net;
 use opened::shape::NetShape;
 use opened::shape::shape_of;
 use opened::starts::starts;
-use run::movements::run_tabled;
 use sheets::whole::after;
 use sheets::whole::whole_movements;
 use weigh::sums::figure_of;
@@ -43,7 +43,7 @@ fn put_run(
     let figure = figure_of(s, net, weights, marking);
     let start = put_start(out, 0, figure);
     let starts = starts(s, net);
-    let ran = run_tabled(s, net, &starts, movements, marking);
+    let ran = run_list(s, net, &starts, movements, marking);
     let answer = ran.answer;
     put_movements(
         s,

@@ -6,6 +6,9 @@ use model::Answer;
 use model::Refusal;
 use opened::listed::movement;
 use opened::shape::NetShape;
+use run::Ran;
+use run::movements::run_listed;
+use run::numbers::write_numbers;
 use text::twos::twos;
 use weigh::changes::write_changes;
 ghost use mathlib.Core.Path.{_≡_};
@@ -14,16 +17,37 @@ ghost use mathlib.Core.Option.{none};
 ghost use Prim.Native.Nat.{_+_, _*_, _≤_, _<_};
 ghost use lib.ListN.{length, getD};
 ghost use Rattle.model.specs.Nets.{modeNo};
+ghost use Rattle.model.specs.Markings.{Marking};
 ghost use Rattle.model.specs.Figures.{figure as figureAt};
 ghost use Rattle.model.specs.Runs.{run};
 ghost use Rattle.lists.specs.Movements.{movementsRefusal};
 ghost use Rattle.sheets.specs.Decoded.{netOf, weightsOf, movementsOf};
+ghost use Rattle.opened.specs.Shape.{Open};
 ghost use Rattle.opened.specs.Starts.{StartsAre};
 ghost use Rattle.text.specs.Puts.{Writes};
 ghost use Rattle.lines.specs.Lines.{refusedLine, endLine};
 ghost use Rattle.opened.specs.Read.{Read};
 ghost use Rattle.run.specs.Parts.{RunTells};
 ghost use Rattle.statement.specs.Replay.{linesFrom};
+
+// The numbers of the arcs (8 KiB) stand on the stack only while the list runs: the table of changes comes after them, in another function.
+pub(crate) fn run_list(
+    s: &[u8],
+    net: NetShape,
+    starts: &[u16; 257],
+    movements: &[u8],
+    marking: &mut [u32],
+) -> Ran
+    requires { ⌜ Open (now s) net ⌝ }
+    requires { ⌜ StartsAre (netOf (now s) .arcs) (now starts) ⌝ }
+    requires { ⌜ movementsRefusal (now movements) ≡ none ⌝ }
+    requires { ⌜ Marking (netOf (now s)) (now marking) ⌝ }
+    ensures { λ r. ⌜ RunTells (run (netOf (now (s .entry))) (movementsOf (now (movements .entry))) (now (marking .entry))) (r .accepted) (r .answer) ⌝ }
+{
+    let mut numbers = [0u32; 2048];
+    write_numbers(s, net, starts, &mut numbers);
+    run_listed(s, net, starts, &numbers, movements, marking)
+}
 
 // A refused movement is the last: "Running stops at the first refused movement".
 fn put_stop(

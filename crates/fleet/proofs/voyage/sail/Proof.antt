@@ -1,12 +1,11 @@
 -- From the net's first marking: the whole list is run, then weighed.
 use borrow.Author.Needs.{needs}
 use Rattle.opened.proofs.Shapes.{sizes}
-use Rattle.run.proofs.Reporting.{run-tells}
 use Rattle.fleet.proofs.voyage.sail.Statement.{statement}
 use Rattle.fleet.proofs.voyage.sail.Tie as tie
 
-run-tabled-requires : tie.Need-run-tabled-requires
-run-tabled-requires c κs =
+run-list-requires : tie.Need-run-list-requires
+run-list-requires c κs =
     let tabled = c .before .before in
     let wrote = tabled .before .before .before in
     let sheets = wrote .before .before .before .before .before .before .pre .0 in
@@ -18,9 +17,9 @@ weigh-run-requires c κs =
     let tabled = ran .before .before .before in
     let wrote = tabled .before .before .before in
     let sheets = wrote .before .before .before .before .before .before .pre .0 in
-    (sheets, (tabled .starts .ensures, rw (wrote .write-start .ensures) at (run-tells (ran .run-tabled .ensures))))
+    (sheets, (tabled .starts .ensures, rw (wrote .write-start .ensures) at (ran .run-list .ensures)))
 
 pub sail-spec : {M : Type 1} → statement M
 sail-spec =
     tie.close
-    (tie.spec (λ c κs. search needs) (λ c κs. search needs) run-tabled-requires weigh-run-requires (λ c. search needs) (λ c. search needs))
+    (tie.spec (λ c κs. search needs) (λ c κs. search needs) run-list-requires weigh-run-requires (λ c. search needs) (λ c. search needs))

@@ -4,7 +4,6 @@ use mathlib.Core.Path.{_∙_}
 use native.Mathlib.Omega.{arith}
 use mir.Facts.{toZ-ofZ}
 use Rattle.opened.proofs.Shapes.{sizes}
-use Rattle.run.proofs.Reporting.{run-tells}
 use Rattle.statement.proofs.Texts.{started-weighs, run-told}
 use Rattle.statement.proofs.input.put_run.Statement.{statement}
 use Rattle.statement.proofs.input.put_run.Tie as tie
@@ -15,8 +14,8 @@ figure-of-requires c κs =
     let sheets = wrote .before .before .before .before .before .before .before .pre .0 in
     (sheets .opened, (sheets .weighed, rw (wrote .write-start .ensures) (sizes (sheets .opened) .wellFormed .start)))
 
-run-tabled-requires : tie.Need-run-tabled-requires
-run-tabled-requires c κs =
+run-list-requires : tie.Need-run-list-requires
+run-list-requires c κs =
     let tabled = c .before .before in
     let wrote = tabled .before .before .before .before .before .before .before .before .before in
     let sheets = wrote .before .before .before .before .before .before .before .pre .0 in
@@ -34,7 +33,7 @@ put-movements-requires c κs =
       (
         tabled .starts .ensures,
         (
-          rw (wrote .write-start .ensures) at (run-tells (ran .run-tabled .ensures)),
+          rw (wrote .write-start .ensures) at (ran .run-list .ensures),
           (
             started-weighs _ _ (wrote .write-start .ensures) (toZ-ofZ (record { sfits = weighed .figure-of .ok }) ∙ weighed .figure-of .ensures),
             omega (arith, began .put-start .ensures .next, began .put-start .ensures .within, began .put-start .kept .0, pre .1 .1),
@@ -61,7 +60,7 @@ put-run-spec =
     figure-of-requires
     (λ c κs. search needs)
     (λ c κs. search needs)
-    run-tabled-requires
+    run-list-requires
     put-movements-requires
     (λ c. search needs)
     (λ c. search needs)
