@@ -56,7 +56,7 @@ enum {
     PNET_NET = 0, /* also where a call is accepted, and for 10, 15 and any number above 18 */
     PNET_WEIGHTS = 1,
     PNET_MOVEMENTS = 2, /* also a movement that a run or a certificate refuses */
-    PNET_ARGUMENT = 3   /* a marking, a claim, a mode or a step */
+    PNET_ARGUMENT = 3   /* a marking, a claim, a mode, a step or a pair */
 };
 
 /* The limits of sheets and steps. */
@@ -86,11 +86,13 @@ enum {
  *    5  a number is outside its range                                             its field; in a marking, the pair
  *    6  an arc's mode or pair is not there                                        its field in the arc
  *       a movement's mode, the mode handed over or one of a step is not there     0
+ *       the pair that is to be stripped is not there                              0
  *    7  an arc is not above the one before, by mode, then pair                    the arc
  *       in version 2 its pair is not above that of its mode's arc before          the arc
  *    8  an arc is blank: Pre and Post are 0, I is unbounded                       the arc
  *    9  a count is above a bounded K                                              the first marking's field; in a marking, the pair
  *   10  the complement exceeds a sheet's limits                                   0
+ *       K of the pair to strip is above 63, or a sheet's limit would be passed    0
  *       `room` is less than the sheet that is to be written takes                 0
  *       `room` is below PNET_TEXT_ROOM, in pnet_statement                         0
  *   11  Pre is above the count                                                    the lowest such pair
@@ -98,6 +100,7 @@ enum {
  *   13  the count is above I                                                      the lowest such pair
  *   14  the new count is above 1,000,000                                          the lowest such pair
  *   15  I is bounded at a pair of unbounded K                                     the arc
+ *       the pair that is to be stripped has unbounded K                           0
  *   16  reserved: no answer has it
  *   17  a marking or weights are not one for each pair                            0; in weights, 5
  *   18  a certificate ends at another marking than is claimed                     the lowest pair that differs
@@ -267,6 +270,15 @@ struct pnet_counted pnet_complement(const uint8_t *net, size_t net_length, uint8
  * than the sheet takes. A refused call writes nothing. */
 struct pnet_counted pnet_to_version_2(const uint8_t *net, size_t net_length, uint8_t *out, size_t room);
 struct pnet_counted pnet_to_version_1(const uint8_t *net, size_t net_length, uint8_t *out, size_t room);
+
+/* Writes the sheet of the net with one transition appended, which strips a pair bare whatever its count: its mode n, for n from 0 to the
+ * pair's K, takes n tokens there (Pre n) and is refused above n (I n). At every marking within capacity exactly one of these modes is
+ * enabled, the one numbered by the count; it leaves 0 at the pair and every other pair as it was. The new modes are numbered after all
+ * others, which keep their numbers and answer as before. The version and the rule are those of the sheet given; the value is the length
+ * written, and no byte after it is touched.
+ * Refuses: the net; 6 for the pair, thing PNET_ARGUMENT; 15 where its K is unbounded; 10 where K is above 63, where the net would have more
+ * than 64 transitions, 256 modes or 2,048 arcs, or where `room` is less than its sheet takes. A refused call writes nothing. */
+struct pnet_counted pnet_strip(const uint8_t *net, size_t net_length, struct pnet_pair pair, uint8_t *out, size_t room);
 
 /* Sets a marking of the net beside one of its complement (which has first the net's pairs, then one for each pair of bounded K), and names the
  * lowest pair of the net at which the two are out of step: they differ on it, or its K is bounded and its count and its complement

@@ -50,7 +50,7 @@ static void net(struct sheet *sheet, int places, int transitions, int arcs, uint
         put(sheet, 2, 4);
     for (int pair = 0; pair < pairs; pair++) {
         put(sheet, 4, capacity);
-        put(sheet, 4, 1000);
+        put(sheet, 4, capacity < 1000 ? capacity : 1000);
     }
     put(sheet, 2, modes * arcs);
     for (int mode = 0; mode < modes; mode++)
@@ -74,11 +74,12 @@ static void weigh(struct sheet *sheet, uint32_t weight)
     close(sheet);
 }
 
-static struct sheet full, half, two, weights, weightless, movements;
+static struct sheet full, half, bare, two, weights, weightless, movements;
 static uint32_t marking[PNET_PAIRS], both[PNET_PAIRS];
 static uint8_t input[65536], out[PNET_TEXT_ROOM];
 static size_t input_length;
 static struct pnet_mode last = {255};
+static struct pnet_pair last_pair = {255};
 static struct pnet_mode step[64];
 
 static unsigned char stack[ROOM];
@@ -116,6 +117,7 @@ CALL(is_dead, pnet_is_dead(NET, last).answer)
 CALL(first_dead, pnet_first_dead(NET).answer)
 CALL(size, pnet_size(NET).answer)
 CALL(complement, pnet_complement(half.bytes, half.length, out, sizeof out).answer)
+CALL(strip, pnet_strip(bare.bytes, bare.length, last_pair, out, sizeof out).answer)
 CALL(to_version_2, pnet_to_version_2(NET, out, sizeof out).answer)
 CALL(to_version_1, pnet_to_version_1(two.bytes, two.length, out, sizeof out).answer)
 CALL(audit, pnet_audit(half.bytes, half.length, marking, 128, both, 256).answer)
@@ -137,7 +139,7 @@ static const struct {
     {"pnet_size", size, 0, 4096},               {"pnet_complement", complement, 0, 4096},
     {"pnet_audit", audit, 0, 4096},             {"pnet_statement", statement, 0, 12288},
     {"pnet_exclude", exclude, 22, 4096},        {"pnet_to_version_2", to_version_2, 0, 4096},
-    {"pnet_to_version_1", to_version_1, 0, 4096},
+    {"pnet_to_version_1", to_version_1, 0, 4096}, {"pnet_strip", strip, 0, 4096},
 };
 
 /* replay's input: the three sheets one after another. */
@@ -168,6 +170,7 @@ int main(void)
     int over = 0;
     net(&full, 64, 64, 8, UNBOUNDED);
     net(&half, 32, 64, 4, 1000000);
+    net(&bare, 64, 48, 10, 63); /* room for the 64 modes that strip its last pair */
     two.length = pnet_to_version_2(NET, two.bytes, sizeof two.bytes).value;
     weigh(&weights, 250);
     weigh(&weightless, 0);

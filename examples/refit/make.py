@@ -1,5 +1,5 @@
 """A refit: pumps, cable drums and lead pigs between the store, two zones aboard and the quay, and a weight allowance. `retired.sheet` is the same net with one
-movement more, which the yard has retired.
+movement more, which the yard has retired; `blasted.sheet` with the movements that strip the forward zone of its pigs.
 
     python3 examples/refit/make.py [FOLDER]      # this folder, where none is named"""
 import pathlib, sys
@@ -49,3 +49,9 @@ write(
 # The same net as it is mailed over a slow link.
 (folder / "mailed.sheet").write_bytes(net(pairs, modes, CAPACITIES_AND_FIRST, arcs, version=2))
 (folder / "retired.sheet").write_bytes(net(pairs, with_retired, CAPACITIES_AND_FIRST, arcs + retired))
+
+# Blasting takes all pigs forward, n of them by mode n of a transition more: what the engine's `strip` writes of the net.
+forward = pairs["forward", "pig"]
+with_blasting = Named(*modes.groups, ("blasting", [f"{n} pigs" for n in range(CAPACITIES_AND_FIRST[forward][0] + 1)]))
+bare = [(with_blasting["blasting", f"{n} pigs"], forward, n, 0, n) for n in range(CAPACITIES_AND_FIRST[forward][0] + 1)]
+(folder / "blasted.sheet").write_bytes(net(pairs, with_blasting, CAPACITIES_AND_FIRST, arcs + bare))

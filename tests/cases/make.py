@@ -19,7 +19,7 @@ A list has, each with its lines below it, indented; `#` starts a comment, which 
     both NET, COMPLEMENT   a row is a marking, `|` and the counts of its complement pairs, a mode, and `to` the marking after, or the refusals: `13 at 0 amount 1 | 11 at 2 amount 1`.
                         Each is tested and fired, in the net and in its complement: four cases.
 
-Sheets at the limits are made by limits.py, those of both versions by versions.py, by name; `refit` is the net of examples/refit. A call is added in two places: a row of CALLS, and an arm with its number in crates/cases/src/calls.rt, in the
+Sheets at the limits are made by limits.py, those of both versions by versions.py, those that are stripped by stripping.py, by name; `refit` is the net of examples/refit, `blasted` the same stripped of its pigs forward. A call is added in two places: a row of CALLS, and an arm with its number in crates/cases/src/calls.rt, in the
 group that tells what it tells. A call that tells something new gets a group, a function in src/told.rt and a line in answer_of.
 
 A case in stdin is the length of what follows, then eight parts, a length before each: call, number and room; name; first and second run of bytes, where the modes of
@@ -29,7 +29,7 @@ import pathlib, re, struct, sys
 here = pathlib.Path(__file__).resolve().parent
 top = here.parent.parent
 sys.path[:0] = [str(here), str(top / "examples")]
-import limits, longest_run, versions
+import limits, longest_run, stripping, versions
 from sheets import UNBOUNDED, encode_movements as movements, encode_net as net, encode_weights as weights
 
 # The call's number, and the words that name its first and its second run of bytes.
@@ -47,6 +47,7 @@ CALLS = {
     "complement": (19, "net", ""),
     "to_version_2": (20, "net", ""),
     "to_version_1": (21, "net", ""),
+    "strip": (22, "net", ""),
     "figure": (32, "net", "weights"),
     "change": (33, "net", "weights"),
     "is_dead": (48, "net", ""),
@@ -55,7 +56,7 @@ CALLS = {
     "run": (64, "net", "movements"),
 }
 
-sheets = dict(limits.SHEETS, **versions.SHEETS, refit=(top / "examples/refit/net.sheet").read_bytes())
+sheets = dict(limits.SHEETS, **versions.SHEETS, **stripping.SHEETS, **{name: (top / f"examples/refit/{file}.sheet").read_bytes() for name, file in (("refit", "net"), ("blasted", "blasted"))})
 markings = dict(limits.MARKINGS)
 cases = []
 
@@ -100,13 +101,13 @@ def pack(numbers):
 
 def add(name, call, arguments, told, after, written):
     code, first, second = CALLS[call]
-    known = {first, second, "marking", "mode", "pairs", "room"}
+    known = {first, second, "marking", "mode", "pair", "pairs", "room"}
     lent = counts(arguments.get("marking", ""))
     left = lent if after is None else after
     room = int(arguments.get("room", 0))
     assert len(left) == len(lent) and len(written) <= room and set(arguments) <= known, name
     runs = [pack(counts(arguments[word])) if word in ("modes", "beside") else bytes_of(arguments.get(word, "")) for word in (first, second)]
-    argument = int(arguments.get("mode", arguments.get("pairs", 0)))
+    argument = int(arguments.get("mode", arguments.get("pair", arguments.get("pairs", 0))))
     parts = [pack([code, argument, room]), name.encode(), *runs, pack(lent), pack([*told, len(lent), room]), pack(left), written]
     body = b"".join(pack([len(part)]) + part for part in parts)
     cases.append((name, pack([len(body)]) + body))

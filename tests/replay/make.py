@@ -53,6 +53,11 @@ case("over_capacity_by_two", two_pairs(ROOMY, (10, 3), (3, 9, 3)), "start 80\nre
 case("inhibited_by_three", two_pairs(ROOMY, (9, 7), (1, 2, 4)), "start 120\nrefused 1 0 13 1 3\nend 0 120\n")
 case("over_limit_by_four", two_pairs(ROOMY, (UNBOUNDED, 999999), (1, 6, UNBOUNDED)), "start 10000040\nrefused 1 0 14 1 4\nend 0 10000040\n")
 
+# the refit, its pigs forward stripped by the mode that their number names: two come, one goes, and 13 are taken; the same again finds none
+REFIT = here.parent.parent / "examples/refit"
+BLASTED = (REFIT / "blasted.sheet").read_bytes() + (REFIT / "weights.sheet").read_bytes() + movements([2, 2, 8, 29, 29])
+case("blasted", BLASTED, "start 4850\n1 2 0 4875\n2 2 0 4900\n3 8 0 4875\n4 29 0 4550\nrefused 5 29 11 5 13\nend 4 4550\n")
+
 # a bad sheet of each thing; bytes after the third sheet; nothing
 case("bad_net", LANDING[:4] + b"\x03" + LANDING[5:] + WEIGHTS + FOUR, "bad 0 2 4\n")
 case("another_rule", LANDING_2[:5] + b"\x07" + LANDING_2[6:] + WEIGHTS + FOUR, "bad 0 4 5\n")

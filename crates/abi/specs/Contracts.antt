@@ -2,6 +2,7 @@
 use Prim.Native.Nat.{ℕ}
 use mathlib.Core.Path.{_≡_}
 use mathlib.Core.List.{List}
+use Rattle.model.specs.declared.Pair.{Pair}
 use Rattle.model.specs.declared.Mode.{Mode}
 use Rattle.model.specs.declared.Version.the-variants.{One, Two}
 use Rattle.model.specs.Refusals.{answer}
@@ -18,6 +19,7 @@ use Rattle.dead.specs.FirstDead as first
 use Rattle.size.specs.Sizes as size
 use Rattle.complement.specs.Complemented as complement
 use Rattle.convert.specs.Converted as convert
+use Rattle.strip.specs.Stripped as strip
 use Rattle.audit.specs.Audits as audit
 use Rattle.statement.specs.Replay.{stated, statedIn}
 use Rattle.answers.specs.declared.Answered.{Answered}
@@ -90,6 +92,9 @@ module _ (net : List ℕ) where
 
   abbrev pub ToVersion1Allows : List ℕ → Counted × List ℕ → Type 0
   ToVersion1Allows out o = (o .0 ≡ counted (convert.told (convert.conversionOf Two One net out))) × (o .1 ≡ convert.outputOf Two One net out)
+
+  abbrev pub StripAllows : Pair → List ℕ → Counted × List ℕ → Type 0
+  StripAllows p out o = (o .0 ≡ counted (strip.told (strip.strippedOf net p out))) × (o .1 ≡ strip.outputOf net p out)
 
   abbrev pub AuditAllows : List ℕ → List ℕ → Audited → Type 0
   AuditAllows marking beside told = told ≡ audited (audit.told (audit.auditedOf net marking beside))

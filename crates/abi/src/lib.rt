@@ -8,5 +8,6 @@ pub mod moving;
 pub mod reading;
 pub mod sizing;
 pub mod stating;
+pub mod stripping;
 pub mod version;
 pub mod weighing;

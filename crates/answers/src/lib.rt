@@ -12,6 +12,7 @@ use model::Refusal;
 use model::Thing;
 use size::Measured;
 use statement::Stated;
+use strip::Stripped;
 use told::line_of;
 use told::thing_of;
 use weigh::Figured;
@@ -26,6 +27,7 @@ ghost use Rattle.convert.specs.Converted.{told as convertedTold};
 ghost use Rattle.dead.specs.FirstDead.{told as firstDeadTold};
 ghost use Rattle.dead.specs.IsDead.{told as deadnessTold};
 ghost use Rattle.size.specs.Sizes.{told as measuredTold};
+ghost use Rattle.strip.specs.Stripped.{told as strippedTold};
 ghost use Rattle.weigh.specs.Calls.{told as figuredTold};
 ghost use Rattle.answers.specs.Told.{answered, counted, textTold, weighed, decided, naming, named, sized, finding, audited};
 
@@ -150,6 +152,21 @@ pub fn tell_converted(converted: Converted) -> Counted
             value: length as u64,
         },
         Converted::Refused(refusal) => Counted {
+            answer: refused(refusal),
+            value: 0,
+        },
+    }
+}
+
+pub fn tell_stripped(stripped: Stripped) -> Counted
+    ensures { λ r. ⌜ r ≡ counted (strippedTold stripped) ⌝ }
+{
+    match stripped {
+        Stripped::Length(length) => Counted {
+            answer: accepted(),
+            value: length as u64,
+        },
+        Stripped::Refused(refusal) => Counted {
             answer: refused(refusal),
             value: 0,
         },

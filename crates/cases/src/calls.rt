@@ -25,12 +25,14 @@ use abi::moving::pnet_test;
 use abi::reading::pnet_read_movements;
 use abi::reading::pnet_read_net;
 use abi::reading::pnet_read_weights;
+use abi::stripping::pnet_strip;
 use abi::weighing::pnet_change;
 use abi::weighing::pnet_figure;
 use answers::Answered;
 use answers::Counted;
 use answers::Weighed;
 use model::Mode;
+use model::Pair;
 
 fn answer(call: u32, mode: Mode, first: &[u8], second: &[u8], marking: &mut [u32]) -> Answered {
     match call {
@@ -43,14 +45,15 @@ fn answer(call: u32, mode: Mode, first: &[u8], second: &[u8], marking: &mut [u32
     }
 }
 
-fn count(call: u32, pairs: usize, first: &[u8], out: &mut [u8]) -> Counted {
+fn count(call: u32, number: u32, first: &[u8], out: &mut [u8]) -> Counted {
     match call {
         16 => pnet_read_net(first),
-        17 => pnet_read_weights(first, pairs),
+        17 => pnet_read_weights(first, number as usize),
         18 => pnet_read_movements(first),
         19 => pnet_complement(first, out),
         20 => pnet_to_version_2(first, out),
-        _ => pnet_to_version_1(first, out),
+        21 => pnet_to_version_1(first, out),
+        _ => pnet_strip(first, Pair((number % 65536) as u16), out),
     }
 }
 
@@ -80,7 +83,7 @@ fn tell(
     let mode = Mode((number % 65536) as u16);
     match call / 16 {
         0 => told_alone(answer(call, mode, first, second, marking)),
-        1 => told_count(count(call, number as usize, first, out)),
+        1 => told_count(count(call, number, first, out)),
         2 => told_kilograms(weigh(call, mode, first, second, marking)),
         3 => look(call, mode, first, second, marking),
         _ => told_run(pnet_run(first, second, marking)),

@@ -85,7 +85,7 @@ fn put_group(
     put_mode_arcs(s, net, arcs, version, out, next)
 }
 
-pub(crate) fn put_groups(
+pub fn put_groups(
     s: &[u8],
     net: NetShape,
     starts: &[u16; 257],

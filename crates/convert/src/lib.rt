@@ -1,5 +1,5 @@
 // The conversions of a net sheet between its two versions (document 02, P9): the same net, written in the other version.
-mod arcs;
+pub mod arcs;
 mod sheet;
 
 use crate::sheet::put_sheet;

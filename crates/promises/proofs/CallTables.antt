@@ -10,12 +10,13 @@ use lib.IntN.{ℤ, pos}
 use lib.ListN.{length, take, getD}
 use borrow.Author.Tests.{le-ltb, ne-eqb}
 use native.Mathlib.Omega.{arith}
+use Rattle.model.specs.declared.Pair.{Pair}
 use Rattle.model.specs.declared.Mode.{Mode}
 use Rattle.model.specs.declared.Thing.{Thing}
 use Rattle.model.specs.declared.Thing.the-variants.{Net, Weights, Movements, Argument}
 use Rattle.model.specs.declared.Why.{Why}
 use Rattle.model.specs.declared.Why.the-variants.{Lacking, OverCapacity, Inhibited, OverLimit}
-use Rattle.model.specs.declared.Fault.the-variants.{CutShort, WrongVersion, WrongLength, EndsElsewhere, RuleLost}
+use Rattle.model.specs.declared.Fault.the-variants.{CutShort, WrongVersion, WrongLength, NotThere, EndsElsewhere, RuleLost}
 use Rattle.model.specs.declared.CapacityRule.{CapacityRule}
 use Rattle.model.specs.declared.CapacityRule.the-variants.{Strong, Weak}
 use Rattle.model.specs.declared.Version.{Version}
@@ -26,7 +27,7 @@ use Rattle.model.specs.First.{_▸_, first, onlyIf}
 use Rattle.model.specs.Refusals.{carries, carried, wrong, thingNumber}
 use Rattle.model.specs.RefusalTables.{Table, row, _then_, each, Reads}
 use Rattle.model.specs.Numbers.{ℕ∞, fin, ∞, aboveBy, limit}
-use Rattle.model.specs.Nets.{PNet, pairs, pairNo, modeNo, count, modes}
+use Rattle.model.specs.Nets.{PNet, pairs, pairNo, modeNo, count, modes, K}
 use Rattle.model.specs.Firing.{stops, stoppedBy, stopped, lowestStop, ruleRefusal, rowRefusal, rooms, modeRefusal, fired}
 use Rattle.model.specs.Steps.{together, stepRefusal}
 use Rattle.model.specs.Runs.{Outcome, goOn, runFrom, run, elsewhere, endsAt, certificateRefusal}
@@ -60,8 +61,11 @@ use Rattle.exclude.specs.Calls.{excludeRefusal}
 use Rattle.dead.specs.IsDead.{deadRefusal}
 use Rattle.complement.specs.Complemented.{complementSheet, roomRefusal, complementingRefusal}
 use Rattle.convert.specs.Converted.{ofVersion, convertedSheet, lostRule, tooShort, openRefusal, convertRefusal}
+use Rattle.strip.specs.Strip.{boundOf, stripRefusal}
+use Rattle.strip.specs.Stripped.{strippedNet, strippedSheet, strippingRefusal}
+use Rattle.strip.specs.Stripped as stripping
 use Rattle.audit.specs.Audits.{auditingRefusal}
-use Rattle.promises.specs.CallTables.{bytesLeft, wholeNetTable, wholeWeightTable, wholeMovementTable, markingAfter, movesTable, certificateTable, stepTable, roomTable, convertTable, RunReads, CallTables, claimTable}
+use Rattle.promises.specs.CallTables.{bytesLeft, wholeNetTable, wholeWeightTable, wholeMovementTable, markingAfter, movesTable, certificateTable, stepTable, roomTable, convertTable, stripTable, RunReads, CallTables, claimTable}
 
 -- a sheet's table, then left-over bytes
 whole-reads : (thing : Thing) (s : List ℕ) {table : Table} {o : Option Refusal} → Reads table o → Reads (table then bytesLeft (thingNumber thing) s) (o ▸ bytesAfter thing s)
@@ -203,6 +207,28 @@ room-reads s room =
     (reads-either _ (past-limits (length (complement net .colours)) (pairs (complement net)) (length (complement net .arcs)))
     (by-less room (length (complementSheet s)))))
 
+-- stripping: the pair, its K, one of four limits or the output slice
+past-four : (k transitions modes arcs : ℕ)
+    → Decided (not (leb k 63 && leb transitions 64 && leb modes 256 && leb arcs 2048)) ((63 < k) ⊎ (64 < transitions) ⊎ (256 < modes) ⊎ (2048 < arcs))
+past-four k transitions modes arcs =
+    by-other (by-not (by-and (by-and (by-and (by-at-most k 63) (by-at-most transitions 64)) (by-at-most modes 256)) (by-at-most arcs 2048)))
+    (λ no.
+    ⊎-elim inl
+    (λ a. inr (⊎-elim inl (λ b. inr (⊎-elim inl (λ c. inr (⊎-elim (λ d. d) (λ d. absurd (no (((a, b), c), d))) (below-or 2048 arcs))) (below-or 256 modes))) (below-or 64 transitions)))
+    (below-or 63 k))
+    (⊎-elim (λ p h. omega (arith, h)) (⊎-elim (λ p h. omega (arith, h)) (⊎-elim (λ p h. omega (arith, h)) (λ p h. omega (arith, h)))))
+
+strip-reads : (s : List ℕ) (p : Pair) (room : ℕ) → Reads (stripTable s p room) (strippingRefusal s p room)
+unfolding strippingRefusal stripping.roomRefusal stripRefusal
+strip-reads s p room =
+    let stripped = strippedNet s p in
+    reads-then (net-reads s)
+    (subst (Reads _) (sym (then-assoc _ _ _ ∙ ap (λ o. onlyIf (leb (pairs (netOf s)) (p .0)) (wrong Argument NotThere) ▸ o) (then-assoc _ _ _)))
+    (reads-then (reads-plain _ (by-at-most (pairs (netOf s)) (p .0)))
+    (reads-then (reads-plain _ (by-unbounded _))
+    (reads-either _ (past-four (boundOf (K (netOf s) (p .0))) (length (stripped .modesOf)) (modes stripped) (length (stripped .arcs)))
+    (by-less room (length (strippedSheet s p)))))))
+
 -- an audit: where the room is the sheet's own length, complementing is never short of it
 room-refusal : (s : List ℕ) → roomRefusal s (length (complementSheet s)) ≡ complementRefusal (arcOffset s) (netOf s)
 unfolding roomRefusal
@@ -304,6 +330,7 @@ call-tables =
       complement = λ net room. reads-then (net-reads net) (room-reads net room);
       toVersion2 = convert-reads One Two;
       toVersion1 = convert-reads Two One;
+      strip = strip-reads;
       audit = λ net marking beside.
           subst (Reads _) (audit-refusal net marking beside)
           (reads-then (reads-then (net-reads net) (room-reads net (length (complementSheet net))))

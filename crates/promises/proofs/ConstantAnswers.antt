@@ -17,8 +17,9 @@ use Rattle.model.specs.declared.Answer.{Answer}
 use Rattle.model.specs.declared.Version.{Version}
 use Rattle.model.specs.declared.Version.the-variants.{One, Two}
 use Rattle.model.specs.First.{_▸_}
+use Rattle.model.specs.Lists.{table}
 use Rattle.model.specs.Refusals.{answer, number, wrong}
-use Rattle.model.specs.Nets.{modeNo}
+use Rattle.model.specs.Nets.{pairNo, modeNo}
 use Rattle.model.proofs.First.{left-none, none-then, some-then}
 use Rattle.heads.specs.Checks.{headRefusal}
 use Rattle.nets.specs.Nets.{netRefusal}
@@ -43,6 +44,9 @@ use Rattle.complement.specs.Complemented as complementing
 use Rattle.convert.specs.Converted.{ofVersion, convertedSheet, lostRule, convertRefusal, conversionOf}
 use Rattle.convert.specs.Converted as converting
 use Rattle.convert.specs.Promises.{SameNet}
+use Rattle.strip.specs.Strip.{strip, stripRefusal}
+use Rattle.strip.specs.Stripped.{strippedSheet, strippingRefusal, strippedOf}
+use Rattle.strip.specs.Stripped as stripping
 use Rattle.convert.proofs.Answers.{own-rule, roomy}
 use Rattle.convert.proofs.Promises.{source-only, converted-reads}
 use Rattle.audit.specs.Audits.{finds, auditingRefusal}
@@ -142,6 +146,10 @@ convert-cut : (source target : Version) → convertRefusal source target lone 0 
 unfolding convertRefusal ofVersion
 convert-cut source target = some-then _ (head-cut Net _)
 
+strip-cut : strippingRefusal lone (pairNo 0) 0 ≡ some (cutShort Net)
+unfolding strippingRefusal
+strip-cut = whole-cut _
+
 audit-cut : auditingRefusal lone [] [] ≡ some (cutShort Net)
 unfolding auditingRefusal
 audit-cut = whole-cut _
@@ -222,6 +230,20 @@ converts : (source target : Version) (net : List ℕ) → ofVersion source net �
 unfolding convertRefusal
 converts source target net e k = rw (none-then e (roomy target net k (slice (length (convertedSheet target net)) .1)))
 
+-- its pair 0 has K 5
+own-strip : stripRefusal own.example (pairNo 0) ≡ none
+unfolding stripRefusal strip table _▸_
+own-strip = refl
+
+strips : stripping.told (strippedOf own.net (pairNo 0) (slice (length (strippedSheet own.net (pairNo 0))) .0)) .carried .number ≡ 0
+unfolding strippingRefusal stripping.roomRefusal
+strips =
+    let room = slice (length (strippedSheet own.net (pairNo 0))) in
+    let accepted : stripRefusal (netOf own.net) (pairNo 0) ≡ none = rw (read-back .same) own-strip in
+    let fits : stripping.tooShort own.net (pairNo 0) (length (room .0)) ≡ none = rw (le-ltb (length (room .0)) (length (strippedSheet own.net (pairNo 0))) (room .1)) refl in
+    let none-refused : strippingRefusal own.net (pairNo 0) (length (room .0)) ≡ none = none-then (read-back .accepted) (none-then accepted fits) in
+    rw none-refused
+
 pub constant-answers : ConstantAnswers
 unfolding wholeNet wholeWeights wholeMovements beginRefusal testRefusal runOf certifyRefusal figured finds decimal decimalWithin signedDecimal
 constant-answers =
@@ -274,6 +296,10 @@ constant-answers =
           varies _ _ (two, slice (length (convertedSheet One two)) .0) (lone, [])
           (λ o a. ap (λ o. converting.told o .carried .number) (a .0) ∙ converts Two One two (own-two .back) (ap (λ n. lostRule One (n .rule)) (own-two .same) ∙ own-rule One own.net (read-back .version)))
           (λ o a. ap (λ o. converting.told o .carried .number) (a .0) ∙ rw (convert-cut Two One));
+      strip =
+          varies _ _ (own.net, pairNo 0, slice (length (strippedSheet own.net (pairNo 0))) .0) (lone, pairNo 0, [])
+          (λ o a. ap (λ o. stripping.told o .carried .number) (a .0) ∙ strips)
+          (λ o a. ap (λ o. stripping.told o .carried .number) (a .0) ∙ rw strip-cut);
       audit =
           varies _ _ (own.net, 3 ∷ 1 ∷ [], 2 ∷ 1 ∷ 3 ∷ []) (lone, [], []) (λ o a. ap (λ r. r .carried .number) (own-example .audit o a))
           (λ o a. ap (λ o. auditing.told o .carried .number) a ∙ rw audit-cut);

@@ -59,6 +59,7 @@ constant-answers-for-c =
       complement = tells (library .complement) (λ i p a. ((_, p .1), (refl, a .1), ap (λ r. r .answer .number) (a .0)));
       toVersion2 = tells (library .toVersion2) (λ i p a. ((_, p .1), (refl, a .1), ap (λ r. r .answer .number) (a .0)));
       toVersion1 = tells (library .toVersion1) (λ i p a. ((_, p .1), (refl, a .1), ap (λ r. r .answer .number) (a .0)));
+      strip = tells (library .strip) (λ i p a. ((_, p .1), (refl, a .1), ap (λ r. r .answer .number) (a .0)));
       audit = tells (library .audit) (λ i p a. (_, refl, ap (λ r. r .answer .number) a ∙ audited-number (auditing.told (auditing.auditedOf (i .0) (i .1) (i .2)))));
       statement = tells (library .statement) (λ i p a. ((_, p .1), (refl, a .1), ap (λ r. r .answer .number) (a .0)));
     }

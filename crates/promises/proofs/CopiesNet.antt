@@ -15,7 +15,7 @@ use Rattle.model.proofs.Bounded.{bounded-number}
 use Rattle.model.proofs.ComplementNet.{pairs-complement}
 use Rattle.model.proofs.Demand3.{demand3}
 use Rattle.heads.specs.Bytes.{byteAt, u16At}
-use Rattle.heads.specs.Layout.{fieldsAt, placeCount}
+use Rattle.heads.specs.Layout.{fieldsAt, placeCount, transitionCount}
 use Rattle.heads.specs.Version.{versionOf}
 use Rattle.nets.specs.Nets.{netRefusal}
 use Rattle.sheets.specs.Whole.{wholeNet}
@@ -61,6 +61,10 @@ module _ (net s : List ℕ) (accepted : netRefusal net ≡ none) (same : take (l
   same-places : placeCount s ≡ placeCount net
   unfolding u16At
   same-places = rw (same-fields, byte (fieldsAt net) (omega (arith, sized)), byte (fieldsAt net + 1) (omega (arith, sized)))
+
+  pub same-transitions : transitionCount s ≡ transitionCount net
+  unfolding u16At
+  same-transitions = rw (same-fields, byte (fieldsAt net + 2) (omega (arith, sized)), byte (fieldsAt net + 2 + 1) (omega (arith, sized)))
 
 net-accepted : (net : List ℕ) (room : ℕ) → complementingRefusal net room ≡ none → netRefusal net ≡ none
 unfolding complementingRefusal wholeNet

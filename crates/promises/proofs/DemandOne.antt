@@ -8,6 +8,7 @@ use mathlib.Core.Option.{Option, none, some}
 use lib.Dec.{leb, ltb}
 use lib.ListN.{length, take, drop}
 use native.Mathlib.Omega.{arith}
+use Rattle.model.specs.declared.Pair.{Pair}
 use Rattle.model.specs.declared.Refusal.{Refusal}
 use Rattle.model.specs.declared.Version.{Version}
 use Rattle.model.specs.declared.Version.the-variants.{One, Two}
@@ -25,6 +26,8 @@ use Rattle.step.specs.Calls.{stepModes, testStepRefusal}
 use Rattle.complement.specs.Complemented.{complementSheet, complementingRefusal, told, complemented, output}
 use Rattle.convert.specs.Converted.{convertedSheet, convertRefusal, converted, conversionOf, outputOf}
 use Rattle.convert.specs.Converted as converting
+use Rattle.strip.specs.Stripped.{strippedSheet, strippingRefusal, stripped, strippedOf}
+use Rattle.strip.specs.Stripped as stripping
 use Rattle.text.specs.declared.Put.the-variants.{To, Full}
 use Rattle.text.specs.Puts.{endWithin, putTo, putInto}
 use Rattle.statement.specs.declared.Stated.the-variants.{Written, NoRoom}
@@ -48,6 +51,16 @@ converted-kept source target net out h = go (convertRefusal source target net (l
     sheet = convertedSheet target net
 
     go : (o : Option Refusal) → converting.told (converted o (length sheet)) .carried .number ≢ 0 → converting.output o sheet out ≡ out
+    go none h = absurd (h refl)
+    go (some r) h = refl
+
+stripped-kept : (net : List ℕ) (p : Pair) (out : List ℕ) → stripping.told (strippedOf net p out) .carried .number ≢ 0 → stripping.outputOf net p out ≡ out
+stripped-kept net p out h = go (strippingRefusal net p (length out)) h
+  where
+    sheet : List ℕ
+    sheet = strippedSheet net p
+
+    go : (o : Option Refusal) → stripping.told (stripped o (length sheet)) .carried .number ≢ 0 → stripping.output o sheet out ≡ out
     go none h = absurd (h refl)
     go (some r) h = refl
 
@@ -92,6 +105,7 @@ demand-one =
           allows .1 ∙ converted-kept One Two net out (subst (λ c. converting.told c .carried .number ≢ 0) (allows .0) refused);
       toVersion1 = λ net out o allows refused.
           allows .1 ∙ converted-kept Two One net out (subst (λ c. converting.told c .carried .number ≢ 0) (allows .0) refused);
+      strip = λ net p out o allows refused. allows .1 ∙ stripped-kept net p out (subst (λ c. stripping.told c .carried .number ≢ 0) (allows .0) refused);
       run = λ net movements marking o allows refused. run-leads net movements marking (ap (λ ran. ran .accepted) (allows .0)) (allows .1);
       runNone = λ net movements marking o allows e.
           stays-is (rw e at (run-leads net movements marking (ap (λ ran. ran .accepted) (allows .0)) (allows .1)));
@@ -115,6 +129,7 @@ demand-one-for-c =
           (subst (λ c. c .answer .number ≢ 0) (allows .0) refused);
       toVersion2 = λ net out o allows refused. allows .1 ∙ converted-kept One Two net out (subst (λ c. c .answer .number ≢ 0) (allows .0) refused);
       toVersion1 = λ net out o allows refused. allows .1 ∙ converted-kept Two One net out (subst (λ c. c .answer .number ≢ 0) (allows .0) refused);
+      strip = λ net p out o allows refused. allows .1 ∙ stripped-kept net p out (subst (λ c. c .answer .number ≢ 0) (allows .0) refused);
       statement = λ input out o allows refused. allows .1 ∙ text-kept input out (subst (λ c. c .answer .number ≢ 0) (allows .0) refused);
       run = λ net movements marking o allows refused. run-leads net movements marking (ap (λ c. c .accepted) (allows .0)) (allows .1);
       runNone = λ net movements marking o allows e.

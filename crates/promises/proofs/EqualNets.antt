@@ -1,18 +1,21 @@
 -- A call's answer is the net sheet's refusal, then a function of the net that was read; the offset of 15 is all else that it takes from the sheet.
 use Prim.Native.Nat.{ℕ, zero, suc, _≤_}
-use mathlib.Core.Path.{_≡_, refl, sym, _∙_, ap}
+use mathlib.Core.Path.{_≡_, refl, sym, _∙_, ap, subst}
 use mathlib.Core.Bool.{Bool, true, false}
 use mathlib.Core.List.{List, _++_}
 use mathlib.Core.Option.{Option, none, some}
-use lib.ListN.{length}
+use lib.ListN.{length, take}
 use borrow.Author.Tests.{le-ltb}
+use Rattle.model.specs.declared.Pair.{Pair}
 use Rattle.model.specs.declared.Thing.the-variants.{Net}
 use Rattle.model.specs.declared.Fault.the-variants.{InhibitedUnbounded}
 use Rattle.model.specs.declared.Refusal.{Refusal}
+use Rattle.model.specs.declared.Version.{Version}
 use Rattle.model.specs.First.{_▸_, first, onlyIf, lowest}
-use Rattle.model.specs.Nets.{PNet, arcNo}
+use Rattle.model.specs.Nets.{PNet, arcNo, K}
 use Rattle.model.specs.Refusals.{answer, carried, wrong}
 use Rattle.model.specs.Replies.{yields}
+use Rattle.model.specs.WellFormed.{WellFormed}
 use Rattle.model.specs.Complement.{complement, inhibitsUnbounded, refusal15, complementRefusal}
 use Rattle.model.specs.Audit.{Finding, audited, auditRefusal}
 use Rattle.model.proofs.First.{left-none, none-then, then-none}
@@ -23,7 +26,7 @@ use Rattle.sheets.proofs.Accepted.{well-formed}
 use Rattle.opened.specs.Shape.{arcOffset}
 use Rattle.heads.specs.Version.{versionOf}
 use Rattle.written.specs.Written.{sheetOf}
-use Rattle.written.specs.Promises.{ReadBack}
+use Rattle.written.specs.Promises.{HasSheet, ReadBack}
 use Rattle.written.proofs.RoundTrip.{written-then-read, read-then-written, own-sheet}
 use Rattle.fire.specs.Calls.{beginRefusal, testRefusal}
 use Rattle.run.specs.Calls.{beforeRun, runOf, visitedBy, certifyRefusal}
@@ -32,11 +35,14 @@ use Rattle.weigh.specs.Calls.{figureRefusal, changeRefusal}
 use Rattle.exclude.specs.Calls.{excludeRefusal}
 use Rattle.dead.specs.IsDead.{deadRefusal}
 use Rattle.complement.specs.Complemented as complementing
+use Rattle.strip.specs.Strip.{strip, boundOf, stripRefusal}
+use Rattle.strip.specs.Stripped as stripping
 use Rattle.audit.specs.Audits as auditing
 use Rattle.statement.specs.Replay.{unlessRefused, weightsText, sheetsText, replayText, stated, statedIn}
 use Rattle.promises.specs.DemandThree.{asWritten}
-use Rattle.promises.specs.EqualNets.{OneNet, OffsetAside, AuditsAlike, Fits, Bytes, AlikeBefore, Alike, EqualNets}
+use Rattle.promises.specs.EqualNets.{OneNet, OffsetAside, AuditsAlike, Fits, StripFits, Bytes, AlikeBefore, Alike, EqualNets}
 use Rattle.promises.proofs.TwoRuns.{length-accepted, written}
+use Rattle.promises.proofs.StripWritten.{sheet-there, sheet-reads}
 
 -- refusals that are equal, or both 15
 data Aside : Option Refusal → Option Refusal → Type 0 where
@@ -88,27 +94,44 @@ complement-fits : (net out : List ℕ) → wholeNet net ≡ none → Fits net ou
 unfolding complementing.complementingRefusal complementing.roomRefusal
 complement-fits net out w fits = none-then w (rw (le-ltb (length out) (length (complementing.complementSheet net)) fits) (then-none _))
 
+strip-carried : (o : Option Refusal) (l : ℕ) → stripping.told (stripping.stripped o l) .carried ≡ carried (answer o)
+strip-carried none l = refl
+strip-carried (some r) l = refl
+
+strip-fits : (net : List ℕ) (p : Pair) (out : List ℕ) → wholeNet net ≡ none → StripFits net p out
+    → stripping.strippingRefusal net p (length out) ≡ stripRefusal (netOf net) p
+unfolding stripping.strippingRefusal stripping.roomRefusal
+strip-fits net p out w fits = none-then w (rw (le-ltb (length out) (length (stripping.strippedSheet net p)) fits) (then-none _))
+
+-- the text of a sheet with bytes after it is that of its net
+pub text-written : (v : Version) (net : PNet) → WellFormed net → HasSheet v net → (more : List ℕ) → length (sheetOf v net ++ more) ≤ 65536
+    → replayText (sheetOf v net ++ more) ≡ weightsText net more
+unfolding replayText sheetsText unlessRefused
+text-written v net well has more h =
+    let back = written-then-read v net well has in
+    rw (le-ltb 65536 (length (sheetOf v net ++ more)) h, back .restAfter more, back .sameFirst more, back .acceptedFirst more)
+
 -- a net sheet with bytes after it, which are handed back
 module _ (a : List ℕ) (bytes : Bytes a) (w : wholeNet a ≡ none) (more : List ℕ) where
   is-sheet : a ≡ sheetOf (versionOf a) (netOf a)
   is-sheet = read-then-written a bytes w
 
-  back : ReadBack (versionOf a) (netOf a)
+  well : WellFormed (netOf a)
   unfolding wholeNet
-  back = written-then-read (versionOf a) (netOf a) (well-formed a (left-none (netRefusal a) _ w)) (own-sheet a)
+  well = well-formed a (left-none (netRefusal a) _ w)
+
+  back : ReadBack (versionOf a) (netOf a)
+  back = written-then-read (versionOf a) (netOf a) well (own-sheet a)
 
   read-before : netRefusal (a ++ more) ≡ none
   read-before = ap (λ s. netRefusal (s ++ more)) is-sheet ∙ back .acceptedFirst more
 
-  net-before : netOf (a ++ more) ≡ netOf a
-  net-before = ap (λ s. netOf (s ++ more)) is-sheet ∙ back .sameFirst more
-
   rest-before : rest (answer (netRefusal (a ++ more))) (a ++ more) ≡ more
   rest-before = ap (λ s. rest (answer (netRefusal (s ++ more))) (s ++ more)) is-sheet ∙ back .restAfter more
 
-  text-before : length (a ++ more) ≤ 65536 → replayText (a ++ more) ≡ weightsText (netOf a) more
-  unfolding replayText sheetsText unlessRefused
-  text-before h = rw (le-ltb 65536 (length (a ++ more)) h, rest-before, net-before, read-before)
+  pub text-before : length (a ++ more) ≤ 65536 → replayText (a ++ more) ≡ weightsText (netOf a) more
+  text-before h =
+      ap (λ s. replayText (s ++ more)) is-sheet ∙ text-written (versionOf a) (netOf a) well (own-sheet a) more (subst (λ s. length (s ++ more) ≤ 65536) is-sheet h)
 
 module _ (a b : List ℕ) (one : OneNet a b) where
   pub whole : wholeNet b ≡ wholeNet a
@@ -141,6 +164,20 @@ module _ (a b : List ℕ) (one : OneNet a b) where
       let w = written a out (length-accepted (complementing.complementingRefusal a (length out)) _ e) e in
       let w′ = written b out′ (length-accepted (complementing.complementingRefusal b (length out′)) _ e′) e′ in
       record { first = w .readsBack; second = w′ .readsBack; net = w .same ∙ ap complement (one .net) ∙ sym (w′ .same) }
+
+  -- stripping: the same refusal, whatever the version, where there is room
+  pub strips : (p : Pair) (out out′ : List ℕ) → StripFits a p out → StripFits b p out′
+      → stripping.told (stripping.strippedOf a p out) .carried ≡ stripping.told (stripping.strippedOf b p out′) .carried
+  strips p out out′ f f′ =
+      rw (strip-carried (stripping.strippingRefusal a p (length out)), strip-carried, strip-fits a p out (one .first) f, strip-fits b p out′ (one .second) f′, one .net)
+
+  stripped-again : (p : Pair) (out out′ : List ℕ) (n n′ : ℕ) → stripping.told (stripping.strippedOf a p out) ≡ yields n
+      → stripping.told (stripping.strippedOf b p out′) ≡ yields n′ → OneNet (take n (stripping.outputOf a p out)) (take n′ (stripping.outputOf b p out′))
+  stripped-again p out out′ n n′ e e′ =
+      let r = sheet-reads a p out n e in
+      let r′ = sheet-reads b p out′ n′ e′ in
+      rw (sheet-there a p out n e, sheet-there b p out′ n′ e′)
+      (record { first = r .accepted; second = r′ .accepted; net = r .same ∙ ap (λ net. strip net p (boundOf (K net (p .0)))) (one .net) ∙ sym (r′ .same) })
 
   pub texts : (more : List ℕ) → Bytes a → Bytes b → length (a ++ more) ≤ 65536 → length (b ++ more) ≤ 65536 → replayText (b ++ more) ≡ replayText (a ++ more)
   texts more bytes bytes′ l l′ =
@@ -180,6 +217,11 @@ module _ (a b : List ℕ) (one : OneNet a b) where
             record {
               carried = rw (h .0, h′ .0) (complements out out′ f f′);
               written = λ n n′ e e′. rw (h .1, h′ .1) (one-again out out′ n n′ (rw (h .0) at e) (rw (h′ .0) at e′));
+            };
+        strip = λ p out out′ o o′ f f′ h h′.
+            record {
+              carried = rw (h .0, h′ .0) (strips p out out′ f f′);
+              written = λ n n′ e e′. rw (h .1, h′ .1) (stripped-again p out out′ n n′ (rw (h .0) at e) (rw (h′ .0) at e′));
             };
         audit = λ m m′ o o′ h h′. rw (h, h′) (audits m m′);
         before = before;

@@ -1,5 +1,5 @@
 -- A call for C tells what the library's call answers.
-use mathlib.Core.Path.{refl}
+use mathlib.Core.Path.{refl, ap}
 use mathlib.Core.Option.{Option, none, some}
 use Rattle.model.specs.Replies.{Reply}
 use Rattle.model.specs.Audit.{Finding}
@@ -14,7 +14,7 @@ use Rattle.answers.specs.declared.Answered.{Answered}
 use Rattle.answers.specs.Told.{telling, valueOr, finding, audited}
 use Rattle.promises.specs.EqualNets.{OffsetAside, AuditsAlike}
 use Rattle.promises.specs.EqualNetsForC.{carriedToC, FindingsAlike, EqualNetsForC}
-use Rattle.promises.proofs.EqualNets.{whole, net, complements, audits, texts, reads}
+use Rattle.promises.proofs.EqualNets.{whole, net, complements, strips, audits, texts, reads}
 
 finding-alike : (x y : Answered) (f : Option Finding) → OffsetAside (carriedToC x) (carriedToC y) → FindingsAlike (finding x f) (finding y f)
 finding-alike x y none h = record { answer = h; found = refl; pair = refl; excess = refl }
@@ -43,6 +43,7 @@ equal-nets-for-c a b one =
       firstDead = λ o h. rw (w, n) h;
       size = λ o h. rw (w, n) h;
       complement = λ out out′ o o′ f f′ h h′. rw (h .0, h′ .0) (complements a b one out out′ f f′);
+      strip = λ p out out′ o o′ f f′ h h′. rw (h .0, h′ .0) (ap telling (strips a b one p out out′ f f′));
       audit = λ m m′ o o′ h h′. rw (h, h′) (audits-told _ _ (audits a b one m m′));
       readNet = λ more bytes bytes′ o o′ h h′. rw (h, h′, reads a b one more bytes bytes′);
       statement = λ more bytes bytes′ out l l′ o h. rw (texts a b one more bytes bytes′ l l′) h;

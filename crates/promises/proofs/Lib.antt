@@ -8,8 +8,10 @@ pub mod Audits
 pub mod FigureOverRun
 pub mod LiveModes
 pub mod Uniqueness
+pub mod StripWritten
 pub mod EqualNets
 pub mod EqualNetsForC
+pub mod Stripping
 pub mod OwnExample
 pub mod ConstantAnswers
 pub mod ConstantAnswersForC
@@ -18,6 +20,7 @@ pub mod Accepting
 pub mod WritesNothing
 pub mod CopiesNet
 pub mod CopiesSheet
+pub mod StripFrauds
 pub mod RunFrauds
 pub mod ArcsVisited
 pub mod StepFrauds

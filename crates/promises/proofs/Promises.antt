@@ -26,6 +26,9 @@ use Rattle.sheets.proofs.Lists.{movements-within, weights-within}
 use Rattle.lists.proofs.Signs.{signed-weights}
 use Rattle.written.proofs.RoundTrip.{written-then-read, read-then-written}
 use Rattle.convert.proofs.Promises.{source-only, converted-reads, there-and-back}
+use Rattle.strip.proofs.Promises.{stripped-reads}
+use Rattle.strip.proofs.Bare.{bare-after}
+use Rattle.strip.proofs.OldModes.{old-modes, no-new-dead}
 use Rattle.written.proofs.Largest.{largest-sheet, example-lengths}
 use Rattle.fire.proofs.Promises.{accepted-begin, accepted-fire, marking-stays}
 use Rattle.run.proofs.Promises.{runs-leave, runs-keep, certified}
@@ -44,6 +47,7 @@ use Rattle.promises.proofs.TwoSteps.{two-steps}
 use Rattle.promises.proofs.DeadAsWritten.{dead-as-written}
 use Rattle.promises.proofs.TwoOrders.{two-orders}
 use Rattle.promises.proofs.Audits.{audits}
+use Rattle.promises.proofs.Stripping.{stripping}
 use Rattle.promises.proofs.FigureOverRun.{figure-over-run}
 use Rattle.promises.proofs.ArcsVisited.{arcs-visited}
 use Rattle.promises.proofs.LiveModes.{live-modes}
@@ -103,6 +107,9 @@ promises =
       claimAccepted = claim-accepted;
       figureConstant = figure-constant;
       outOfReach = out-of-reach;
+      bareAfter = bare-after;
+      oldModes = old-modes;
+      noNewDead = no-new-dead;
       acceptedNet = well-formed;
       acceptedMovements = movements-within;
       acceptedWeights = weights-within;
@@ -133,6 +140,8 @@ promises =
       sourceOnly = source-only;
       convertedReads = converted-reads;
       thereAndBack = there-and-back;
+      strippedReads = stripped-reads;
+      stripping = stripping;
       overBytes = over-bytes;
       twoRuns = two-runs;
       twoSteps = two-steps;

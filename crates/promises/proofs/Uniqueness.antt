@@ -30,6 +30,7 @@ for-c =
       complement = λ net out. answer-and-slice _ _;
       toVersion2 = λ net out. answer-and-slice _ _;
       toVersion1 = λ net out. answer-and-slice _ _;
+      strip = λ net p out. answer-and-slice _ _;
       audit = λ net marking beside. one-answer _;
       statement = λ input out. answer-and-slice _ _;
     }
@@ -62,6 +63,7 @@ uniqueness =
       complement = λ net out. answer-and-slice _ _;
       toVersion2 = λ net out. answer-and-slice _ _;
       toVersion1 = λ net out. answer-and-slice _ _;
+      strip = λ net p out. answer-and-slice _ _;
       audit = λ net marking beside. one-answer _;
       putBytes = λ out at bytes. answer-and-slice _ _;
       putDecimal = λ out at n. answer-and-slice _ _;

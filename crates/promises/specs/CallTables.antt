@@ -1,12 +1,13 @@
 -- The exact refusal table of each call, row by row in document 01's words and order. A row is given, with its number, thing, position and amount, exactly
 -- when its proposition holds and no earlier row's does.
-use Prim.Native.Nat.{ℕ, _+_, _-_, _<_}
+use Prim.Native.Nat.{ℕ, _+_, _-_, _≤_, _<_}
 use mathlib.Core.Path.{_≡_}
 use mathlib.Core.List.{List, [], _∷_, map}
 use mathlib.Core.Logic.{_⊎_, _≢_}
 use mathlib.Core.Option.{none}
 use lib.IntN.{ℤ, pos}
 use lib.ListN.{length, take, getD}
+use Rattle.model.specs.declared.Pair.{Pair}
 use Rattle.model.specs.declared.Mode.{Mode}
 use Rattle.model.specs.declared.CapacityRule.the-variants.{Weak}
 use Rattle.model.specs.declared.Version.{Version}
@@ -32,6 +33,8 @@ use Rattle.exclude.specs.Calls.{excludeRefusal}
 use Rattle.dead.specs.IsDead.{deadRefusal}
 use Rattle.complement.specs.Complemented.{complementSheet, complementingRefusal}
 use Rattle.convert.specs.Converted.{convertedSheet, convertRefusal}
+use Rattle.strip.specs.Strip.{boundOf}
+use Rattle.strip.specs.Stripped.{strippedNet, strippedSheet, strippingRefusal}
 use Rattle.audit.specs.Audits.{auditingRefusal}
 
 -- "A call that takes one sheet as an argument refuses left-over bytes by 3.": the sheet's own table, then the first byte after it
@@ -171,6 +174,20 @@ module _ (net : List ℕ) where
       then row ((target ≡ One) × (netOf net .rule ≡ Weak)) (carries 23 0 0)
       then row (room < length (convertedSheet target net)) (carries 10 0 0)
 
+  -- stripping: "the net's, 6 for the pair, 15 for unbounded K, 10 where K is above 63, another limit is passed or the output is short"
+  abbrev pub stripTable : Pair → ℕ → Table
+  stripTable p room =
+      wholeNetTable net
+      then row (pairs (netOf net) ≤ p .0) (carries 6 3 0)
+      then row (K (netOf net) (p .0) ≡ ∞) (carries 15 0 0)
+      then row
+      (((63 < boundOf (K (netOf net) (p .0)))
+      ⊎ (64 < length (strippedNet net p .modesOf))
+      ⊎ (256 < modes (strippedNet net p))
+      ⊎ (2048 < length (strippedNet net p .arcs)))
+      ⊎ (room < length (strippedSheet net p)))
+      (carries 10 0 0)
+
   -- an audit: what complementing refuses where there is room for its sheet, "then 17 for the marking and 17 for the complement's marking"
   abbrev pub auditTable : List ℕ → List ℕ → Table
   auditTable marking beside =
@@ -210,4 +227,5 @@ pub record CallTables : Type 0 where
   pub complement : (net : List ℕ) (room : ℕ) → Reads (complementTable net room) (complementingRefusal net room)
   pub toVersion2 : (net : List ℕ) (room : ℕ) → Reads (convertTable net One Two room) (convertRefusal One Two net room)
   pub toVersion1 : (net : List ℕ) (room : ℕ) → Reads (convertTable net Two One room) (convertRefusal Two One net room)
+  pub strip : (net : List ℕ) (p : Pair) (room : ℕ) → Reads (stripTable net p room) (strippingRefusal net p room)
   pub audit : (net marking beside : List ℕ) → Reads (auditTable net marking beside) (auditingRefusal net marking beside)

@@ -5,6 +5,7 @@ use mathlib.Core.List.{List}
 use mathlib.Core.Logic.{_≢_}
 use lib.IntN.{ℤ}
 use lib.ListN.{length}
+use Rattle.model.specs.declared.Pair.{Pair}
 use Rattle.model.specs.declared.Mode.{Mode}
 use Rattle.model.specs.Refusals.{number}
 use Rattle.lists.specs.Contracts.{ReadWeightsAllows, ReadMovementsAllows}
@@ -25,6 +26,8 @@ use Rattle.complement.specs.Complemented as complementing
 use Rattle.complement.specs.Contracts.{ComplementAllows}
 use Rattle.convert.specs.Converted as converting
 use Rattle.convert.specs.Contracts.{ToVersion1Allows, ToVersion2Allows}
+use Rattle.strip.specs.Stripped as stripping
+use Rattle.strip.specs.Contracts.{StripAllows}
 use Rattle.audit.specs.Audits as auditing
 use Rattle.audit.specs.Contracts.{AuditAllows}
 use Rattle.text.specs.declared.Put.{Put}
@@ -87,6 +90,7 @@ pub record ConstantAnswers : Type 0 where
   pub complement : Varies (λ (i : List ℕ × List ℕ). ComplementAllows (i .0) (i .1)) (λ o. complementing.told (o .0) .carried .number)
   pub toVersion2 : Varies (λ (i : List ℕ × List ℕ). ToVersion2Allows (i .0) (i .1)) (λ o. converting.told (o .0) .carried .number)
   pub toVersion1 : Varies (λ (i : List ℕ × List ℕ). ToVersion1Allows (i .0) (i .1)) (λ o. converting.told (o .0) .carried .number)
+  pub strip : Varies (λ (i : List ℕ × Pair × List ℕ). StripAllows (i .0) (i .1) (i .2)) (λ o. stripping.told (o .0) .carried .number)
   pub audit : Varies (λ (i : List ℕ × List ℕ × List ℕ). AuditAllows (i .0) (i .1) (i .2)) (λ o. auditing.told o .carried .number)
   pub putBytes : Varies (λ (i : List ℕ × ℕ × List ℕ). PutBytesAllows (i .0) (i .1) (i .2)) (λ o. full (o .0))
   pub putDecimal : Varies (λ (i : List ℕ × ℕ × ℕ). PutDecimalAllows (i .0) (i .1) (i .2)) (λ o. full (o .0))

@@ -1,6 +1,7 @@
 -- The calls for C: each contract accepts something, refuses something, and excludes every answer somewhere, by the number that C is told.
 use Prim.Native.Nat.{ℕ}
 use mathlib.Core.List.{List}
+use Rattle.model.specs.declared.Pair.{Pair}
 use Rattle.model.specs.declared.Mode.{Mode}
 use Rattle.abi.specs.Contracts as c
 use Rattle.promises.specs.ConstantAnswers.{Varies}
@@ -25,5 +26,6 @@ pub record ConstantAnswersForC : Type 0 where
   pub complement : Varies (λ (i : List ℕ × List ℕ). c.ComplementAllows (i .0) (i .1)) (λ o. o .0 .answer .number)
   pub toVersion2 : Varies (λ (i : List ℕ × List ℕ). c.ToVersion2Allows (i .0) (i .1)) (λ o. o .0 .answer .number)
   pub toVersion1 : Varies (λ (i : List ℕ × List ℕ). c.ToVersion1Allows (i .0) (i .1)) (λ o. o .0 .answer .number)
+  pub strip : Varies (λ (i : List ℕ × Pair × List ℕ). c.StripAllows (i .0) (i .1) (i .2)) (λ o. o .0 .answer .number)
   pub audit : Varies (λ (i : List ℕ × List ℕ × List ℕ). c.AuditAllows (i .0) (i .1) (i .2)) (λ o. o .answer .number)
   pub statement : Varies (λ (i : List ℕ × List ℕ). c.StatementAllows (i .0) (i .1)) (λ o. o .0 .answer .number)

@@ -5,6 +5,7 @@ use mathlib.Core.Path.{_≡_}
 use mathlib.Core.List.{List}
 use mathlib.Core.Logic.{_≢_}
 use lib.ListN.{take}
+use Rattle.model.specs.declared.Pair.{Pair}
 use Rattle.model.specs.declared.Mode.{Mode}
 use Rattle.model.specs.declared.Answer.{Answer}
 use Rattle.model.specs.Refusals.{number}
@@ -20,6 +21,9 @@ use Rattle.complement.specs.Contracts.{ComplementAllows}
 use Rattle.convert.specs.declared.Converted.{Converted}
 use Rattle.convert.specs.Converted as converting
 use Rattle.convert.specs.Contracts.{ToVersion1Allows, ToVersion2Allows}
+use Rattle.strip.specs.declared.Stripped.{Stripped}
+use Rattle.strip.specs.Stripped as stripping
+use Rattle.strip.specs.Contracts.{StripAllows}
 use Rattle.text.specs.declared.Put.{Put}
 use Rattle.text.specs.declared.Put.the-variants.{Full}
 use Rattle.text.specs.Contracts.{PutBytesAllows}
@@ -42,6 +46,7 @@ pub record DemandOne : Type 0 where
   pub complement : (net out : List ℕ) (o : Complemented × List ℕ) → ComplementAllows net out o → told (o .0) .carried .number ≢ 0 → o .1 ≡ out
   pub toVersion2 : (net out : List ℕ) (o : Converted × List ℕ) → ToVersion2Allows net out o → converting.told (o .0) .carried .number ≢ 0 → o .1 ≡ out
   pub toVersion1 : (net out : List ℕ) (o : Converted × List ℕ) → ToVersion1Allows net out o → converting.told (o .0) .carried .number ≢ 0 → o .1 ≡ out
+  pub strip : (net : List ℕ) (p : Pair) (out : List ℕ) (o : Stripped × List ℕ) → StripAllows net p out o → stripping.told (o .0) .carried .number ≢ 0 → o .1 ≡ out
   -- the exception; with none accepted the marking is as it was
   pub run : (net movements marking : List ℕ) (o : Ran × List ℕ) → RunAllows net movements marking o → Refused (o .0 .answer)
       → Leads (netOf net) (take (o .0 .accepted) (movementsOf movements)) marking (o .1)
@@ -58,6 +63,7 @@ pub record DemandOneForC : Type 0 where
   pub complement : (net out : List ℕ) (o : Counted × List ℕ) → forC.ComplementAllows net out o → o .0 .answer .number ≢ 0 → o .1 ≡ out
   pub toVersion2 : (net out : List ℕ) (o : Counted × List ℕ) → forC.ToVersion2Allows net out o → o .0 .answer .number ≢ 0 → o .1 ≡ out
   pub toVersion1 : (net out : List ℕ) (o : Counted × List ℕ) → forC.ToVersion1Allows net out o → o .0 .answer .number ≢ 0 → o .1 ≡ out
+  pub strip : (net : List ℕ) (p : Pair) (out : List ℕ) (o : Counted × List ℕ) → forC.StripAllows net p out o → o .0 .answer .number ≢ 0 → o .1 ≡ out
   pub statement : (input out : List ℕ) (o : Counted × List ℕ) → forC.StatementAllows input out o → o .0 .answer .number ≢ 0 → o .1 ≡ out
   pub run : (net movements marking : List ℕ) (o : Tallied × List ℕ) → forC.RunAllows net movements marking o → o .0 .answer .number ≢ 0
       → Leads (netOf net) (take (o .0 .accepted) (movementsOf movements)) marking (o .1)

@@ -6,6 +6,7 @@ use mathlib.Core.List.{List, _++_}
 use mathlib.Core.Logic.{_≢_}
 use mathlib.Core.Option.{Option, none}
 use lib.ListN.{length, take}
+use Rattle.model.specs.declared.Pair.{Pair}
 use Rattle.model.specs.declared.Mode.{Mode}
 use Rattle.model.specs.Refusals.{Carried}
 use Rattle.model.specs.Replies.{Reply, yields}
@@ -25,6 +26,9 @@ use Rattle.size.specs.Contracts.{SizeAllows}
 use Rattle.complement.specs.declared.Complemented.{Complemented}
 use Rattle.complement.specs.Complemented as complementing
 use Rattle.complement.specs.Contracts.{ComplementAllows}
+use Rattle.strip.specs.declared.Stripped.{Stripped}
+use Rattle.strip.specs.Stripped as stripping
+use Rattle.strip.specs.Contracts.{StripAllows}
 use Rattle.audit.specs.declared.Found.{Found}
 use Rattle.audit.specs.Audits as auditing
 use Rattle.audit.specs.Contracts.{AuditAllows}
@@ -55,6 +59,14 @@ Fits net out = length (complementing.complementSheet net) ≤ length out
 pub record ComplementsAlike (o o′ : Complemented × List ℕ) : Type 0 where
   pub carried : OffsetAside (complementing.told (o .0) .carried) (complementing.told (o′ .0) .carried)
   pub written : (n n′ : ℕ) → complementing.told (o .0) ≡ yields n → complementing.told (o′ .0) ≡ yields n′ → OneNet (take n (o .1)) (take n′ (o′ .1))
+
+-- stripping names no offset; where both calls write, they write one net again
+abbrev pub StripFits : List ℕ → Pair → List ℕ → Type 0
+StripFits net p out = length (stripping.strippedSheet net p) ≤ length out
+
+pub record StripsAlike (o o′ : Stripped × List ℕ) : Type 0 where
+  pub carried : stripping.told (o .0) .carried ≡ stripping.told (o′ .0) .carried
+  pub written : (n n′ : ℕ) → stripping.told (o .0) ≡ yields n → stripping.told (o′ .0) ≡ yields n′ → OneNet (take n (o .1)) (take n′ (o′ .1))
 
 -- an audit passes on what complementing refuses, and finds the same
 pub record AuditsAlike (r r′ : Reply (Option Finding)) : Type 0 where
@@ -89,6 +101,8 @@ pub record Alike (a b : List ℕ) : Type 0 where
   pub size : Within (SizeAllows a) (SizeAllows b)
   pub complement : (out out′ : List ℕ) (o o′ : Complemented × List ℕ) → Fits a out → Fits b out′
       → ComplementAllows a out o → ComplementAllows b out′ o′ → ComplementsAlike o o′
+  pub strip : (p : Pair) (out out′ : List ℕ) (o o′ : Stripped × List ℕ) → StripFits a p out → StripFits b p out′
+      → StripAllows a p out o → StripAllows b p out′ o′ → StripsAlike o o′
   pub audit : (marking beside : List ℕ) (o o′ : Found) → AuditAllows a marking beside o → AuditAllows b marking beside o′
       → AuditsAlike (auditing.told o) (auditing.told o′)
   pub before : (more : List ℕ) → Bytes a → Bytes b → AlikeBefore a b more

@@ -3,13 +3,14 @@ use Prim.Native.Nat.{ℕ, _≤_}
 use mathlib.Core.Path.{_≡_}
 use mathlib.Core.List.{List, _++_}
 use lib.ListN.{length}
+use Rattle.model.specs.declared.Pair.{Pair}
 use Rattle.model.specs.declared.Mode.{Mode}
 use Rattle.model.specs.Refusals.{Carried, carriesBy}
 use Rattle.answers.specs.declared.Answered.{Answered}
 use Rattle.answers.specs.declared.Counted.{Counted}
 use Rattle.answers.specs.declared.Audited.{Audited}
 use Rattle.abi.specs.Contracts as c
-use Rattle.promises.specs.EqualNets.{OneNet, Within, OffsetAside, Fits, Bytes}
+use Rattle.promises.specs.EqualNets.{OneNet, Within, OffsetAside, Fits, StripFits, Bytes}
 
 -- what an answer carries, as C is told it
 abbrev pub carriedToC : Answered → Carried
@@ -38,6 +39,8 @@ pub record AlikeForC (a b : List ℕ) : Type 0 where
   -- the output slice is left as the library's call leaves it
   pub complement : (out out′ : List ℕ) (o o′ : Counted × List ℕ) → Fits a out → Fits b out′
       → c.ComplementAllows a out o → c.ComplementAllows b out′ o′ → OffsetAside (carriedToC (o .0 .answer)) (carriedToC (o′ .0 .answer))
+  pub strip : (p : Pair) (out out′ : List ℕ) (o o′ : Counted × List ℕ) → StripFits a p out → StripFits b p out′
+      → c.StripAllows a p out o → c.StripAllows b p out′ o′ → o .0 .answer ≡ o′ .0 .answer
   pub audit : (marking beside : List ℕ) (o o′ : Audited) → c.AuditAllows a marking beside o → c.AuditAllows b marking beside o′
       → FindingsAlike o o′
   -- how many bytes the sheet takes is told beside the answer, and may differ

@@ -5,10 +5,12 @@ use mathlib.Core.List.{List, [], _∷_, map}
 use mathlib.Core.Logic.{_↔_, _≢_}
 use mathlib.Core.Option.{none}
 use lib.ListN.{length, take, drop, getD}
+use Rattle.model.specs.declared.Pair.{Pair}
 use Rattle.model.specs.declared.Mode.{Mode}
 use Rattle.model.specs.declared.Thing.the-variants.{Movements}
 use Rattle.model.specs.declared.Answer.{Answer}
 use Rattle.model.specs.Refusals.{number}
+use Rattle.model.specs.Replies.{yields}
 use Rattle.model.specs.Numbers.{fin}
 use Rattle.model.specs.Nets.{PNet, total, pairs, modeNo, K, row}
 use Rattle.model.specs.Firing.{modeRefusal, fired}
@@ -32,6 +34,9 @@ use Rattle.complement.specs.Contracts.{ComplementAllows}
 use Rattle.convert.specs.declared.Converted.{Converted}
 use Rattle.convert.specs.Converted as converting
 use Rattle.convert.specs.Contracts.{ToVersion1Allows, ToVersion2Allows}
+use Rattle.strip.specs.declared.Stripped.{Stripped}
+use Rattle.strip.specs.Stripped as stripping
+use Rattle.strip.specs.Contracts.{StripAllows}
 use Rattle.audit.specs.declared.Found.{Found}
 use Rattle.audit.specs.declared.Found.the-variants.{Nothing}
 use Rattle.audit.specs.Audits as audits
@@ -60,6 +65,13 @@ pub record CopiesSheet : Type 0 where
       → take (length net) (o .1) ≢ net
   pub toVersion1 : (net out : List ℕ) (o : Converted × List ℕ) → ToVersion1Allows net out o → converting.told (o .0) .carried .number ≡ 0
       → take (length net) (o .1) ≢ net
+
+-- A strip that appends nothing: where one accepts, the sheet that it was given is no output, and no sheet of the same net is one.
+pub record StripFrauds : Type 0 where
+  pub copied : (net : List ℕ) (p : Pair) (out : List ℕ) (o : Stripped × List ℕ) → StripAllows net p out o → stripping.told (o .0) .carried .number ≡ 0
+      → take (length net) (o .1) ≢ net
+  pub sameNet : (net : List ℕ) (p : Pair) (out : List ℕ) (o : Stripped × List ℕ) (n : ℕ) → StripAllows net p out o → stripping.told (o .0) ≡ yields n
+      → netOf (take n (o .1)) ≢ netOf net
 
 -- what the modes of a list take from pair p in all, and what they give
 unfoldable pub taken : PNet → List Mode → ℕ → ℕ
@@ -127,6 +139,7 @@ pub record Frauds : Type 0 where
   pub firing : WritesNothing
   pub copying : CopiesNet
   pub converting : CopiesSheet
+  pub stripping : StripFrauds
   pub running : RunFrauds
   pub visiting : VisitFrauds
   pub stepping : FirstMemberAlone

@@ -13,6 +13,7 @@ pub mod Exclusion
 pub mod Uniqueness
 pub mod EqualNets
 pub mod EqualNetsForC
+pub mod Stripping
 pub mod OwnExample
 pub mod ConstantAnswers
 pub mod ConstantAnswersForC

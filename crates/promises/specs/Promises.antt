@@ -14,6 +14,7 @@ use Rattle.sheets.specs.Accepted.{AcceptedNet, AcceptedMovements, AcceptedWeigh
 use Rattle.lists.specs.Promises.{SignedWeights}
 use Rattle.written.specs.Promises.{WrittenThenRead, ReadThenWritten, LargestSheet, ExampleLengths}
 use Rattle.convert.specs.Promises.{SourceOnly, ConvertedReads, ThereAndBack}
+use Rattle.strip.specs.Promises.{StrippedReads, BareAfter, OldModes, NoNewDead}
 use Rattle.fire.specs.Promises.{AcceptedBegin, AcceptedFire, MarkingStays}
 use Rattle.run.specs.Promises.{RunsLeave, RunsKeep, Certified}
 use Rattle.weigh.specs.Promises.{FigureIsSum, ChangeIsSum, FigureFired}
@@ -30,6 +31,7 @@ use Rattle.promises.specs.TwoSteps.{TwoSteps}
 use Rattle.promises.specs.DeadAsWritten.{DeadAsWritten}
 use Rattle.promises.specs.TwoOrders.{TwoOrders}
 use Rattle.promises.specs.Audits.{Audits}
+use Rattle.promises.specs.Stripping.{Stripping}
 use Rattle.promises.specs.FigureOverRun.{FigureOverRun}
 use Rattle.promises.specs.ArcsVisited.{ArcsVisited}
 use Rattle.promises.specs.LiveModes.{LiveModes}
@@ -88,6 +90,9 @@ pub record Promises : Type 0 where
   pub claimAccepted : claim.ClaimAccepted
   pub figureConstant : claim.FigureConstant
   pub outOfReach : claim.OutOfReach
+  pub bareAfter : BareAfter
+  pub oldModes : OldModes
+  pub noNewDead : NoNewDead
   -- of sheets, read and written
   pub acceptedNet : AcceptedNet
   pub acceptedMovements : AcceptedMovements
@@ -120,6 +125,8 @@ pub record Promises : Type 0 where
   pub sourceOnly : SourceOnly
   pub convertedReads : ConvertedReads
   pub thereAndBack : ThereAndBack
+  pub strippedReads : StrippedReads
+  pub stripping : Stripping
   pub overBytes : OverBytes
   pub twoRuns : TwoRuns
   pub twoSteps : TwoSteps

@@ -3,6 +3,7 @@ use Prim.Native.Nat.{ℕ}
 use mathlib.Core.Path.{_≡_}
 use mathlib.Core.List.{List}
 use lib.IntN.{ℤ}
+use Rattle.model.specs.declared.Pair.{Pair}
 use Rattle.model.specs.declared.Mode.{Mode}
 use Rattle.lists.specs.Contracts.{ReadWeightsAllows, ReadMovementsAllows}
 use Rattle.sheets.specs.Contracts.{AfterNetAllows, AfterWeightsAllows, AfterMovementsAllows, WholeNetAllows, WholeWeightsAllows, WholeMovementsAllows}
@@ -16,6 +17,7 @@ use Rattle.dead.specs.Contracts.{IsDeadAllows, FirstDeadAllows}
 use Rattle.size.specs.Contracts.{SizeAllows}
 use Rattle.complement.specs.Contracts.{ComplementAllows}
 use Rattle.convert.specs.Contracts.{ToVersion1Allows, ToVersion2Allows}
+use Rattle.strip.specs.Contracts.{StripAllows}
 use Rattle.audit.specs.Contracts.{AuditAllows}
 use Rattle.text.specs.Contracts.{PutBytesAllows, PutDecimalAllows, PutSignedAllows}
 use Rattle.statement.specs.Contracts.{StatementAllows}
@@ -46,6 +48,7 @@ pub record UniqueForC : Type 0 where
   pub complement : (net out : List ℕ) → Unique (c.ComplementAllows net out)
   pub toVersion2 : (net out : List ℕ) → Unique (c.ToVersion2Allows net out)
   pub toVersion1 : (net out : List ℕ) → Unique (c.ToVersion1Allows net out)
+  pub strip : (net : List ℕ) (p : Pair) (out : List ℕ) → Unique (c.StripAllows net p out)
   pub audit : (net marking beside : List ℕ) → Unique (c.AuditAllows net marking beside)
   pub statement : (input out : List ℕ) → Unique (c.StatementAllows input out)
 
@@ -76,6 +79,7 @@ pub record Uniqueness : Type 0 where
   pub complement : (net out : List ℕ) → Unique (ComplementAllows net out)
   pub toVersion2 : (net out : List ℕ) → Unique (ToVersion2Allows net out)
   pub toVersion1 : (net out : List ℕ) → Unique (ToVersion1Allows net out)
+  pub strip : (net : List ℕ) (p : Pair) (out : List ℕ) → Unique (StripAllows net p out)
   pub audit : (net marking beside : List ℕ) → Unique (AuditAllows net marking beside)
   pub putBytes : (out : List ℕ) (at : ℕ) (bytes : List ℕ) → Unique (PutBytesAllows out at bytes)
   pub putDecimal : (out : List ℕ) (at n : ℕ) → Unique (PutDecimalAllows out at n)

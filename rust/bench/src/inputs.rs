@@ -72,6 +72,8 @@ pub struct Inputs {
     /// Its first marking, and its complement's: every pair is half full.
     pub half: Vec<u32>,
     pub both: Vec<u32>,
+    /// A net of 256 pairs and 192 modes of 10 arcs each, which has room for a transition of 64 modes more: K of its last pair is 63.
+    pub strippable: Vec<u8>,
     /// `replay`'s input: the net, its weights, the movements.
     pub input: Vec<u8>,
 }
@@ -82,6 +84,8 @@ impl Inputs {
         let (places, transitions) = (64 / part, 64.min(512 / arcs) / part);
         let net = plain(places, transitions, arcs, |pair| [OPEN, 1_000_000][pair % 2]);
         let bounded = plain(places / 2, transitions, 4, |_| 1_000_000);
+        let mut strippable = plain(places, 48 / part, 10, |_| 1_000_000);
+        *strippable.pairs.last_mut().expect("a net has pairs") = (63, 63);
         let (pairs, modes) = (net.pairs.len(), 4 * transitions);
         // A walk over all modes in no simple order.
         let list: Vec<u16> = (0..8_192 / part).map(|k| (k * 167 % 251 % modes) as u16).collect();
@@ -104,6 +108,7 @@ impl Inputs {
             half: vec![500_000; bounded.pairs.len()],
             both: vec![500_000; 2 * bounded.pairs.len()],
             bounded: bounded.sheet_in(version),
+            strippable: strippable.sheet_in(version),
             input: [&sheet[..], &weights, &movements].concat(),
             net: sheet,
             other: net.sheet_in(other),

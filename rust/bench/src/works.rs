@@ -3,7 +3,7 @@
 use std::hint::black_box;
 use std::time::Instant;
 
-use pnet::Mode;
+use pnet::{Mode, Pair};
 
 use crate::inputs::Inputs;
 
@@ -75,7 +75,7 @@ pub const STATEMENT: Work = beside(
 pub const SIZED: [Work; 4] = [READ, RUN, COMPLEMENT, STATEMENT];
 
 /// The other calls, at full size; a call with a mode is given the last.
-pub const OTHERS: [Work; 17] = [
+pub const OTHERS: [Work; 18] = [
     beside("size", |i, _| pnet::size(&i.net).is_ok(), |i, _| swift::size(&i.net).is_ok()),
     own("read_weights", |i, _| pnet::read_weights(&i.weights, i.pairs).is_ok()),
     own("read_movements", |i, _| pnet::read_movements(&i.movements).is_ok()),
@@ -102,6 +102,11 @@ pub const OTHERS: [Work; 17] = [
     ),
     own("is_dead", |i, _| pnet::is_dead(&i.net, Mode(i.last)) == Ok(false)),
     own("first_dead", |i, _| pnet::first_dead(&i.net) == Ok(None)),
+    beside(
+        "strip",
+        |i, l| pnet::strip(&i.strippable, Pair(i.pairs as u16 - 1), &mut l.output).is_ok(),
+        |i, l| swift::strip(&i.strippable, i.pairs as u16 - 1, &mut l.output).is_ok(),
+    ),
     // The net is in version 1, and the other in version 2.
     beside(
         "to_version_2",

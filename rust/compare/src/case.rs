@@ -1,4 +1,4 @@
-//! One input for every call: sheets, a marking, one of the complement, a claim, a mode, a step.
+//! One input for every call: sheets, a marking, one of the complement, a claim, a mode, a pair, a step.
 
 use pnet::Mode;
 use reference::Form;
@@ -21,13 +21,15 @@ pub struct Case {
     pub marking: Vec<u32>,
     pub claim: Vec<u32>,
     pub mode: u16,
+    /// The pair that is stripped.
+    pub pair: u16,
     /// The modes of a step.
     pub step: Vec<u16>,
     /// A marking of the complement.
     pub both: Vec<u32>,
     /// What the weights' reader is given for the net's pair count.
     pub pairs: usize,
-    /// The length of the output slice of a complement or a conversion.
+    /// The length of the output slice of a call that writes a net.
     pub room: usize,
 }
 
@@ -62,6 +64,7 @@ impl Case {
             marking,
             claim,
             mode: random.below(total(&plain.modes).max(1)) as u16,
+            pair: random.below(plain.pairs.len()) as u16,
             step: generator::step(random, plain),
             pairs: plain.pairs.len(),
             room: pnet::LARGEST_NET,
@@ -89,6 +92,7 @@ impl Case {
         same.first_dead(&self.net);
         same.size(&self.net);
         same.complement(&self.net, self.room);
+        same.strip(&self.net, self.pair, self.room);
         same.to_version_2(&self.net, self.room);
         same.to_version_1(&self.net, self.room);
         same.audit(&self.net, &self.marking, &self.both);

@@ -8,7 +8,7 @@ use crate::generator::{Random, total};
 
 /// One fault more, in any of the things.
 pub fn damage(random: &mut Random, case: &mut Case, plain: &mut PlainNet) {
-    match random.below(19) {
+    match random.below(20) {
         0..=2 => spoil_sheet(random, &mut case.net),
         3..=7 => {
             spoil_net(random, plain);
@@ -32,7 +32,8 @@ pub fn damage(random: &mut Random, case: &mut Case, plain: &mut PlainNet) {
             let length = random.below(case.both.len() + 3);
             case.both.resize(length, 1);
         }
-        17 if case.form != Form::One => spoil_version_2(random, &mut case.net, plain),
+        17 => case.pair = random.pick(&[plain.pairs.len() as u16, 256, 65_535]),
+        18 if case.form != Form::One => spoil_version_2(random, &mut case.net, plain),
         _ => case.room = random.below(case.net.len() + 64),
     }
 }

@@ -241,6 +241,10 @@ pub fn complement(net: &[u8], out: &mut [u8]) -> Result<usize, Refusal> {
     writing(net, out, pnet::complement)
 }
 
+pub fn strip(net: &[u8], pair: Pair, out: &mut [u8]) -> Result<usize, Refusal> {
+    writing(net, out, |net, out| pnet::strip(net, pair, out))
+}
+
 pub fn to_version_2(net: &[u8], out: &mut [u8]) -> Result<usize, Refusal> {
     writing(net, out, pnet::to_version_2)
 }

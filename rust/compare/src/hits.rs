@@ -23,6 +23,7 @@ pub enum Call {
     FirstDead,
     Size,
     Complement,
+    Strip,
     ToVersion2,
     ToVersion1,
     Audit,
@@ -31,7 +32,7 @@ pub enum Call {
 
 use Call::*;
 
-const CALLS: [Call; 21] = [
+const CALLS: [Call; 22] = [
     ReadNet,
     ReadWeights,
     ReadMovements,
@@ -49,6 +50,7 @@ const CALLS: [Call; 21] = [
     FirstDead,
     Size,
     Complement,
+    Strip,
     ToVersion2,
     ToVersion1,
     Audit,
@@ -69,6 +71,7 @@ const WEIGHTS: &[Told] = &[(1, 1), (2, 1), (3, 1), (5, 1), (17, 1)];
 const MOVEMENTS: &[Told] = &[(1, 2), (2, 2), (3, 2), (4, 2)];
 const MARKING: &[Told] = &[(17, 3), (5, 3), (9, 3)];
 const ONE_EACH: &[Told] = &[(17, 3)];
+/// A mode or a pair that is not there.
 const MODE: &[Told] = &[(6, 3)];
 const STEP: &[Told] = &[(4, 3)];
 const STOPPED: &[Told] = &[(11, 3), (12, 3), (13, 3), (14, 3)];
@@ -96,6 +99,7 @@ fn refusals(call: Call) -> Vec<Told> {
         Exclude => [NET, WEIGHTS, MARKING, EXCLUSION].concat(),
         IsDead => [NET, MODE].concat(),
         Complement => [NET, COMPLEMENT].concat(),
+        Strip => [NET, MODE, COMPLEMENT].concat(),
         ToVersion2 => [NET, NO_ROOM].concat(),
         ToVersion1 => [NET, OF_RULE_1, NO_ROOM].concat(),
         Audit => [NET, COMPLEMENT, ONE_EACH].concat(),
@@ -201,6 +205,8 @@ impl Hits {
             "equal nets, and equal answers",
             "equal nets, and equal complements",
             "a net of rule 1, over every call",
+            "stripped bare by one mode alone",
+            "equal nets, and equally stripped",
             "a marking found by rule 1",
             "no marking found by rule 1",
             "12 or 13 by rule 1, and 11 in the complement",

@@ -18,6 +18,7 @@ mod hits;
 mod limits;
 mod rules;
 mod same;
+mod strip;
 mod truncation;
 mod version_2;
 mod versions;
@@ -59,6 +60,8 @@ fn main() -> ExitCode {
         if round % 32 == 0 {
             dead::searched(&mut same, &generator::net(&mut searches, Style::Small, 2, 2, 8));
             rules(&mut same, &mut searches);
+            let net = generator::net(&mut searches, Style::Small, 4, 3, 12);
+            strip::bare(&mut same, &mut searches, &net);
         }
         if round % 64 == 0 {
             let (net, kilograms) = generator::balanced(&mut searches);
@@ -75,6 +78,8 @@ fn main() -> ExitCode {
     same.part = format!("seed {seed}, long inputs");
     (0..hits::ENOUGH)
         .for_each(|more| same.statement(&vec![random.next() as u8; 65_537 + more * more], pnet::TEXT_ROOM));
+    same.part = format!("seed {seed}, the limits of stripping");
+    strip::at_limits(&mut same);
     same.part = format!("seed {seed}, the limits of version 2");
     version_2::at_limits(&mut same, &mut random);
     same.part = format!("seed {seed}, the largest nets cut");

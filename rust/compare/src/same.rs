@@ -2,7 +2,7 @@
 
 use std::fmt::Debug;
 
-use pnet::{Mode, Refusal};
+use pnet::{Mode, Pair, Refusal};
 
 use crate::hits::{Call, Hits};
 use crate::{guarded, version_2, visits};
@@ -31,7 +31,9 @@ pub fn members(modes: &[u16]) -> Vec<Mode> {
 }
 
 /// A call that writes a sheet.
-type Writes<E> = fn(&[u8], &mut [u8]) -> Result<usize, E>;
+trait Writes<E>: FnOnce(&[u8], &mut [u8]) -> Result<usize, E> {}
+
+impl<E, C: FnOnce(&[u8], &mut [u8]) -> Result<usize, E>> Writes<E> for C {}
 
 /// The comparison so far.
 #[derive(Default)]
@@ -232,8 +234,8 @@ impl Same {
     fn write(
         &mut self,
         call: Call,
-        engine: Writes<Refusal>,
-        reference: Writes<reference::Answer>,
+        engine: impl Writes<Refusal>,
+        reference: impl Writes<reference::Answer>,
         net: &[u8],
         room: usize,
     ) -> Option<Vec<u8>> {
@@ -248,6 +250,12 @@ impl Same {
     /// The complement, where there is one.
     pub fn complement(&mut self, net: &[u8], room: usize) -> Option<Vec<u8>> {
         self.write(Call::Complement, guarded::complement, reference::complement, net, room)
+    }
+
+    /// The sheet with a transition that strips a pair, where there is one.
+    pub fn strip(&mut self, net: &[u8], pair: u16, room: usize) -> Option<Vec<u8>> {
+        let engine = |net: &[u8], out: &mut [u8]| guarded::strip(net, Pair(pair), out);
+        self.write(Call::Strip, engine, |net, out| reference::strip(net, pair, out), net, room)
     }
 
     /// The sheet of version 2, where the net is in version 1.

@@ -1,7 +1,7 @@
 //! "Equal nets answer equally": the same net in both versions, over every call. "Only offsets in the net sheet, the sheets written and their
 //! lengths, refusal 10 for a short output, and the conversions may differ."
 
-use pnet::{LARGEST_NET, Mode, Refusal, TEXT_ROOM};
+use pnet::{LARGEST_NET, Mode, Pair, Refusal, TEXT_ROOM};
 
 use crate::case::Case;
 use crate::guarded;
@@ -20,6 +20,12 @@ pub fn answer_equally(same: &mut Same, case: &Case) {
     if let [Some(own), Some(others)] = complements {
         assert_eq!(in_other_version(same, &own), Some(others), "{}: {:?}", same.part, case.net);
         same.hits.value("equal nets, and equal complements");
+    }
+    let stripped =
+        [&case.net, &other].map(|net| written(net, |net, out| guarded::strip(net, Pair(case.pair), out)));
+    if let [Some(own), Some(others)] = stripped {
+        assert_eq!(in_other_version(same, &own), Some(others), "{}: {:?}", same.part, case.net);
+        same.hits.value("equal nets, and equally stripped");
     }
 }
 
@@ -128,11 +134,13 @@ fn of_the_net(case: &Case, net: &[u8]) -> Vec<Told> {
     let size = guarded::size(net);
     let sizes = size.map(|size| [size.pairs, size.modes, size.arcs].map(|count| count as i64).to_vec());
     let complement = guarded::complement(net, &mut vec![0; LARGEST_NET]);
+    let stripped = guarded::strip(net, Pair(case.pair), &mut vec![0; LARGEST_NET]);
     vec![
         (Call::IsDead, told(&dead), dead.into_iter().map(i64::from).collect()),
         (Call::FirstDead, told(&first), named.unwrap_or_default()),
         (Call::Size, told(&size), sizes.unwrap_or_default()),
         (Call::Complement, without_offset(told(&complement)), vec![]),
+        (Call::Strip, told(&stripped), vec![]),
     ]
 }
 

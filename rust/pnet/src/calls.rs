@@ -202,6 +202,15 @@ pub fn complement(net: &[u8], out: &mut [u8]) -> Result<usize, Refusal> {
     written.result(Sheets::net(net)).map(|length| length as usize)
 }
 
+/// Writes the net's sheet with one transition more, which strips the pair bare, and says how long it is: the transition comes last, and its mode n, for n
+/// from 0 to K, takes n where n stand there. At every marking exactly one of the new modes is enabled; the old ones keep their numbers. No byte after the
+/// sheet is touched; [`LARGEST_NET`](crate::LARGEST_NET) bytes are always room enough.
+pub fn strip(net: &[u8], pair: Pair, out: &mut [u8]) -> Result<usize, Refusal> {
+    // SAFETY: pointers and lengths are slices', and the one that is written is lent by `&mut`.
+    let written = unsafe { pnet_strip(net.as_ptr(), net.len(), pair, out.as_mut_ptr(), out.len()) };
+    written.result(Sheets::net(net)).map(|length| length as usize)
+}
+
 /// Writes the sheet of version 2 of a net in version 1, and says how long it is. No byte after it is touched;
 /// [`LARGEST_NET`](crate::LARGEST_NET) bytes are always room enough. A sheet of any other version than 1 is refused by 2.
 pub fn to_version_2(net: &[u8], out: &mut [u8]) -> Result<usize, Refusal> {

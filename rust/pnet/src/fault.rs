@@ -23,7 +23,7 @@ pub enum Fault {
     Blank,
     /// 9: a count is above a finite K.
     AboveCapacity,
-    /// 10: the complement exceeds the sheet's limits, or the output slice is shorter than what is to be written.
+    /// 10: the complement or the stripped net exceeds the sheet's limits, or the output slice is shorter than what is to be written.
     NoRoom,
     /// 11: Pre is above the count.
     Lacking,
@@ -33,7 +33,7 @@ pub enum Fault {
     Inhibited,
     /// 14: the new count is above 1,000,000.
     OverLimit,
-    /// 15: a finite I stands at a pair of unbounded K.
+    /// 15: a finite I stands at a pair of unbounded K; the pair to strip has unbounded K.
     InhibitedUnbounded,
     /// 16: kept, and given by no call: a complement number is never above 1,000,000.
     ComplementAbove,

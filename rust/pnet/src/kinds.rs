@@ -20,7 +20,7 @@ pub enum Thing {
     Weights = 1,
     /// The movements, or one that a run or a certificate refuses.
     Movements = 2,
-    /// A marking, a claim, a mode or a step.
+    /// A marking, a claim, a mode, a pair or a step.
     Argument = 3,
 }
 
@@ -29,7 +29,7 @@ impl Thing {
     pub(crate) const ALL: [Thing; 4] = [Thing::Net, Thing::Weights, Thing::Movements, Thing::Argument];
 }
 
-/// The bytes of the largest net sheet, which is of version 1: always room enough for a complement and for a conversion.
+/// The bytes of the largest net sheet, which is of version 1: always room enough for a complement, a stripped net and a conversion.
 pub const LARGEST_NET: usize = 35_083;
 
 /// Room for any text of `replay`.

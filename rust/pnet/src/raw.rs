@@ -124,6 +124,7 @@ unsafe extern "C" {
     pub fn pnet_is_dead(net: *const u8, net_length: usize, mode: Mode) -> With<bool>;
     pub fn pnet_first_dead(net: *const u8, net_length: usize) -> With<Named>;
     pub fn pnet_complement(net: *const u8, net_length: usize, out: *mut u8, room: usize) -> With<u64>;
+    pub fn pnet_strip(net: *const u8, net_length: usize, pair: Pair, out: *mut u8, room: usize) -> With<u64>;
     pub fn pnet_to_version_2(net: *const u8, net_length: usize, out: *mut u8, room: usize) -> With<u64>;
     pub fn pnet_to_version_1(net: *const u8, net_length: usize, out: *mut u8, room: usize) -> With<u64>;
     pub fn pnet_audit(

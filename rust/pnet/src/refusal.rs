@@ -65,7 +65,9 @@ impl Refusal {
     pub fn offset(&self) -> Option<u64> {
         use Fault::*;
         let of_byte = match self.fault {
-            WrongVersion | WrongLength(_) | NotRising | Blank | InhibitedUnbounded | ComplementAbove => true,
+            WrongVersion | WrongLength(_) | NotRising | Blank | ComplementAbove => true,
+            // The pair to strip is no byte.
+            InhibitedUnbounded => self.position > 0,
             CountOutside | NumberOutside | AboveCapacity | NotOneEach => self.thing != Thing::Argument,
             NotThere => self.thing == Thing::Net,
             _ => false,
@@ -110,6 +112,7 @@ impl fmt::Display for Refusal {
             (Fault::NotThere, Thing::Net) => {
                 write!(f, "the mode or pair at byte {at} of the net sheet is not there")
             }
+            (Fault::NotThere, Thing::Argument) => write!(f, "the mode or pair is not there"),
             (Fault::NotThere, _) => write!(f, "the mode is not there"),
             (Fault::NotRising, _) => write!(f, "the arc at byte {at} is not above the one before"),
             (Fault::Blank, _) => write!(f, "the arc at byte {at} is blank"),
@@ -118,10 +121,7 @@ impl fmt::Display for Refusal {
                 write!(f, "the first marking at byte {at} is above the pair's capacity")
             }
             (Fault::NoRoom, _) => {
-                write!(
-                    f,
-                    "what is to be written exceeds the room for it, or a complement the limits of a sheet"
-                )
+                write!(f, "what is to be written exceeds the room for it, or the limits of a sheet")
             }
             (Fault::Lacking, _) => write!(f, "pair {at} holds {amount} too few"),
             (Fault::OverCapacity, _) => {
@@ -130,6 +130,9 @@ impl fmt::Display for Refusal {
             (Fault::Inhibited, _) => write!(f, "pair {at} holds {amount} over the inhibitor"),
             (Fault::OverLimit, _) => {
                 write!(f, "pair {at} would hold {amount} over the counter's limit, 1,000,000")
+            }
+            (Fault::InhibitedUnbounded, _) if at == 0 => {
+                write!(f, "the pair to strip has unbounded capacity")
             }
             (Fault::InhibitedUnbounded, _) => {
                 write!(f, "the arc at byte {at} inhibits a pair of unbounded capacity")

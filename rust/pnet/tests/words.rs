@@ -113,7 +113,9 @@ fn of_a_marking_and_a_mode() {
     let plain = example();
     says(test(&plain, &[1_000_001, 0], Mode(0)), "5: pair 0 holds more than 1,000,000");
     says(test(&plain, &[6, 0], Mode(0)), "9: pair 0 holds more than its capacity");
-    says(test(&plain, &[0, 0], Mode(1)), "6: the mode is not there");
+    says(test(&plain, &[0, 0], Mode(1)), "6: the mode or pair is not there");
+    let missing = run(&plain, &movements(&[1]), &mut [3, 0]).result;
+    says(missing, "6: the mode is not there");
     says(test(&plain, &[0, 0], Mode(0)), "11: pair 0 holds 1 too few");
     says(test(&plain, &[5, 0], Mode(0)), "13: pair 0 holds 1 over the inhibitor");
     says(
@@ -159,7 +161,7 @@ fn of_a_step() {
     let once = [Mode(0)];
     says(test_step(&plain, &[3, 0], &[]), "4: the step has no mode, or more than 64");
     says(test_step(&plain, &[3, 0], &[Mode(0); 65]), "4: the step has no mode, or more than 64");
-    says(fire_step(&plain, &mut [3, 0], &[Mode(0), Mode(1)]), "6: the mode is not there");
+    says(fire_step(&plain, &mut [3, 0], &[Mode(0), Mode(1)]), "6: the mode or pair is not there");
     says(fire_step(&plain, &mut [3, 0], &[Mode(0); 9]), "11: pair 0 holds 6 too few");
     says(test_step(&plain, &[5, 0], &once), "13: pair 0 holds 1 over the inhibitor");
     let mut marking = [3, 0];
@@ -171,7 +173,7 @@ fn of_a_complement() {
     let room = &mut [0; LARGEST_NET];
     says(
         complement(&example(), &mut room[..90]),
-        "10: what is to be written exceeds the room for it, or a complement the limits of a sheet",
+        "10: what is to be written exceeds the room for it, or the limits of a sheet",
     );
     says(
         complement(&net(&[(OPEN, 0)], &[arc(0, 0, 1, 0, 4)]), room),
@@ -180,6 +182,24 @@ fn of_a_complement() {
     // A mode that can never happen is no reason to refuse the net.
     let retired = net(&[(1_000_000, 0)], &[arc(0, 0, 1, 0, 0)]);
     assert_eq!((is_dead(&retired, Mode(0)), complement(&retired, room)), (Ok(true), Ok(65)));
+}
+
+#[test]
+fn of_a_stripped_pair() {
+    let (plain, room) = (example(), &mut [0; LARGEST_NET]);
+    let length = strip(&plain, Pair(0), room).unwrap();
+    let stripped = room[..length].to_vec();
+    // Mode n + 1 takes n.
+    assert_eq!(size(&stripped), Ok(Size { pairs: 2, modes: 7, arcs: 8 }));
+    let mut marking = [3, 1];
+    assert_eq!((fire(&stripped, &mut marking, Mode(4)), marking), (Ok(()), [0, 1]));
+    says(strip(&plain, Pair(2), room), "6: the mode or pair is not there");
+    let unbounded = strip(&plain, Pair(1), room);
+    says(unbounded, "15: the pair to strip has unbounded capacity");
+    assert_eq!(unbounded.unwrap_err().offset(), None);
+    let too_long = "10: what is to be written exceeds the room for it, or the limits of a sheet";
+    says(strip(&plain, Pair(0), &mut room[..length - 1]), too_long);
+    says(strip(&net(&[(64, 0)], &[]), Pair(0), room), too_long);
 }
 
 #[test]
@@ -194,7 +214,7 @@ fn of_version_2_and_conversions() {
     says(to_version_1(&one, room), "2: the net sheet is of no version that this call reads");
     says(
         to_version_1(&two, &mut room[..64]),
-        "10: what is to be written exceeds the room for it, or a complement the limits of a sheet",
+        "10: what is to be written exceeds the room for it, or the limits of a sheet",
     );
     assert_eq!(size(&two), size(&one));
     let with = |at: usize, byte: u8| {

@@ -2,6 +2,7 @@
 
 use crate::answer::{Answer, Refusal};
 use crate::bound::Bound;
+use crate::build::PlainArc;
 use crate::kinds::{Mode, Pair};
 use crate::limits::{ARC_BYTES, LARGEST, SHORT_ARC_BYTES};
 use crate::sheet::Sheet;
@@ -25,6 +26,14 @@ pub struct Arc {
     pub mode: Mode,
     pub pair: Pair,
     pub flow: Flow,
+}
+
+impl Arc {
+    /// What the sheet says of it.
+    pub fn plain(&self) -> PlainArc {
+        let Flow { pre, post, inhibitor } = self.flow;
+        PlainArc { mode: self.mode.0, pair: self.pair.0, pre, post, inhibitor: inhibitor.field() }
+    }
 }
 
 /// "All 16 bytes must be there, then 6 for mode, 6 for pair, 7, 5 for Pre, Post and I in turn, 8."

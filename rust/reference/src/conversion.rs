@@ -1,8 +1,6 @@
 //! "Conversion from 1 to 2 and back, with the old bytes returned exactly."
 
 use crate::answer::{Answer, Refusal, Thing};
-use crate::build::{PlainArc, PlainNet};
-use crate::net::Net;
 use crate::net_sheet::whole_net_of;
 use crate::output::written;
 use crate::rule::Rule;
@@ -26,25 +24,5 @@ fn converted(net: &[u8], from: Version, to: Version, output: &mut [u8]) -> Resul
     if net.rule() == Rule::Weak {
         return Err(Answer::refused(Refusal::WeakRule, Thing::Net, 0));
     }
-    written(&plain(&net).sheet_in(to), output)
-}
-
-/// What the sheet says, field by field.
-fn plain(net: &Net) -> PlainNet {
-    PlainNet {
-        colours: net.colours.clone(),
-        modes: net.modes.clone(),
-        pairs: net.capacity.iter().map(|capacity| capacity.field()).zip(net.first.iter().copied()).collect(),
-        arcs: net
-            .arcs
-            .iter()
-            .map(|arc| PlainArc {
-                mode: arc.mode.0,
-                pair: arc.pair.0,
-                pre: arc.flow.pre,
-                post: arc.flow.post,
-                inhibitor: arc.flow.inhibitor.field(),
-            })
-            .collect(),
-    }
+    written(&net.plain().sheet_in(to), output)
 }

@@ -1,6 +1,6 @@
 //! A plain reading of docs/RULES.md: reading a finite P-net, testing and firing one mode or a step of
-//! several at once, running a list of movements, checking a certificate, complementing, auditing a marking
-//! by the complement's, the figure, markings out of reach, locally dead modes, both versions of a net
+//! several at once, running a list of movements, checking a certificate, complementing, stripping a pair,
+//! auditing a marking by the complement's, the figure, markings out of reach, locally dead modes, both versions of a net
 //! sheet and both rules of version 2, `replay`.
 //!
 //! Each call takes sheets as bytes and gives the answer, value and lent slices of docs/RULES.md exactly.
@@ -32,6 +32,7 @@ mod run;
 mod sheet;
 mod size;
 mod step;
+mod strip;
 mod version;
 mod weight_sheet;
 
@@ -58,5 +59,6 @@ pub use rule::Rule;
 pub use run::{Ran, run};
 pub use size::{Size, size};
 pub use step::{fire_step, test_step};
+pub use strip::strip;
 pub use version::Version;
 pub use weight_sheet::read_weights;

@@ -2,6 +2,7 @@
 
 use crate::arc::{Arc, BLANK, Flow};
 use crate::bound::Bound;
+use crate::build::PlainNet;
 use crate::form::Form;
 use crate::kinds::Mode;
 use crate::rule::Rule;
@@ -27,6 +28,16 @@ impl Net {
     /// The rule in force.
     pub fn rule(&self) -> Rule {
         self.form.rule()
+    }
+
+    /// What its sheet says, field by field.
+    pub fn plain(&self) -> PlainNet {
+        PlainNet {
+            colours: self.colours.clone(),
+            modes: self.modes.clone(),
+            pairs: self.capacity.iter().zip(&self.first).map(|(k, &first)| (k.field(), first)).collect(),
+            arcs: self.arcs.iter().map(Arc::plain).collect(),
+        }
     }
 
     /// How many pairs the net has.

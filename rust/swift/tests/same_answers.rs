@@ -269,6 +269,48 @@ fn converting_gives_the_same_sheet() {
     assert_eq!(seen, (0..=10).chain([23]).collect());
 }
 
+/// The same sheet, or refusal, of a stripped pair.
+fn same_strip(net: &[u8], pair: u16, room: usize, seen: &mut BTreeSet<u32>) {
+    let (mut swiftly, mut plainly) = (vec![170; room], vec![170; room]);
+    let swift = swift::strip(net, pair, &mut swiftly).map_err(of_swift);
+    let plain = reference::strip(net, pair, &mut plainly).map_err(of_reference);
+    assert_eq!(swift, plain, "{net:?} {pair}");
+    assert!(swiftly == plainly, "{net:?} {pair}");
+    seen.insert(swift.err().map_or(0, |answer| answer.0));
+}
+
+#[test]
+fn stripping_gives_the_same_sheet() {
+    let (mut random, mut seen) = (Random::new(44), BTreeSet::new());
+    for round in 0..8_000 {
+        let net = if round % 20 == 0 { any_net(&mut random).0 } else { any_net_for_lists(&mut random).0 };
+        let room = if random.once_in(8) { random.below(300) } else { 36_000 };
+        let sheet = sheet_of(&mut random, &net, 5);
+        same_strip(&sheet, random.below(net.pairs.len() + 1) as u16, room, &mut seen);
+    }
+    assert_eq!(seen, (0..=10).chain([15]).collect());
+}
+
+#[test]
+fn at_the_limits_of_stripping_the_answers_are_the_same() {
+    let mut seen = BTreeSet::new();
+    for form in Form::ALL {
+        for capacity in [0, 1, 61, 62, 63, 64, 65, 1_000_000] {
+            for modes in [vec![1; 63], vec![1; 64], vec![64; 3], vec![64, 64, 64, 1], vec![64; 4], vec![]] {
+                let net = PlainNet { colours: vec![2], modes, pairs: vec![(capacity, 0); 2], arcs: vec![] };
+                same_strip(&net.sheet_in(form), 1, 36_000, &mut seen);
+            }
+            for arcs in [1_984, 1_985, 2_047, 2_048] {
+                let mut net = finite(vec![20]);
+                net.pairs[7].0 = capacity.max(2);
+                net.arcs = (0..arcs).map(|n| reference::build::arc(n / 20, n % 20, 1, 0, u32::MAX)).collect();
+                same_strip(&net.sheet_in(form), 7, 36_000, &mut seen);
+            }
+        }
+    }
+    assert_eq!(seen, [0, 10].into());
+}
+
 /// The counts of a net and its complement: in step, or one of them anything.
 fn both_markings(random: &mut Random, net: &PlainNet) -> (Vec<u32>, Vec<u32>) {
     let counts: Vec<u32> = net.pairs.iter().map(|pair| pair.1).collect();

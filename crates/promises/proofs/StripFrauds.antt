@@ -1,0 +1,68 @@
+-- The net that stripping writes has a transition more.
+use Prim.Native.Nat.{ℕ, _+_}
+use mathlib.Core.Path.{_≡_, refl, sym, _∙_, ap, subst}
+use mathlib.Core.List.{List}
+use mathlib.Core.Logic.{_≢_}
+use mathlib.Core.Option.{Option, none, some}
+use lib.ListN.{length, take, drop}
+use native.Mathlib.Omega.{arith}
+use Rattle.model.specs.declared.Pair.{Pair}
+use Rattle.model.specs.declared.Refusal.{Refusal}
+use Rattle.model.specs.Nets.{K}
+use Rattle.model.specs.WellFormed.{WellFormed}
+use Rattle.model.specs.Replies.{yields}
+use Rattle.model.proofs.First.{left-none}
+use Rattle.heads.specs.Layout.{transitionCount}
+use Rattle.heads.specs.Version.{versionOf}
+use Rattle.nets.specs.Nets.{netRefusal}
+use Rattle.sheets.specs.Whole.{wholeNet}
+use Rattle.sheets.specs.Decoded.{netOf}
+use Rattle.sheets.proofs.Accepted.{well-formed}
+use Rattle.written.proofs.NetStands.{transitions-of}
+use Rattle.written.proofs.RoundTrip.{written-then-read}
+use Rattle.strip.specs.Strip.{boundOf}
+use Rattle.strip.specs.Stripped.{strippedNet, strippedSheet, strippingRefusal, stripped, told, strippedOf, outputOf}
+use Rattle.strip.proofs.Arcs.{transitions-many}
+use Rattle.strip.proofs.Promises.{has-sheet}
+use Rattle.promises.specs.Frauds.{StripFrauds}
+use Rattle.promises.proofs.Accepting.{number-none}
+use Rattle.promises.proofs.CopiesNet.{same-transitions}
+use Rattle.promises.proofs.StripWritten.{whole-before, output-is, sheet-there, sheet-reads}
+
+-- a call that answers number 0 answers the sheet's length
+length-yields : (o : Option Refusal) (l : ℕ) → told (stripped o l) .carried .number ≡ 0 → told (stripped o l) ≡ yields l
+length-yields none l e = refl
+length-yields (some r) l e = let z = number-none (some r) e in let y : _≡_ {A = ℕ} 0 1 = cc in absurd (omega arith)
+
+module _ (net : List ℕ) (p : Pair) (out : List ℕ) (n : ℕ) (e : told (strippedOf net p out) ≡ yields n) where
+  one-more : length (strippedNet net p .modesOf) ≡ length (netOf net .modesOf) + 1
+  one-more = transitions-many (netOf net) p (boundOf (K (netOf net) (p .0)))
+
+  another-net : netOf (take n (outputOf net p out)) ≢ netOf net
+  another-net q =
+      let same : strippedNet net p ≡ netOf net = sym (sheet-reads net p out n e .same) ∙ ap netOf (sym (sheet-there net p out n e)) ∙ q in
+      omega (arith, one-more, ap (λ m. length (m .modesOf)) same)
+
+  -- the output begins with the sheet, which is read first
+  written-transitions : transitionCount (outputOf net p out) ≡ length (netOf net .modesOf) + 1
+  unfolding wholeNet
+  written-transitions =
+      let r = sheet-reads net p out n e in
+      let well : WellFormed (strippedNet net p) = subst WellFormed (r .same) (well-formed (strippedSheet net p) (left-none (netRefusal (strippedSheet net p)) _ (r .accepted))) in
+      let read = written-then-read (versionOf net) (strippedNet net p) well (has-sheet net p) .sameFirst (drop (length (strippedSheet net p)) out) in
+      sym (transitions-of (outputOf net p out)) ∙ ap (λ s. length (netOf s .modesOf)) (output-is net p out n e) ∙ ap (λ m. length (m .modesOf)) read ∙ one-more
+
+  not-copied : take (length net) (outputOf net p out) ≢ net
+  unfolding wholeNet
+  not-copied q =
+      let accepted = left-none (netRefusal net) _ (whole-before net p out n e) in
+      omega (arith, written-transitions, same-transitions net (outputOf net p out) accepted q, transitions-of net)
+
+pub strip-frauds : StripFrauds
+strip-frauds =
+    record {
+      copied = λ net p out o allows accepted q.
+          let e = length-yields (strippingRefusal net p (length out)) (length (strippedSheet net p)) (sym (ap (λ c. told c .carried .number) (allows .0)) ∙ accepted) in
+          not-copied net p out (length (strippedSheet net p)) e (ap (take (length net)) (sym (allows .1)) ∙ q);
+      sameNet = λ net p out o n allows e q. another-net net p out n (sym (ap told (allows .0)) ∙ e) (ap (λ left. netOf (take n left)) (sym (allows .1)) ∙ q);
+    }

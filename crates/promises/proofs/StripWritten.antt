@@ -1,0 +1,51 @@
+-- What stripping leaves, where it answers a length: the sheet, and the rest as found.
+use Prim.Native.Nat.{ℕ}
+use mathlib.Core.Path.{_≡_, refl, sym, _∙_, ap}
+use mathlib.Core.List.{List, _++_}
+use mathlib.Core.Option.{Option, none, some, Option·none-ne-some}
+use lib.ListN.{length, take, drop}
+use lib.Seq.{take-at, drop-at}
+use Rattle.model.specs.declared.Pair.{Pair}
+use Rattle.model.specs.declared.Refusal.{Refusal}
+use Rattle.model.specs.Replies.{yields}
+use Rattle.model.proofs.First.{left-none, right-none}
+use Rattle.sheets.specs.Whole.{wholeNet}
+use Rattle.sheets.specs.Decoded.{netOf}
+use Rattle.strip.specs.Strip.{stripRefusal}
+use Rattle.strip.specs.Stripped.{strippedSheet, roomRefusal, strippingRefusal, stripped, told, output, strippedOf, outputOf}
+use Rattle.strip.specs.Promises.{StripReads}
+use Rattle.strip.proofs.Promises.{stripped-reads}
+
+length-told : (o : Option Refusal) (l : ℕ) {n : ℕ} → told (stripped o l) ≡ yields n → (o ≡ none) × (n ≡ l)
+length-told none l {n} e = let v : some l ≡ some n = ap (λ r. r .value) e in (refl, cc)
+length-told (some r) l {n} e = let v : none ≡ some n = ap (λ r. r .value) e in absurd (Option·none-ne-some n v)
+
+module _ (net : List ℕ) (p : Pair) (out : List ℕ) (n : ℕ) (e : told (strippedOf net p out) ≡ yields n) where
+  abbrev sheet : List ℕ
+  sheet = strippedSheet net p
+
+  none-refused : strippingRefusal net p (length out) ≡ none
+  none-refused = length-told (strippingRefusal net p (length out)) (length sheet) e .0
+
+  size : n ≡ length sheet
+  size = length-told (strippingRefusal net p (length out)) (length sheet) e .1
+
+  pub whole-before : wholeNet net ≡ none
+  unfolding strippingRefusal
+  whole-before = left-none _ _ none-refused
+
+  pub pair-accepted : stripRefusal (netOf net) p ≡ none
+  unfolding strippingRefusal roomRefusal
+  pair-accepted = left-none _ _ (right-none (wholeNet net) _ none-refused)
+
+  pub output-is : outputOf net p out ≡ sheet ++ drop (length sheet) out
+  output-is = ap (λ o. output o sheet out) none-refused
+
+  pub sheet-there : take n (outputOf net p out) ≡ sheet
+  sheet-there = ap (take n) output-is ∙ take-at sheet (drop (length sheet) out) n (sym size)
+
+  pub rest-there : drop n (outputOf net p out) ≡ drop n out
+  rest-there = ap (drop n) output-is ∙ drop-at sheet (drop (length sheet) out) n (sym size) ∙ ap (λ k. drop k out) (sym size)
+
+  pub sheet-reads : StripReads net p
+  sheet-reads = stripped-reads net p whole-before pair-accepted

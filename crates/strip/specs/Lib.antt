@@ -1,0 +1,5 @@
+pub mod Strip
+pub mod Stripped
+pub mod Contracts
+pub mod Parts
+pub mod Promises
