@@ -64,6 +64,7 @@ enum {
     PNET_PAIRS = 256,             /* at most, and so many counts in a marking */
     PNET_STEP = 64,               /* modes of a step, at most */
     PNET_LARGEST_NET = 35083,     /* bytes, of a complement too */
+    PNET_LARGEST_LIST = 16389,    /* bytes of a movement sheet */
     PNET_LARGEST_COUNT = 1000000, /* in a sheet or a marking */
     PNET_TEXT_ROOM = 262144       /* bytes, for any text of replay */
 };
@@ -74,6 +75,7 @@ enum {
  *   No  Given exactly when                                                        Position
  *    0  accepted                                                                  0
  *    1  fewer than 4 bytes, or fewer than 4 + L                                   0
+ *       fewer than 5 damaged bytes, in pnet_salvage                               0
  *    2  the version byte is not 1, of a net sheet not 1 or 2                      4
  *       it is not the version that a conversion is from                           4
  *    3  L is 0                                                                    0
@@ -168,6 +170,16 @@ struct pnet_audited {
     int64_t excess;
 };
 
+/* How many bytes of a fresh movement sheet were written, how many movements it has, how many more were considered and dropped, and the answer to
+ * the first of these, all 0 if there is none; all 0 where the call is refused. */
+struct pnet_salvaged {
+    struct pnet_answer answer;
+    uint64_t length;
+    uint64_t kept;
+    uint64_t dropped;
+    struct pnet_answer stop;
+};
+
 /* How many pairs, modes and arcs a net has; each 0 where the call is refused. */
 struct pnet_sized {
     struct pnet_answer answer;
@@ -228,6 +240,16 @@ struct pnet_ran pnet_run(const uint8_t *net, size_t net_length, const uint8_t *m
  * lowest pair that ends elsewhere (PNET_ARGUMENT). The claim's counts are compared, and may be any. */
 struct pnet_answer pnet_certify(const uint8_t *net, size_t net_length, const uint8_t *movements, size_t movements_length,
                                 const uint32_t *claim, size_t counts);
+
+/* What can be kept of a damaged movement sheet: writes a fresh sheet with the longest run of its leading movements that the net accepts from its
+ * first marking, from the first byte of `out` on. No byte after it is touched, and PNET_LARGEST_LIST bytes are always room enough. Bytes
+ * past the length L are ignored; where L says more than is there, what is there is used; a lone last byte is dropped; at most 8,192 movements
+ * are considered. `stop` is the first movement's refusal, 6, 11, 12, 13 or 14 (PNET_MOVEMENTS) with its amount. The sheet written runs whole
+ * from the first marking, and with the first dropped movement added it does not; a sheet that is whole and runs whole is written as it is.
+ * Refuses: the net; of the damaged bytes 1 where they are fewer than 5, 3 where L is 0, 2 (PNET_MOVEMENTS); 10 where `room` is less than
+ * the sheet takes. A refused call writes nothing. */
+struct pnet_salvaged pnet_salvage(const uint8_t *net, size_t net_length, const uint8_t *damaged, size_t damaged_length, uint8_t *out,
+                                  size_t room);
 
 /* The lightship figure of the marking: the sum of weight times count. Writes nothing.
  * Refuses: the net; the weights; the marking: 17, then pair by pair 5 and 9 (PNET_ARGUMENT). */

@@ -48,6 +48,8 @@ write(
 )
 # The same net as it is mailed over a slow link.
 (folder / "mailed.sheet").write_bytes(net(pairs, modes, CAPACITIES_AND_FIRST, arcs, version=2))
+# The movements as a tablet sent them that died: its upload ends in the seventh.
+(folder / "cut.sheet").write_bytes(movements(MOVEMENTS, modes)[: 5 + 2 * 6 + 1])
 (folder / "retired.sheet").write_bytes(net(pairs, with_retired, CAPACITIES_AND_FIRST, arcs + retired))
 
 # Blasting takes all pigs forward, n of them by mode n of a transition more: what the engine's `strip` writes of the net.

@@ -13,13 +13,14 @@ A list has, each with its lines below it, indented; `#` starts a comment, which 
     case NAME           `call fire, net P1, marking 3 1, mode 0`, of a step `modes 0 1` or `modes 65 times 0`, of an audit `beside 3 1 2`, the complement's
                         marking; what it answers, `accepted` or
                         `refused by 13, thing 3, at 0, amount 1` (a number that is not said is 0), with what it yields, `value 91`, `yes`, `no`, `mode 1 pair 1`,
-                        `pair 6 excess -1` or of a run `ran 3 arcs 8`: how many were accepted and how many arcs visited;
+                        `pair 6 excess -1`, of a run `ran 3 arcs 8`: how many were accepted and how many arcs visited, or of a salvage `length 11 kept 3 dropped 1`;
+                        `salvage_stop` is the same call, and what it answers is the first refusal that it reports;
                         `leaves 2 1`, the marking after (else it is as before); `writes NAME`, the sheet in the bytes lent, of which it has `room` (else
                         nothing is written)
     both NET, COMPLEMENT   a row is a marking, `|` and the counts of its complement pairs, a mode, and `to` the marking after, or the refusals: `13 at 0 amount 1 | 11 at 2 amount 1`.
                         Each is tested and fired, in the net and in its complement: four cases.
 
-Sheets at the limits are made by limits.py, those of both versions by versions.py, those that are stripped by stripping.py, by name; `refit` is the net of examples/refit, `blasted` the same stripped of its pigs forward. A call is added in two places: a row of CALLS, and an arm with its number in crates/cases/src/calls.rt, in the
+Sheets at the limits are made by limits.py, those of both versions by versions.py, those that are stripped by stripping.py, damaged movement sheets by damaged.py, by name; `refit` is the net of examples/refit, `blasted` the same stripped of its pigs forward. A call is added in two places: a row of CALLS, and an arm with its number in crates/cases/src/calls.rt, in the
 group that tells what it tells. A call that tells something new gets a group, a function in src/told.rt and a line in answer_of.
 
 A case in stdin is the length of what follows, then eight parts, a length before each: call, number and room; name; first and second run of bytes, where the modes of
@@ -29,7 +30,7 @@ import pathlib, re, struct, sys
 here = pathlib.Path(__file__).resolve().parent
 top = here.parent.parent
 sys.path[:0] = [str(here), str(top / "examples")]
-import limits, longest_run, stripping, versions
+import damaged, limits, longest_run, stripping, versions
 from sheets import UNBOUNDED, encode_movements as movements, encode_net as net, encode_weights as weights
 
 # The call's number, and the words that name its first and its second run of bytes.
@@ -54,9 +55,11 @@ CALLS = {
     "first_dead": (49, "net", ""),
     "audit": (50, "net", "beside"),
     "run": (64, "net", "movements"),
+    "salvage": (80, "net", "movements"),
+    "salvage_stop": (81, "net", "movements"),
 }
 
-sheets = dict(limits.SHEETS, **versions.SHEETS, **stripping.SHEETS, **{name: (top / f"examples/refit/{file}.sheet").read_bytes() for name, file in (("refit", "net"), ("blasted", "blasted"))})
+sheets = dict(limits.SHEETS, **versions.SHEETS, **stripping.SHEETS, **damaged.SHEETS, **{name: (top / f"examples/refit/{file}.sheet").read_bytes() for name, file in (("refit", "net"), ("blasted", "blasted"))})
 markings = dict(limits.MARKINGS)
 cases = []
 
@@ -115,7 +118,7 @@ def add(name, call, arguments, told, after, written):
 
 def answer_of(call, line):
     """What is told, as src/told.rt puts it."""
-    found = re.fullmatch(r"(?:accepted|refused by (\d+)(?:, thing (\d+))?(?:, at (\d+))?(?:, amount (\d+))?)(?:, (value -?\d+|yes|no|mode \d+ pair \d+|pair \d+ excess -?\d+|ran \d+ arcs \d+))?", line)
+    found = re.fullmatch(r"(?:accepted|refused by (\d+)(?:, thing (\d+))?(?:, at (\d+))?(?:, amount (\d+))?)(?:, (value -?\d+|yes|no|mode \d+ pair \d+|pair \d+ excess -?\d+|ran \d+ arcs \d+|length \d+ kept \d+ dropped \d+))?", line)
     assert found, line
     word, *rest = (found[5] or "no").split()
     told = [int(number or 0) for number in found.groups()[:4]]
@@ -123,6 +126,8 @@ def answer_of(call, line):
         told += [rest[0].startswith("-"), *divmod(abs(int(rest[0])), 2**32)]
     elif word in ("mode", "ran"):
         told += [word == "mode", int(rest[0]), int(rest[2])]
+    elif word == "length":
+        told += [int(rest[0]), int(rest[2]), int(rest[4])]
     elif word == "pair":
         high, low = divmod(abs(int(rest[2])), 2**32)
         told += [1 + rest[2].startswith("-"), int(rest[0]) * 65536 + high, low]

@@ -21,6 +21,7 @@ use Rattle.complement.specs.Complemented as complement
 use Rattle.convert.specs.Converted as convert
 use Rattle.strip.specs.Stripped as strip
 use Rattle.audit.specs.Audits as audit
+use Rattle.salvage.specs.Salvaged as salvage
 use Rattle.statement.specs.Replay.{stated, statedIn}
 use Rattle.answers.specs.declared.Answered.{Answered}
 use Rattle.answers.specs.declared.Counted.{Counted}
@@ -30,7 +31,8 @@ use Rattle.answers.specs.declared.Decided.{Decided}
 use Rattle.answers.specs.declared.Named.{Named}
 use Rattle.answers.specs.declared.Sized.{Sized}
 use Rattle.answers.specs.declared.Audited.{Audited}
-use Rattle.answers.specs.Told.{answered, counted, weighed, decided, named, sized, audited, textTold}
+use Rattle.answers.specs.declared.Reported.{Reported}
+use Rattle.answers.specs.Told.{answered, counted, weighed, decided, named, sized, audited, reported, textTold}
 use Rattle.abi.specs.Told.{ran, taken}
 
 -- the readers, on a run of bytes
@@ -98,6 +100,9 @@ module _ (net : List ℕ) where
 
   abbrev pub AuditAllows : List ℕ → List ℕ → Audited → Type 0
   AuditAllows marking beside told = told ≡ audited (audit.told (audit.auditedOf net marking beside))
+
+  abbrev pub SalvageAllows : List ℕ → List ℕ → Reported × List ℕ → Type 0
+  SalvageAllows damaged out o = (o .0 ≡ reported (salvage.told (salvage.salvageOf net damaged out))) × (o .1 ≡ salvage.outputOf net damaged out)
 
 abbrev pub StatementAllows : List ℕ → List ℕ → Counted × List ℕ → Type 0
 StatementAllows input out o = (o .0 ≡ counted (textTold (stated input out))) × (o .1 ≡ statedIn input out)

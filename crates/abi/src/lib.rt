@@ -6,6 +6,7 @@ pub mod dying;
 pub mod excluding;
 pub mod moving;
 pub mod reading;
+pub mod salvaging;
 pub mod sizing;
 pub mod stating;
 pub mod stripping;

@@ -7,11 +7,13 @@ use lib.ListN.{length}
 use Rattle.model.specs.declared.Thing.the-variants.{Net}
 use Rattle.model.specs.declared.Fault.the-variants.{NoRoom as NoRoomFor}
 use Rattle.model.specs.declared.Answer.{Answer}
+use Rattle.model.specs.declared.Answer.the-variants.{Accepted}
 use Rattle.model.specs.Refusals.{Carried, carried}
 use Rattle.model.specs.Replies.{Reply, yields, refuses}
 use Rattle.model.specs.Nets.{pairNo, modeNo}
 use Rattle.model.specs.Dead.{DeadMode}
 use Rattle.model.specs.Audit.{Finding}
+use Rattle.salvage.specs.declared.Report.{Report}
 use Rattle.size.specs.declared.NetSize.{NetSize}
 use Rattle.statement.specs.declared.Stated.{Stated}
 use Rattle.statement.specs.declared.Stated.the-variants.{Written, NoRoom}
@@ -22,6 +24,7 @@ use Rattle.answers.specs.declared.Decided.{Decided}
 use Rattle.answers.specs.declared.Named.{Named}
 use Rattle.answers.specs.declared.Sized.{Sized}
 use Rattle.answers.specs.declared.Audited.{Audited}
+use Rattle.answers.specs.declared.Reported.{Reported}
 
 -- what an answer carries
 abbrev pub telling : Carried → Answered
@@ -65,6 +68,13 @@ finding a (some f) = record { answer = a; found = true; pair = f .pair; excess =
 
 abbrev pub audited : Reply (Option Finding) → Audited
 audited r = finding (telling (r .carried)) (valueOr none (r .value))
+
+-- what a salvage reports, all 0 where a refused call has nothing to report
+abbrev pub reporting : Answered → Report → Reported
+reporting a r = record { answer = a; length = r .length; kept = r .kept; dropped = r .dropped; stop = answered (r .stop) }
+
+abbrev pub reported : Reply Report → Reported
+reported r = reporting (telling (r .carried)) (valueOr (record { length = 0; kept = 0; dropped = 0; stop = Accepted }) (r .value))
 
 -- the text of `replay`; 10: "or the output slice is shorter than it"
 abbrev pub textTold : Stated → Reply ℕ

@@ -10,6 +10,7 @@ use model::Mode;
 use model::Pair;
 use model::Refusal;
 use model::Thing;
+use salvage::Salvaged;
 use size::Measured;
 use statement::Stated;
 use strip::Stripped;
@@ -26,10 +27,11 @@ ghost use Rattle.complement.specs.Complemented.{told as complementTold};
 ghost use Rattle.convert.specs.Converted.{told as convertedTold};
 ghost use Rattle.dead.specs.FirstDead.{told as firstDeadTold};
 ghost use Rattle.dead.specs.IsDead.{told as deadnessTold};
+ghost use Rattle.salvage.specs.Salvaged.{told as salvageTold};
 ghost use Rattle.size.specs.Sizes.{told as measuredTold};
 ghost use Rattle.strip.specs.Stripped.{told as strippedTold};
 ghost use Rattle.weigh.specs.Calls.{told as figuredTold};
-ghost use Rattle.answers.specs.Told.{answered, counted, textTold, weighed, decided, naming, named, sized, finding, audited};
+ghost use Rattle.answers.specs.Told.{answered, counted, textTold, weighed, decided, naming, named, sized, finding, audited, reported};
 
 #[repr(C)]
 pub struct Answered {
@@ -93,6 +95,16 @@ pub struct Audited {
     pub found: bool,
     pub pair: Pair,
     pub excess: i64,
+}
+
+// How long the fresh sheet is, how many movements it keeps and how many were dropped, and the answer to the first of these.
+#[repr(C)]
+pub struct Reported {
+    pub answer: Answered,
+    pub length: u64,
+    pub kept: u64,
+    pub dropped: u64,
+    pub stop: Answered,
 }
 
 pub fn accepted() -> Answered
@@ -302,5 +314,29 @@ pub fn tell_audit(found: Found) -> Audited
         },
         Found::Nothing => none_out(accepted()),
         Found::Refused(refusal) => none_out(refused(refusal)),
+    }
+}
+
+pub fn tell_salvage(salvaged: Salvaged) -> Reported
+    ensures { λ r. ⌜ r ≡ reported (salvageTold salvaged) ⌝ }
+{
+    match salvaged {
+        Salvaged::Written(report) => {
+            let stop = report.stop;
+            Reported {
+                answer: accepted(),
+                length: report.length as u64,
+                kept: report.kept as u64,
+                dropped: report.dropped as u64,
+                stop: tell(stop),
+            }
+        }
+        Salvaged::Refused(refusal) => Reported {
+            answer: refused(refusal),
+            length: 0,
+            kept: 0,
+            dropped: 0,
+            stop: accepted(),
+        },
     }
 }

@@ -1,5 +1,5 @@
 // The calls, by the numbers that tests/cases/make.py gives them, 16 to each group that tells alike. `first` is the net or the sheet that is read, `second` the
-// weights, the movements, the modes of a step or the complement's marking. The last arm of a group is its last call.
+// weights, the movements, damaged or not, the modes of a step or the complement's marking. The last arm of a group is its last call.
 use crate::audits::audit;
 use crate::parts::count_in;
 use crate::parts::part;
@@ -10,7 +10,9 @@ use crate::told::told_count;
 use crate::told::told_decision;
 use crate::told::told_kilograms;
 use crate::told::told_name;
+use crate::told::told_report;
 use crate::told::told_run;
+use crate::told::told_stop;
 use abi::complementing::pnet_complement;
 use abi::converting::pnet_to_version_1;
 use abi::converting::pnet_to_version_2;
@@ -25,6 +27,7 @@ use abi::moving::pnet_test;
 use abi::reading::pnet_read_movements;
 use abi::reading::pnet_read_net;
 use abi::reading::pnet_read_weights;
+use abi::salvaging::pnet_salvage;
 use abi::stripping::pnet_strip;
 use abi::weighing::pnet_change;
 use abi::weighing::pnet_figure;
@@ -72,6 +75,14 @@ fn look(call: u32, mode: Mode, first: &[u8], second: &[u8], marking: &[u32]) -> 
     }
 }
 
+// One call, whose report and whose first refusal are told as two.
+fn salvage(call: u32, first: &[u8], second: &[u8], out: &mut [u8]) -> Told {
+    match call {
+        80 => told_report(pnet_salvage(first, second, out)),
+        _ => told_stop(pnet_salvage(first, second, out)),
+    }
+}
+
 fn tell(
     call: u32,
     number: u32,
@@ -86,7 +97,8 @@ fn tell(
         1 => told_count(count(call, number, first, out)),
         2 => told_kilograms(weigh(call, mode, first, second, marking)),
         3 => look(call, mode, first, second, marking),
-        _ => told_run(pnet_run(first, second, marking)),
+        4 => told_run(pnet_run(first, second, marking)),
+        _ => salvage(call, first, second, out),
     }
 }
 

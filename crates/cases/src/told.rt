@@ -1,10 +1,12 @@
 // What a call tells C, in one form: document 01's number, thing and position, document 02's amount, then what the call yields: a number as its sign (1 where it is negative), its upper and
-// its lower 32 bits; the movements and the arcs of a run after a 0; yes as 1; a mode and its pair after a 1; a pair and its excess after a 1, or a 2 where that is negative, the pair's number above the upper bits.
+// its lower 32 bits; the movements and the arcs of a run after a 0; yes as 1; a mode and its pair after a 1; a pair and its excess after a 1, or a 2 where that is negative, the pair's number above the upper bits;
+// of a salvage the length, the movements kept and those dropped.
 use answers::Answered;
 use answers::Audited;
 use answers::Counted;
 use answers::Decided;
 use answers::Named;
+use answers::Reported;
 use answers::Tallied;
 use answers::Weighed;
 
@@ -44,6 +46,21 @@ pub(crate) fn told_run(tallied: Tallied) -> Told {
         high: (tallied.accepted % 4_294_967_296) as u32,
         low: (tallied.arcs % 4_294_967_296) as u32,
     }
+}
+
+pub(crate) fn told_report(reported: Reported) -> Told {
+    let answer = reported.answer;
+    Told {
+        answer,
+        sign: (reported.length % 4_294_967_296) as u32,
+        high: (reported.kept % 4_294_967_296) as u32,
+        low: (reported.dropped % 4_294_967_296) as u32,
+    }
+}
+
+pub(crate) fn told_stop(reported: Reported) -> Told {
+    let stop = reported.stop;
+    told_alone(stop)
 }
 
 // For the least number too nothing wraps.

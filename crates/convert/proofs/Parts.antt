@@ -20,10 +20,10 @@ use Rattle.written.specs.Puts.{partOf, sheetSize}
 use Rattle.written.proofs.Stands.{Stands, stands-left}
 use Rattle.written.proofs.SheetLength.{ByMode, counts-section, pairs-section, section-by-mode, sheet-length, sheet-size, sheet-least, sheet-most}
 use Rattle.written.proofs.ByMode.{by-mode}
+use Rattle.written.proofs.Puts.{part-is}
 use Rattle.written.proofs.NetStands.{fields-stand}
 use Rattle.written.proofs.RoundTrip.{pairs-there}
 use Rattle.convert.specs.Parts.{commonBytes, modeGroup}
-use Rattle.convert.proofs.Segments.{part-is}
 
 module _ (v : Version) (net : PNet) where
   fields-parts : flatten (fieldsOf v net) ≡ commonBytes net ++ sectionBytes v net

@@ -1,32 +1,19 @@
--- A list told by its numbers: the arcs of a mode are those of its segment, and a part of a run is what stands there.
+-- The arcs of a mode are those of its segment.
 use Prim.Native.Nat.{ℕ, _+_, _-_}
-use mathlib.Core.Path.{_≡_, refl, sym, _∙_, ap, ap₂}
+use mathlib.Core.Path.{_≡_, refl, _∙_, ap, ap₂}
 use mathlib.Core.List.{List, [], _∷_, _++_, append-nil, flatMap}
-use lib.ListN.{length, getD}
+use lib.ListN.{length}
 use native.Mathlib.Omega.{arith}
 use Rattle.model.specs.declared.Mode.{Mode}
 use Rattle.model.specs.declared.Version.{Version}
 use Rattle.model.specs.Nets.{NetArc, arcNo}
 use Rattle.model.specs.Lists.{joined}
 use Rattle.model.proofs.Each.{each-joined}
-use Rattle.model.proofs.Joined.{joined-ext, joined-split, joined-front}
+use Rattle.model.proofs.Joined.{joined-ext, joined-split}
 use Rattle.opened.specs.Starts.{ModeArcs}
 use Rattle.written.specs.Written.{arcBytes, ofMode}
-use Rattle.written.specs.Puts.{partOf}
-use Rattle.written.proofs.Stands.{Stands}
-use Rattle.written.proofs.Sections.{section-one, section-joined, joined-length}
+use Rattle.written.proofs.Sections.{by-numbers, section-one, section-joined, joined-length}
 use Rattle.written.proofs.ByMode.{of-append, of-own, of-other}
-
-by-numbers : {A : Type 0} (d : A) (xs : List A) → xs ≡ joined (length xs) (λ i. getD xs i d ∷ [])
-unfolding joined
-by-numbers d [] = refl
-by-numbers d (x ∷ xs) = ap (λ r. x ∷ r) (by-numbers d xs) ∙ sym (joined-front (length xs) (λ i. getD (x ∷ xs) i d ∷ []))
-
-pub part-is : {s xs : List ℕ} {at : ℕ} → Stands s at xs → (n : ℕ) → n ≡ length xs → partOf s at n ≡ xs
-part-is {s} {xs} {at} stands n e =
-    ap (partOf s at) e
-    ∙ joined-ext (length xs) _ _ (λ i l. ap (λ b. b ∷ []) (stands .each i (at + i) l refl))
-    ∙ sym (by-numbers 0 xs)
 
 module _ (arcs : List NetArc) (t : Mode) (start count : ℕ) (own : ModeArcs arcs t start count) where
   abbrev one : ℕ → List NetArc

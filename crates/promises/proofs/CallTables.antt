@@ -65,7 +65,9 @@ use Rattle.strip.specs.Strip.{boundOf, stripRefusal}
 use Rattle.strip.specs.Stripped.{strippedNet, strippedSheet, strippingRefusal}
 use Rattle.strip.specs.Stripped as stripping
 use Rattle.audit.specs.Audits.{auditingRefusal}
-use Rattle.promises.specs.CallTables.{bytesLeft, wholeNetTable, wholeWeightTable, wholeMovementTable, markingAfter, movesTable, certificateTable, stepTable, roomTable, convertTable, stripTable, RunReads, CallTables, claimTable}
+use Rattle.promises.specs.CallTables.{bytesLeft, wholeNetTable, wholeWeightTable, wholeMovementTable, markingAfter, movesTable, certificateTable, stepTable, roomTable, convertTable, stripTable, RunReads, SalvageReads, CallTables, claimTable}
+use Rattle.salvage.specs.Salvaged as salvaging
+use Rattle.salvage.specs.Salvaged.{freshSheet, modesIn, trial, salvageRefusal}
 
 -- a sheet's table, then left-over bytes
 whole-reads : (thing : Thing) (s : List ℕ) {table : Table} {o : Option Refusal} → Reads table o → Reads (table then bytesLeft (thingNumber thing) s) (o ▸ bytesAfter thing s)
@@ -301,6 +303,20 @@ module _ (source target : Version) (s : List ℕ) (room : ℕ) where
       (reads-then source-reads
       (reads-then (net-reads s) (reads-then (lost-reads target (netOf s .rule)) (reads-plain _ (by-less room (length (convertedSheet target s)))))))
 
+-- a salvage, and the movement at which it stops
+salvage-reads : (net damaged : List ℕ) → SalvageReads net damaged
+unfolding salvageRefusal salvaging.damagedRefusal salvaging.tooShort trial
+salvage-reads net damaged =
+    record {
+      refusal = λ room.
+          reads-then (net-reads net)
+          (subst (Reads _) (four _ _ _ _)
+          (reads-then (reads-plain _ (by-less (length damaged) 5))
+          (reads-then (reads-plain _ (by-equal (bodyLength damaged) 0))
+          (reads-then (reads-plain _ (by-not (by-equal (version damaged) 1))) (reads-plain _ (by-less room (length (freshSheet net damaged))))))));
+      stop = moves-reads (netOf net) (modesIn damaged) (netOf net .start);
+    }
+
 pub call-tables : CallTables
 unfolding beginRefusal testRefusal testStepRefusal certifyRefusal figureRefusal changeRefusal excludeRefusal deadRefusal complementingRefusal
 call-tables =
@@ -335,4 +351,5 @@ call-tables =
           subst (Reads _) (audit-refusal net marking beside)
           (reads-then (reads-then (net-reads net) (room-reads net (length (complementSheet net))))
           (reads-then (one-each-reads (netOf net) marking) (one-each-reads (complement (netOf net)) beside)));
+      salvage = salvage-reads;
     }

@@ -13,15 +13,21 @@ use Rattle.fire.specs.Contracts.{TestAllows, FireAllows}
 use Rattle.step.specs.Contracts.{TestStepAllows, FireStepAllows}
 use Rattle.run.specs.Contracts.{RunAllows, CertifyAllows}
 use Rattle.answers.specs.declared.Answered.{Answered}
+use Rattle.salvage.specs.declared.Salvaged.{Salvaged}
+use Rattle.salvage.specs.declared.Salvaged.the-variants.{Written, Refused}
+use Rattle.salvage.specs.Salvaged as salvaging
+use Rattle.salvage.specs.Contracts.{SalvageAllows}
 use Rattle.answers.specs.declared.Tallied.{Tallied}
+use Rattle.answers.specs.declared.Reported.{Reported}
+use Rattle.answers.specs.Told.{reported}
 use Rattle.abi.specs.Contracts as c
 use Rattle.statement.specs.Example as sheets
 use Rattle.promises.specs.OwnExample as own
 use Rattle.promises.specs.ConstantAnswers.{Only, NotConstant, Varies}
-use Rattle.promises.specs.ConstantAmounts.{ConstantAmountsForC, ConstantAmounts}
+use Rattle.promises.specs.ConstantAmounts.{stopBy, ConstantAmountsForC, ConstantAmounts}
 use Rattle.promises.proofs.ConstantAnswers.{accepts-and-refuses}
 use Rattle.promises.proofs.ConstantAnswersForC.{tells}
-use Rattle.promises.proofs.OwnExample.{tests, lacks, steps, lacks-together, runs-whole, run-is, certifies, lacks-certified}
+use Rattle.promises.proofs.OwnExample.{tests, lacks, steps, lacks-together, runs-whole, run-is, certifies, lacks-certified, salvages-whole, salvages-three}
 
 module _ {I O : Type 0} (Allows : I → O → Type 0) (amountOf : O → ℕ) where
   varies : (n : ℕ) (i j : I) → 0 < n → Only Allows amountOf 0 i → Only Allows amountOf n j → Varies Allows amountOf
@@ -55,7 +61,16 @@ certify-varies : Varies (λ (i : List ℕ × List ℕ × List ℕ). CertifyAllow
 certify-varies =
     varies _ _ 1 (own.net, own.three, 0 ∷ 3 ∷ []) (own.net, sheets.movements, 0 ∷ 3 ∷ []) (omega arith) (by certifies) (by lacks-certified)
 
+salvage-varies : Varies (λ (i : List ℕ × List ℕ × List ℕ). SalvageAllows (i .0) (i .1) (i .2)) (λ o. stopBy (o .0))
+salvage-varies =
+    varies _ _ 1 (own.net, own.three, own.room) (own.net, sheets.movements, own.room) (omega arith)
+    (λ o a. ap stopBy (a .0 ∙ salvages-whole)) (λ o a. ap stopBy (a .0 ∙ salvages-three))
+
 -- what the calls for C tell
+stop-told : (x : Salvaged) → reported (salvaging.told x) .stop .amount ≡ stopBy x
+stop-told (Written report) = refl
+stop-told (Refused r) = refl
+
 module _ {I O P : Type 0} {Allows : I → O → Type 0} {amountOf : O → ℕ} (Tells : I → P → Type 0) (told : P → ℕ) where
   told-varies : Varies Allows amountOf → ((i : I) (p : P) → Tells i p → (o : O) × Allows i o × (told p ≡ amountOf o)) → NotConstant Tells told
   told-varies v back = tells v back .notConstant
@@ -81,6 +96,9 @@ for-c =
       certify =
           told-varies (λ (i : List ℕ × List ℕ × List ℕ). c.CertifyAllows (i .0) (i .1) (i .2)) (λ o. o .amount) certify-varies
           (λ i p a. (_, refl, ap (λ (r : Answered). r .amount) a));
+      salvage =
+          told-varies (λ (i : List ℕ × List ℕ × List ℕ). c.SalvageAllows (i .0) (i .1) (i .2)) (λ o. o .0 .stop .amount) salvage-varies
+          (λ i p a. ((_, p .1), (refl, a .1), ap (λ (r : Reported). r .stop .amount) (a .0) ∙ stop-told (salvaging.salvageOf (i .0) (i .1) (i .2))));
     }
 
 pub constant-amounts : ConstantAmounts
@@ -92,5 +110,6 @@ constant-amounts =
       fireStep = fire-step-varies .notConstant;
       run = run-varies .notConstant;
       certify = certify-varies .notConstant;
+      salvage = salvage-varies .notConstant;
       forC = for-c;
     }

@@ -51,6 +51,8 @@ use Rattle.convert.proofs.Answers.{own-rule, roomy}
 use Rattle.convert.proofs.Promises.{source-only, converted-reads}
 use Rattle.audit.specs.Audits.{finds, auditingRefusal}
 use Rattle.audit.specs.Audits as auditing
+use Rattle.salvage.specs.Salvaged.{salvageRefusal}
+use Rattle.salvage.specs.Salvaged as salvaging
 use Rattle.text.specs.declared.Put.{Put}
 use Rattle.text.specs.Decimals.{digit, decimal, decimalWithin, signedDecimal}
 use Rattle.text.specs.Puts.{endWithin, putTo}
@@ -153,6 +155,10 @@ strip-cut = whole-cut _
 audit-cut : auditingRefusal lone [] [] ≡ some (cutShort Net)
 unfolding auditingRefusal
 audit-cut = whole-cut _
+
+salvage-cut : salvageRefusal lone [] 0 ≡ some (cutShort Net)
+unfolding salvageRefusal
+salvage-cut = whole-cut _
 
 -- the sheets of document 01's example, each a run of its own, hand back an empty part
 net-accepted : netRefusal own.net ≡ none
@@ -303,6 +309,9 @@ constant-answers =
       audit =
           varies _ _ (own.net, 3 ∷ 1 ∷ [], 2 ∷ 1 ∷ 3 ∷ []) (lone, [], []) (λ o a. ap (λ r. r .carried .number) (own-example .audit o a))
           (λ o a. ap (λ o. auditing.told o .carried .number) a ∙ rw audit-cut);
+      salvage =
+          varies _ _ (own.net, sheets.movements, own.room) (lone, [], []) (λ o a. ap (λ r. r .carried .number) (own-example .salvage o a .told))
+          (λ o a. ap (λ o. salvaging.told o .carried .number) (a .0) ∙ rw salvage-cut);
       putBytes = varies _ _ (lone, 0, digits) ([], 0, digits) fits no-room;
       putDecimal = varies _ _ (lone, 0, 0) ([], 0, 0) fits no-room;
       putSigned = varies _ _ (lone, 0, pos 0) ([], 0, pos 0) fits no-room;

@@ -61,5 +61,6 @@ constant-answers-for-c =
       toVersion1 = tells (library .toVersion1) (λ i p a. ((_, p .1), (refl, a .1), ap (λ r. r .answer .number) (a .0)));
       strip = tells (library .strip) (λ i p a. ((_, p .1), (refl, a .1), ap (λ r. r .answer .number) (a .0)));
       audit = tells (library .audit) (λ i p a. (_, refl, ap (λ r. r .answer .number) a ∙ audited-number (auditing.told (auditing.auditedOf (i .0) (i .1) (i .2)))));
+      salvage = tells (library .salvage) (λ i p a. ((_, p .1), (refl, a .1), ap (λ r. r .answer .number) (a .0)));
       statement = tells (library .statement) (λ i p a. ((_, p .1), (refl, a .1), ap (λ r. r .answer .number) (a .0)));
     }

@@ -28,6 +28,8 @@ use Rattle.convert.specs.Converted.{convertedSheet, convertRefusal, converted, 
 use Rattle.convert.specs.Converted as converting
 use Rattle.strip.specs.Stripped.{strippedSheet, strippingRefusal, stripped, strippedOf}
 use Rattle.strip.specs.Stripped as stripping
+use Rattle.salvage.specs.declared.Report.{Report}
+use Rattle.salvage.specs.Salvaged as salvaging
 use Rattle.text.specs.declared.Put.the-variants.{To, Full}
 use Rattle.text.specs.Puts.{endWithin, putTo, putInto}
 use Rattle.statement.specs.declared.Stated.the-variants.{Written, NoRoom}
@@ -64,6 +66,14 @@ stripped-kept net p out h = go (strippingRefusal net p (length out)) h
     go none h = absurd (h refl)
     go (some r) h = refl
 
+salvaged-kept : (net damaged out : List ℕ) → salvaging.told (salvaging.salvageOf net damaged out) .carried .number ≢ 0 → salvaging.outputOf net damaged out ≡ out
+salvaged-kept net damaged out h = go (salvaging.salvageRefusal net damaged (length out)) (salvaging.report net damaged) h
+  where
+    go : (o : Option Refusal) (report : Report) → salvaging.told (salvaging.salvaged o report) .carried .number ≢ 0
+        → salvaging.output o (salvaging.freshSheet net damaged) out ≡ out
+    go none report h = absurd (h refl)
+    go (some r) report h = refl
+
 put-kept : (out : List ℕ) (at : ℕ) (bytes : List ℕ) → putTo out at bytes ≡ Full → putInto out at bytes ≡ out
 unfolding endWithin putTo putInto
 put-kept out at bytes e = go (leb (at + length bytes) (length out)) e
@@ -81,7 +91,7 @@ text-kept input out h = go (ltb (length out) room) h
     go true h = refl
     go false h = absurd (h refl)
 
-stays-is : {net : PNet} {m m′ : List ℕ} → Leads net [] m m′ → m′ ≡ m
+pub stays-is : {net : PNet} {m m′ : List ℕ} → Leads net [] m m′ → m′ ≡ m
 stays-is stays = refl
 
 run-leads : (net movements marking : List ℕ) {n : ℕ} {left : List ℕ} → n ≡ runOf net movements marking .accepted → left ≡ runOf net movements marking .marking
@@ -106,6 +116,8 @@ demand-one =
       toVersion1 = λ net out o allows refused.
           allows .1 ∙ converted-kept Two One net out (subst (λ c. converting.told c .carried .number ≢ 0) (allows .0) refused);
       strip = λ net p out o allows refused. allows .1 ∙ stripped-kept net p out (subst (λ c. stripping.told c .carried .number ≢ 0) (allows .0) refused);
+      salvage = λ net damaged out o allows refused.
+          allows .1 ∙ salvaged-kept net damaged out (subst (λ c. salvaging.told c .carried .number ≢ 0) (allows .0) refused);
       run = λ net movements marking o allows refused. run-leads net movements marking (ap (λ ran. ran .accepted) (allows .0)) (allows .1);
       runNone = λ net movements marking o allows e.
           stays-is (rw e at (run-leads net movements marking (ap (λ ran. ran .accepted) (allows .0)) (allows .1)));
@@ -130,6 +142,7 @@ demand-one-for-c =
       toVersion2 = λ net out o allows refused. allows .1 ∙ converted-kept One Two net out (subst (λ c. c .answer .number ≢ 0) (allows .0) refused);
       toVersion1 = λ net out o allows refused. allows .1 ∙ converted-kept Two One net out (subst (λ c. c .answer .number ≢ 0) (allows .0) refused);
       strip = λ net p out o allows refused. allows .1 ∙ stripped-kept net p out (subst (λ c. c .answer .number ≢ 0) (allows .0) refused);
+      salvage = λ net damaged out o allows refused. allows .1 ∙ salvaged-kept net damaged out (subst (λ c. c .answer .number ≢ 0) (allows .0) refused);
       statement = λ input out o allows refused. allows .1 ∙ text-kept input out (subst (λ c. c .answer .number ≢ 0) (allows .0) refused);
       run = λ net movements marking o allows refused. run-leads net movements marking (ap (λ c. c .accepted) (allows .0)) (allows .1);
       runNone = λ net movements marking o allows e.

@@ -1,6 +1,6 @@
 -- A call's answer is the net sheet's refusal, then a function of the net that was read; the offset of 15 is all else that it takes from the sheet.
 use Prim.Native.Nat.{ℕ, zero, suc, _≤_}
-use mathlib.Core.Path.{_≡_, refl, sym, _∙_, ap, subst}
+use mathlib.Core.Path.{_≡_, refl, sym, _∙_, ap, ap₂, subst}
 use mathlib.Core.Bool.{Bool, true, false}
 use mathlib.Core.List.{List, _++_}
 use mathlib.Core.Option.{Option, none, some}
@@ -16,6 +16,7 @@ use Rattle.model.specs.Nets.{PNet, arcNo, K}
 use Rattle.model.specs.Refusals.{answer, carried, wrong}
 use Rattle.model.specs.Replies.{yields}
 use Rattle.model.specs.WellFormed.{WellFormed}
+use Rattle.model.specs.Runs.{run}
 use Rattle.model.specs.Complement.{complement, inhibitsUnbounded, refusal15, complementRefusal}
 use Rattle.model.specs.Audit.{Finding, audited, auditRefusal}
 use Rattle.model.proofs.First.{left-none, none-then, then-none}
@@ -38,6 +39,7 @@ use Rattle.complement.specs.Complemented as complementing
 use Rattle.strip.specs.Strip.{strip, boundOf, stripRefusal}
 use Rattle.strip.specs.Stripped as stripping
 use Rattle.audit.specs.Audits as auditing
+use Rattle.salvage.specs.Salvaged.{damagedRefusal, modesIn, sheetOfFirst, reportOf, tooShort, salvaged, output, trial, salvageRefusal, salvageOf, outputOf}
 use Rattle.statement.specs.Replay.{unlessRefused, weightsText, sheetsText, replayText, stated, statedIn}
 use Rattle.promises.specs.DemandThree.{asWritten}
 use Rattle.promises.specs.EqualNets.{OneNet, OffsetAside, AuditsAlike, Fits, StripFits, Bytes, AlikeBefore, Alike, EqualNets}
@@ -158,6 +160,24 @@ module _ (a b : List ℕ) (one : OneNet a b) where
         value = rw (one .net) (audit-value (audited (netOf b) m m′) (audit-refusals m m′));
       }
 
+  -- a salvage takes the net's run of the damaged modes, and its refusal
+  trials : (damaged : List ℕ) → trial a damaged ≡ trial b damaged
+  unfolding trial
+  trials damaged = ap (λ n. run n (modesIn damaged) (n .start)) (one .net)
+
+  salvage-refusals : (damaged : List ℕ) (room : ℕ) → salvageRefusal a damaged room ≡ salvageRefusal b damaged room
+  unfolding salvageRefusal
+  salvage-refusals damaged room =
+      ap₂ (λ w o. w ▸ damagedRefusal damaged ▸ tooShort damaged (o .accepted) room) (sym whole) (trials damaged)
+
+  pub salvages : (damaged out : List ℕ) → salvageOf a damaged out ≡ salvageOf b damaged out
+  salvages damaged out =
+      ap₂ (λ r o. salvaged r (reportOf damaged (o .accepted) (answer (o .refusal)))) (salvage-refusals damaged (length out)) (trials damaged)
+
+  pub salvage-outputs : (damaged out : List ℕ) → outputOf a damaged out ≡ outputOf b damaged out
+  salvage-outputs damaged out =
+      ap₂ (λ r o. output r (sheetOfFirst damaged (o .accepted)) out) (salvage-refusals damaged (length out)) (trials damaged)
+
   one-again : (out out′ : List ℕ) (n n′ : ℕ) → complementing.told (complementing.complementOf a out) ≡ yields n
       → complementing.told (complementing.complementOf b out′) ≡ yields n′ → OneNet (asWritten a out n) (asWritten b out′ n′)
   one-again out out′ n n′ e e′ =
@@ -213,6 +233,7 @@ module _ (a b : List ℕ) (one : OneNet a b) where
         isDead = λ t o h. rw (whole, net) h;
         firstDead = λ o h. rw (whole, net) h;
         size = λ o h. rw (whole, net) h;
+        salvage = λ damaged out o h. (h .0 ∙ salvages damaged out, h .1 ∙ salvage-outputs damaged out);
         complement = λ out out′ o o′ f f′ h h′.
             record {
               carried = rw (h .0, h′ .0) (complements out out′ f f′);

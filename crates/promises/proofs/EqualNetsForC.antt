@@ -1,5 +1,5 @@
 -- A call for C tells what the library's call answers.
-use mathlib.Core.Path.{refl, ap}
+use mathlib.Core.Path.{refl, _∙_, ap}
 use mathlib.Core.Option.{Option, none, some}
 use Rattle.model.specs.Replies.{Reply}
 use Rattle.model.specs.Audit.{Finding}
@@ -9,12 +9,13 @@ use Rattle.step.specs.Calls.{testStepRefusal}
 use Rattle.weigh.specs.Calls.{figureRefusal, changeRefusal}
 use Rattle.exclude.specs.Calls.{excludeRefusal}
 use Rattle.dead.specs.IsDead.{deadRefusal}
+use Rattle.salvage.specs.Salvaged as salvaging
 use Rattle.statement.specs.Replay.{stated, statedIn}
 use Rattle.answers.specs.declared.Answered.{Answered}
-use Rattle.answers.specs.Told.{telling, valueOr, finding, audited}
+use Rattle.answers.specs.Told.{telling, valueOr, finding, audited, reported}
 use Rattle.promises.specs.EqualNets.{OffsetAside, AuditsAlike}
 use Rattle.promises.specs.EqualNetsForC.{carriedToC, FindingsAlike, EqualNetsForC}
-use Rattle.promises.proofs.EqualNets.{whole, net, complements, strips, audits, texts, reads}
+use Rattle.promises.proofs.EqualNets.{whole, net, complements, strips, audits, salvages, salvage-outputs, texts, reads}
 
 finding-alike : (x y : Answered) (f : Option Finding) → OffsetAside (carriedToC x) (carriedToC y) → FindingsAlike (finding x f) (finding y f)
 finding-alike x y none h = record { answer = h; found = refl; pair = refl; excess = refl }
@@ -42,6 +43,7 @@ equal-nets-for-c a b one =
       isDead = λ t o h. rw (w, n) h;
       firstDead = λ o h. rw (w, n) h;
       size = λ o h. rw (w, n) h;
+      salvage = λ damaged out o h. (h .0 ∙ ap (λ x. reported (salvaging.told x)) (salvages a b one damaged out), h .1 ∙ salvage-outputs a b one damaged out);
       complement = λ out out′ o o′ f f′ h h′. rw (h .0, h′ .0) (complements a b one out out′ f f′);
       strip = λ p out out′ o o′ f f′ h h′. rw (h .0, h′ .0) (ap telling (strips a b one p out out′ f f′));
       audit = λ m m′ o o′ h h′. rw (h, h′) (audits-told _ _ (audits a b one m m′));

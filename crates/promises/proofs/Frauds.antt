@@ -12,6 +12,7 @@ use Rattle.promises.proofs.ArcsVisited.{visit-frauds}
 use Rattle.promises.proofs.StepFrauds.{first-member-alone}
 use Rattle.promises.proofs.AuditFrauds.{always-in-step}
 use Rattle.promises.proofs.Exclusion.{exclusion-frauds}
+use Rattle.promises.proofs.SalvageFrauds.{salvage-frauds}
 
 pub frauds : Frauds
 frauds =
@@ -28,4 +29,5 @@ frauds =
       stepping = first-member-alone;
       auditing = always-in-step;
       excluding = exclusion-frauds;
+      salvaging = salvage-frauds;
     }

@@ -22,6 +22,7 @@ pub mod CopiesNet
 pub mod CopiesSheet
 pub mod StripFrauds
 pub mod RunFrauds
+pub mod SalvageFrauds
 pub mod ArcsVisited
 pub mod StepFrauds
 pub mod AuditFrauds

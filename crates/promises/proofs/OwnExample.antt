@@ -1,12 +1,13 @@
 -- Document 01's own example: its sheet is read back, and the rest is computed from the net.
-use Prim.Native.Nat.{ℕ, _≤_}
+use Prim.Native.Nat.{ℕ, _+_, _*_, _≤_}
 use mathlib.Core.Path.{_≡_, refl, _∙_, ap, ap₂}
 use mathlib.Core.Bool.{false}
-use mathlib.Core.List.{List, [], _∷_}
+use mathlib.Core.List.{List, [], _∷_, flatMap}
 use mathlib.Core.Logic.{inr}
 use mathlib.Core.Option.{none, some}
 use lib.IntN.{pos, negsuc}
-use lib.ListN.{length}
+use lib.ListN.{length, take, drop}
+use lib.Seq.{take-at}
 use native.Mathlib.Omega.{arith}
 use Rattle.model.specs.declared.Mode.{Mode}
 use Rattle.model.specs.declared.Thing.{Thing}
@@ -15,6 +16,7 @@ use Rattle.model.specs.declared.Fault.the-variants.{Unbalanced, EqualFigures}
 use Rattle.model.specs.declared.Version.the-variants.{One}
 use Rattle.model.specs.declared.Why.the-variants.{Lacking}
 use Rattle.model.specs.declared.Refusal.{Refusal}
+use Rattle.model.specs.declared.Answer.the-variants as answers
 use Rattle.model.specs.Numbers.{∞}
 use Rattle.model.specs.First.{_▸_, first}
 use Rattle.model.specs.Nets.{modeNo, entryAt, pairNo}
@@ -43,7 +45,7 @@ use Rattle.sheets.specs.Whole.{bytesAfter, wholeWeights, wholeMovements}
 use Rattle.sheets.specs.Decoded.{weightsOf, movementsOf}
 use Rattle.opened.specs.Shape.{arcOffset}
 use Rattle.written.specs.Promises.{ReadBack}
-use Rattle.written.specs.Written.{versionBytes, sheetOf}
+use Rattle.written.specs.Written.{bytes16, bytes32, versionBytes, sheetOf}
 use Rattle.written.proofs.RoundTrip.{written-then-read}
 use Rattle.written.proofs.SheetLength.{section-one, fields-length, sheet-length}
 use Rattle.fire.specs.Calls.{beginRefusal, testRefusal}
@@ -63,7 +65,15 @@ use Rattle.complement.specs.Complemented.{roomRefusal, complementingRefusal}
 use Rattle.audit.specs.Audits as auditing
 use Rattle.audit.specs.Audits.{auditingRefusal}
 use Rattle.audit.proofs.Answers.{told-found}
-use Rattle.promises.specs.OwnExample.{example, RunsTo, OwnExample}
+use Rattle.salvage.specs.declared.Salvaged.{Salvaged}
+use Rattle.salvage.specs.declared.Salvaged.the-variants.{Written}
+use Rattle.salvage.specs.MovementSheet.{movementSheet}
+use Rattle.salvage.specs.Salvaged.{considered, sheetOfFirst, reportOf, salvaged, output, trial, kept, report, freshSheet, salvageRefusal, salvageOf}
+use Rattle.salvage.specs.Salvaged as salvaging
+use Rattle.salvage.specs.Contracts.{SalvageAllows}
+use Rattle.salvage.proofs.Answers.{kept-part, first-length, roomy}
+use Rattle.salvage.proofs.Promises.{all-considered, same-modes, not-damaged}
+use Rattle.promises.specs.OwnExample.{example, RunsTo, SalvagesTo, OwnExample}
 use Rattle.promises.specs.OwnExample as own
 use Rattle.statement.specs.Example as sheets
 
@@ -295,6 +305,63 @@ run-allows o a =
       marking = a .1 ∙ ap (λ r. r .marking) run-is;
     }
 
+-- a salvage of a whole sheet is told by its run
+lands : run example (movementsOf own.three) (3 ∷ 0 ∷ []) ≡ record { accepted = 3; refusal = none; marking = 0 ∷ 3 ∷ [] }
+unfolding runFrom movementsOf table u16At u32At modeRefusal rowRefusal ruleRefusal first _▸_ entryAt fired
+lands = refl
+
+module _ (s : List ℕ) (read : wholeMovements s ≡ none) (o : Outcome) (is : run example (movementsOf s) (3 ∷ 0 ∷ []) ≡ o) (fits : 5 + 2 * o .accepted ≤ 91) where
+  trial-is : trial own.net s ≡ o
+  unfolding trial
+  trial-is = rw (read-back .same, same-modes s read) is
+
+  salvage-accepted : salvageRefusal own.net s (length own.room) ≡ none
+  unfolding salvageRefusal
+  salvage-accepted =
+      none-then (read-back .accepted)
+      (none-then (not-damaged s read) (roomy s (kept own.net s) (kept-part own.net s) (omega (arith, ap (λ o. o .accepted) trial-is))))
+
+  salvage-told : salvageOf own.net s own.room ≡ Written (reportOf s (o .accepted) (answer (o .refusal)))
+  salvage-told =
+      ap (λ r. salvaged r (report own.net s)) salvage-accepted ∙ ap (λ o. Written (reportOf s (o .accepted) (answer (o .refusal)))) trial-is
+
+pub salvages-whole : salvageOf own.net own.three own.room ≡ Written (reportOf own.three 3 answers.Accepted)
+salvages-whole = salvage-told own.three three-read _ lands (omega arith)
+
+pub salvages-three : salvageOf own.net sheets.movements own.room ≡ Written (reportOf sheets.movements 3 (answers.Refused (lacking Movements 1)))
+salvages-three = salvage-told sheets.movements movements-read stops runs (omega arith)
+
+four-considered : considered sheets.movements ≡ 4
+unfolding u32At u16At
+four-considered = all-considered sheets.movements movements-read
+
+three-written : movementSheet (take 3 (movementsOf sheets.movements)) ≡ own.three
+unfolding movementSheet movementsOf table u16At u32At bytes16 bytes32 flatMap
+three-written = refl
+
+fresh-is : freshSheet own.net sheets.movements ≡ own.three
+fresh-is =
+    ap (λ o. sheetOfFirst sheets.movements (o .accepted)) (trial-is sheets.movements movements-read stops runs (omega arith))
+    ∙ ap (λ ts. movementSheet (take 3 ts)) (same-modes sheets.movements movements-read)
+    ∙ three-written
+
+salvage-allows : (o : Salvaged × List ℕ) → SalvageAllows own.net sheets.movements own.room o → SalvagesTo o
+salvage-allows o a =
+    let s = sheets.movements in
+    let long = first-length s 3 (omega (arith, four-considered)) in
+    record {
+      report = reportOf s 3 (answers.Refused (lacking Movements 1));
+      told = ap salvaging.told (a .0 ∙ salvages-three);
+      counts = (long, refl, omega (arith, four-considered));
+      stop = refl;
+      sheet =
+          ap (take 11)
+          (a .1
+          ∙ ap (λ r. output r (freshSheet own.net s) own.room) (salvage-accepted s movements-read stops runs (omega arith))
+          ∙ ap (λ sheet. output none sheet own.room) fresh-is)
+          ∙ take-at own.three (drop 11 own.room) 11 refl;
+    }
+
 pub own-example : OwnExample
 unfolding figured
 own-example =
@@ -305,6 +372,7 @@ own-example =
       test = λ told a. ap carried a ∙ ap (λ o. carried (answer o)) lacks;
       testStep = λ told a. ap carried a ∙ ap (λ o. carried (answer o)) lacks-together;
       run = run-allows;
+      salvage = salvage-allows;
       certify = λ told a. ap number a ∙ rw certifies;
       figure = λ o a. ap weigh.told a ∙ rw (figure-accepted, read-back .same, figure-is);
       change = λ o a. ap weigh.told a ∙ rw (change-accepted, read-back .same, change-is);

@@ -25,6 +25,8 @@ use Rattle.sheets.proofs.Accepted.{well-formed}
 use Rattle.sheets.proofs.Lists.{movements-within, weights-within}
 use Rattle.lists.proofs.Signs.{signed-weights}
 use Rattle.written.proofs.RoundTrip.{written-then-read, read-then-written}
+use Rattle.salvage.proofs.MovementSheets.{list-written-then-read, list-read-then-written}
+use Rattle.salvage.proofs.Promises.{salvaged-runs, whole-comes-back}
 use Rattle.convert.proofs.Promises.{source-only, converted-reads, there-and-back}
 use Rattle.strip.proofs.Promises.{stripped-reads}
 use Rattle.strip.proofs.Bare.{bare-after}
@@ -142,6 +144,10 @@ promises =
       thereAndBack = there-and-back;
       strippedReads = stripped-reads;
       stripping = stripping;
+      listWrittenThenRead = list-written-then-read;
+      listReadThenWritten = list-read-then-written;
+      salvagedRuns = salvaged-runs;
+      wholeComesBack = whole-comes-back;
       overBytes = over-bytes;
       twoRuns = two-runs;
       twoSteps = two-steps;

@@ -32,6 +32,7 @@ for-c =
       toVersion1 = λ net out. answer-and-slice _ _;
       strip = λ net p out. answer-and-slice _ _;
       audit = λ net marking beside. one-answer _;
+      salvage = λ net damaged out. answer-and-slice _ _;
       statement = λ input out. answer-and-slice _ _;
     }
 
@@ -65,6 +66,7 @@ uniqueness =
       toVersion1 = λ net out. answer-and-slice _ _;
       strip = λ net p out. answer-and-slice _ _;
       audit = λ net marking beside. one-answer _;
+      salvage = λ net damaged out. answer-and-slice _ _;
       putBytes = λ out at bytes. answer-and-slice _ _;
       putDecimal = λ out at n. answer-and-slice _ _;
       putSigned = λ out at z. answer-and-slice _ _;

@@ -19,7 +19,7 @@ use Rattle.model.specs.Nets.{NetArc, PNet, total, pairs, modes, modeNo, K, coun
 use Rattle.model.specs.Firing.{roomFor, fired}
 use Rattle.model.specs.Complement.{complement}
 use Rattle.model.specs.Figures.{figure, change}
-use Rattle.heads.specs.Layout.{sheetEnd, version}
+use Rattle.heads.specs.Layout.{bodyLength, sheetEnd, version}
 use Rattle.sheets.specs.Whole.{wholeNet, wholeWeights, wholeMovements}
 use Rattle.sheets.specs.Decoded.{netOf, weightsOf, movementsOf}
 use Rattle.sheets.specs.RefusalTables.{headTable, netTable, weightTable, movementTable, SheetTables}
@@ -36,6 +36,7 @@ use Rattle.convert.specs.Converted.{convertedSheet, convertRefusal}
 use Rattle.strip.specs.Strip.{boundOf}
 use Rattle.strip.specs.Stripped.{strippedNet, strippedSheet, strippingRefusal}
 use Rattle.audit.specs.Audits.{auditingRefusal}
+use Rattle.salvage.specs.Salvaged.{freshSheet, modesIn, trial, salvageRefusal}
 
 -- "A call that takes one sheet as an argument refuses left-over bytes by 3.": the sheet's own table, then the first byte after it
 abbrev pub bytesLeft : ℕ → List ℕ → Table
@@ -195,6 +196,15 @@ module _ (net : List ℕ) where
       then oneEachTable (netOf net) marking
       then oneEachTable (complement (netOf net)) beside
 
+  -- a salvage: "1 for fewer than 5 bytes, 3 for L = 0, 2, 10 for a short output"
+  abbrev pub salvageTable : List ℕ → ℕ → Table
+  salvageTable damaged room =
+      wholeNetTable net
+      then row (length damaged < 5) (carries 1 2 0)
+      then row (bodyLength damaged ≡ 0) (carries 3 2 0)
+      then row (version damaged ≢ 1) (carries 2 2 4)
+      then row (room < length (freshSheet net damaged)) (carries 10 0 0)
+
 -- the movement at which a run stops is the one after those that it accepted, refused at the marking that it leaves
 module _ (net movements marking : List ℕ) where
   abbrev stop : Mode
@@ -204,6 +214,11 @@ module _ (net movements marking : List ℕ) where
     pub refusal : Reads (runTable net movements marking) (runOf net movements marking .refusal)
     pub stopsAt : beforeRun net movements marking ≡ none → runOf net movements marking .accepted < length (movementsOf movements)
         → Reads (modeTable 2 (netOf net) stop (runOf net movements marking .marking)) (runOf net movements marking .refusal)
+
+-- and "the first refusal" that a salvage reports is that of the first of its modes that is refused
+pub record SalvageReads (net damaged : List ℕ) : Type 0 where
+  pub refusal : (room : ℕ) → Reads (salvageTable net damaged room) (salvageRefusal net damaged room)
+  pub stop : Reads (movesTable (netOf net) (modesIn damaged) (netOf net .start)) (trial net damaged .refusal)
 
 -- a field for each public call that answers: its first refusal is the one that its table gives, for all that it may be given
 pub record CallTables : Type 0 where
@@ -229,3 +244,4 @@ pub record CallTables : Type 0 where
   pub toVersion1 : (net : List ℕ) (room : ℕ) → Reads (convertTable net Two One room) (convertRefusal Two One net room)
   pub strip : (net : List ℕ) (p : Pair) (room : ℕ) → Reads (stripTable net p room) (strippingRefusal net p room)
   pub audit : (net marking beside : List ℕ) → Reads (auditTable net marking beside) (auditingRefusal net marking beside)
+  pub salvage : (net damaged : List ℕ) → SalvageReads net damaged

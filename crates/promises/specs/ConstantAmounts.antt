@@ -7,8 +7,16 @@ use Rattle.model.specs.Refusals.{amount}
 use Rattle.fire.specs.Contracts.{TestAllows, FireAllows}
 use Rattle.step.specs.Contracts.{TestStepAllows, FireStepAllows}
 use Rattle.run.specs.Contracts.{RunAllows, CertifyAllows}
+use Rattle.salvage.specs.declared.Salvaged.{Salvaged}
+use Rattle.salvage.specs.declared.Salvaged.the-variants.{Written, Refused}
+use Rattle.salvage.specs.Contracts.{SalvageAllows}
 use Rattle.abi.specs.Contracts as c
 use Rattle.promises.specs.ConstantAnswers.{NotConstant}
+
+-- the amount of the first refusal that a salvage reports, 0 where the call is refused
+abbrev pub stopBy : Salvaged → ℕ
+stopBy (Written report) = amount (report .stop)
+stopBy (Refused r) = 0
 
 pub record ConstantAmountsForC : Type 0 where
   pub test : NotConstant (λ (i : List ℕ × List ℕ × Mode). c.TestAllows (i .0) (i .1) (i .2)) (λ o. o .amount)
@@ -17,6 +25,7 @@ pub record ConstantAmountsForC : Type 0 where
   pub fireStep : NotConstant (λ (i : List ℕ × List ℕ × List ℕ). c.FireStepAllows (i .0) (i .1) (i .2)) (λ o. o .0 .amount)
   pub run : NotConstant (λ (i : List ℕ × List ℕ × List ℕ). c.RunAllows (i .0) (i .1) (i .2)) (λ o. o .0 .answer .amount)
   pub certify : NotConstant (λ (i : List ℕ × List ℕ × List ℕ). c.CertifyAllows (i .0) (i .1) (i .2)) (λ o. o .amount)
+  pub salvage : NotConstant (λ (i : List ℕ × List ℕ × List ℕ). c.SalvageAllows (i .0) (i .1) (i .2)) (λ o. o .0 .stop .amount)
 
 pub record ConstantAmounts : Type 0 where
   pub test : NotConstant (λ (i : List ℕ × List ℕ × Mode). TestAllows (i .0) (i .1) (i .2)) amount
@@ -25,4 +34,5 @@ pub record ConstantAmounts : Type 0 where
   pub fireStep : NotConstant (λ (i : List ℕ × List ℕ × List ℕ). FireStepAllows (i .0) (i .1) (i .2)) (λ o. amount (o .0))
   pub run : NotConstant (λ (i : List ℕ × List ℕ × List ℕ). RunAllows (i .0) (i .1) (i .2)) (λ o. amount (o .0 .answer))
   pub certify : NotConstant (λ (i : List ℕ × List ℕ × List ℕ). CertifyAllows (i .0) (i .1) (i .2)) amount
+  pub salvage : NotConstant (λ (i : List ℕ × List ℕ × List ℕ). SalvageAllows (i .0) (i .1) (i .2)) (λ o. stopBy (o .0))
   pub forC : ConstantAmountsForC

@@ -30,6 +30,8 @@ use Rattle.strip.specs.Stripped as stripping
 use Rattle.strip.specs.Contracts.{StripAllows}
 use Rattle.audit.specs.Audits as auditing
 use Rattle.audit.specs.Contracts.{AuditAllows}
+use Rattle.salvage.specs.Salvaged as salvaging
+use Rattle.salvage.specs.Contracts.{SalvageAllows}
 use Rattle.text.specs.declared.Put.{Put}
 use Rattle.text.specs.declared.Put.the-variants.{To, Full}
 use Rattle.text.specs.Contracts.{PutBytesAllows, PutDecimalAllows, PutSignedAllows}
@@ -92,6 +94,7 @@ pub record ConstantAnswers : Type 0 where
   pub toVersion1 : Varies (λ (i : List ℕ × List ℕ). ToVersion1Allows (i .0) (i .1)) (λ o. converting.told (o .0) .carried .number)
   pub strip : Varies (λ (i : List ℕ × Pair × List ℕ). StripAllows (i .0) (i .1) (i .2)) (λ o. stripping.told (o .0) .carried .number)
   pub audit : Varies (λ (i : List ℕ × List ℕ × List ℕ). AuditAllows (i .0) (i .1) (i .2)) (λ o. auditing.told o .carried .number)
+  pub salvage : Varies (λ (i : List ℕ × List ℕ × List ℕ). SalvageAllows (i .0) (i .1) (i .2)) (λ o. salvaging.told (o .0) .carried .number)
   pub putBytes : Varies (λ (i : List ℕ × ℕ × List ℕ). PutBytesAllows (i .0) (i .1) (i .2)) (λ o. full (o .0))
   pub putDecimal : Varies (λ (i : List ℕ × ℕ × ℕ). PutDecimalAllows (i .0) (i .1) (i .2)) (λ o. full (o .0))
   pub putSigned : Varies (λ (i : List ℕ × ℕ × ℤ). PutSignedAllows (i .0) (i .1) (i .2)) (λ o. full (o .0))

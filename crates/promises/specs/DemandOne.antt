@@ -24,6 +24,9 @@ use Rattle.convert.specs.Contracts.{ToVersion1Allows, ToVersion2Allows}
 use Rattle.strip.specs.declared.Stripped.{Stripped}
 use Rattle.strip.specs.Stripped as stripping
 use Rattle.strip.specs.Contracts.{StripAllows}
+use Rattle.salvage.specs.declared.Salvaged.{Salvaged}
+use Rattle.salvage.specs.Salvaged as salvaging
+use Rattle.salvage.specs.Contracts.{SalvageAllows}
 use Rattle.text.specs.declared.Put.{Put}
 use Rattle.text.specs.declared.Put.the-variants.{Full}
 use Rattle.text.specs.Contracts.{PutBytesAllows}
@@ -32,6 +35,7 @@ use Rattle.statement.specs.declared.Stated.the-variants.{NoRoom}
 use Rattle.statement.specs.Contracts.{StatementAllows}
 use Rattle.answers.specs.declared.Answered.{Answered}
 use Rattle.answers.specs.declared.Counted.{Counted}
+use Rattle.answers.specs.declared.Reported.{Reported}
 use Rattle.answers.specs.declared.Tallied.{Tallied}
 use Rattle.abi.specs.Contracts as forC
 
@@ -47,6 +51,7 @@ pub record DemandOne : Type 0 where
   pub toVersion2 : (net out : List ℕ) (o : Converted × List ℕ) → ToVersion2Allows net out o → converting.told (o .0) .carried .number ≢ 0 → o .1 ≡ out
   pub toVersion1 : (net out : List ℕ) (o : Converted × List ℕ) → ToVersion1Allows net out o → converting.told (o .0) .carried .number ≢ 0 → o .1 ≡ out
   pub strip : (net : List ℕ) (p : Pair) (out : List ℕ) (o : Stripped × List ℕ) → StripAllows net p out o → stripping.told (o .0) .carried .number ≢ 0 → o .1 ≡ out
+  pub salvage : (net damaged out : List ℕ) (o : Salvaged × List ℕ) → SalvageAllows net damaged out o → salvaging.told (o .0) .carried .number ≢ 0 → o .1 ≡ out
   -- the exception; with none accepted the marking is as it was
   pub run : (net movements marking : List ℕ) (o : Ran × List ℕ) → RunAllows net movements marking o → Refused (o .0 .answer)
       → Leads (netOf net) (take (o .0 .accepted) (movementsOf movements)) marking (o .1)
@@ -64,6 +69,7 @@ pub record DemandOneForC : Type 0 where
   pub toVersion2 : (net out : List ℕ) (o : Counted × List ℕ) → forC.ToVersion2Allows net out o → o .0 .answer .number ≢ 0 → o .1 ≡ out
   pub toVersion1 : (net out : List ℕ) (o : Counted × List ℕ) → forC.ToVersion1Allows net out o → o .0 .answer .number ≢ 0 → o .1 ≡ out
   pub strip : (net : List ℕ) (p : Pair) (out : List ℕ) (o : Counted × List ℕ) → forC.StripAllows net p out o → o .0 .answer .number ≢ 0 → o .1 ≡ out
+  pub salvage : (net damaged out : List ℕ) (o : Reported × List ℕ) → forC.SalvageAllows net damaged out o → o .0 .answer .number ≢ 0 → o .1 ≡ out
   pub statement : (input out : List ℕ) (o : Counted × List ℕ) → forC.StatementAllows input out o → o .0 .answer .number ≢ 0 → o .1 ≡ out
   pub run : (net movements marking : List ℕ) (o : Tallied × List ℕ) → forC.RunAllows net movements marking o → o .0 .answer .number ≢ 0
       → Leads (netOf net) (take (o .0 .accepted) (movementsOf movements)) marking (o .1)

@@ -32,6 +32,7 @@ use Rattle.strip.specs.Contracts.{StripAllows}
 use Rattle.audit.specs.declared.Found.{Found}
 use Rattle.audit.specs.Audits as auditing
 use Rattle.audit.specs.Contracts.{AuditAllows}
+use Rattle.salvage.specs.Contracts.{SalvageAllows}
 use Rattle.statement.specs.Contracts.{StatementAllows}
 
 -- two net sheets that are accepted and mean one net
@@ -99,6 +100,8 @@ pub record Alike (a b : List ℕ) : Type 0 where
   pub isDead : (t : Mode) → Within (IsDeadAllows a t) (IsDeadAllows b t)
   pub firstDead : Within (FirstDeadAllows a) (FirstDeadAllows b)
   pub size : Within (SizeAllows a) (SizeAllows b)
+  -- the sheet written is a movement sheet, the same to the byte
+  pub salvage : (damaged out : List ℕ) → Within (SalvageAllows a damaged out) (SalvageAllows b damaged out)
   pub complement : (out out′ : List ℕ) (o o′ : Complemented × List ℕ) → Fits a out → Fits b out′
       → ComplementAllows a out o → ComplementAllows b out′ o′ → ComplementsAlike o o′
   pub strip : (p : Pair) (out out′ : List ℕ) (o o′ : Stripped × List ℕ) → StripFits a p out → StripFits b p out′

@@ -36,6 +36,7 @@ pub record AlikeForC (a b : List ℕ) : Type 0 where
   pub isDead : (t : Mode) → Within (c.IsDeadAllows a t) (c.IsDeadAllows b t)
   pub firstDead : Within (c.FirstDeadAllows a) (c.FirstDeadAllows b)
   pub size : Within (c.SizeAllows a) (c.SizeAllows b)
+  pub salvage : (damaged out : List ℕ) → Within (c.SalvageAllows a damaged out) (c.SalvageAllows b damaged out)
   -- the output slice is left as the library's call leaves it
   pub complement : (out out′ : List ℕ) (o o′ : Counted × List ℕ) → Fits a out → Fits b out′
       → c.ComplementAllows a out o → c.ComplementAllows b out′ o′ → OffsetAside (carriedToC (o .0 .answer)) (carriedToC (o′ .0 .answer))

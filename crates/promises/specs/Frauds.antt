@@ -41,6 +41,11 @@ use Rattle.audit.specs.declared.Found.{Found}
 use Rattle.audit.specs.declared.Found.the-variants.{Nothing}
 use Rattle.audit.specs.Audits as audits
 use Rattle.audit.specs.Contracts.{AuditAllows}
+use Rattle.salvage.specs.declared.Report.{Report}
+use Rattle.salvage.specs.declared.Salvaged.{Salvaged}
+use Rattle.salvage.specs.declared.Salvaged.the-variants.{Written}
+use Rattle.salvage.specs.Salvaged.{considered, modesIn, trial}
+use Rattle.salvage.specs.Contracts.{SalvageAllows}
 use Rattle.abi.specs.Contracts as c
 use Rattle.promises.specs.ConstantAnswers.{NotConstant, ConstantAnswers}
 use Rattle.promises.specs.ConstantAnswersForC.{ConstantAnswersForC}
@@ -132,6 +137,13 @@ pub record ExclusionFrauds : Type 0 where
       → ExcludeAllows net weights claim told → number told ≢ 0
   pub nothing : (net weights claim : List ℕ) → Excluded net weights claim → (told : Answer) → ExcludeAllows net weights claim told → number told ≡ 0
 
+-- A salvage that keeps nothing, though the net accepts the first mode at its first marking; or everything, though it refuses one.
+pub record SalvageFrauds : Type 0 where
+  pub nothing : (net damaged out : List ℕ) → 0 < considered damaged → modeRefusal Movements (netOf net) (getD (modesIn damaged) 0 (modeNo 0)) (netOf net .start) ≡ none
+      → (o : Salvaged × List ℕ) → SalvageAllows net damaged out o → (report : Report) → o .0 ≡ Written report → report .kept ≢ 0
+  pub everything : (net damaged out : List ℕ) → trial net damaged .refusal ≢ none
+      → (o : Salvaged × List ℕ) → SalvageAllows net damaged out o → (report : Report) → o .0 ≡ Written report → report .kept ≢ considered damaged
+
 pub record Frauds : Type 0 where
   pub constant : ConstantAnswers
   pub constantForC : ConstantAnswersForC
@@ -145,3 +157,4 @@ pub record Frauds : Type 0 where
   pub stepping : FirstMemberAlone
   pub auditing : AlwaysInStep
   pub excluding : ExclusionFrauds
+  pub salvaging : SalvageFrauds

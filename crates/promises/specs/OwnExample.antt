@@ -5,7 +5,7 @@ use mathlib.Core.Bool.{false}
 use mathlib.Core.List.{List, [], _∷_}
 use mathlib.Core.Option.{none, some}
 use lib.IntN.{pos, negsuc}
-use lib.ListN.{replicate}
+use lib.ListN.{take, replicate}
 use Rattle.model.specs.declared.Answer.{Answer}
 use Rattle.model.specs.declared.Version.the-variants.{One}
 use Rattle.model.specs.Refusals.{number, carriesBy, carried, carries}
@@ -35,6 +35,10 @@ use Rattle.complement.specs.Contracts.{ComplementAllows}
 use Rattle.audit.specs.declared.Found.{Found}
 use Rattle.audit.specs.Audits as auditing
 use Rattle.audit.specs.Contracts.{AuditAllows}
+use Rattle.salvage.specs.declared.Report.{Report}
+use Rattle.salvage.specs.declared.Salvaged.{Salvaged}
+use Rattle.salvage.specs.Salvaged as salvaging
+use Rattle.salvage.specs.Contracts.{SalvageAllows}
 use Rattle.statement.specs.Example.{weights, movements}
 
 -- "two places, aboard (one colour, K 5, first 3) and ashore (one colour, unbounded, first 0); one transition of one mode; arcs 0,0 with Pre 1, Post 0, I 4
@@ -67,6 +71,14 @@ pub record RunsTo (o : Ran × List ℕ) : Type 0 where
   pub refused : carried (o .0 .answer) ≡ carriesBy 11 2 0 1
   pub marking : o .1 ≡ 0 ∷ 3 ∷ []
 
+-- its fourth movement is dropped: the sheet written lists three, in 11 bytes
+pub record SalvagesTo (o : Salvaged × List ℕ) : Type 0 where
+  pub report : Report
+  pub told : salvaging.told (o .0) ≡ yields report
+  pub counts : (report .length ≡ 11) × (report .kept ≡ 3) × (report .dropped ≡ 1)
+  pub stop : carried (report .stop) ≡ carriesBy 11 2 0 1
+  pub sheet : take 11 (o .1) ≡ three
+
 pub record OwnExample : Type 0 where
   pub begin : (o : Answer × List ℕ) → BeginAllows net (0 ∷ 0 ∷ []) o → (number (o .0) ≡ 0) × (o .1 ≡ 3 ∷ 0 ∷ [])
   pub fire : (o : Answer × List ℕ) → FireAllows net (3 ∷ 0 ∷ []) (modeNo 0) o → (number (o .0) ≡ 0) × (o .1 ≡ 2 ∷ 1 ∷ [])
@@ -77,6 +89,7 @@ pub record OwnExample : Type 0 where
   pub testStep : (told : Answer) → TestStepAllows net (3 ∷ 0 ∷ []) five told → carried told ≡ carriesBy 11 3 0 2
   -- "refused 4 0 11 0 1", "end 3 0"; four movements tried, of two arcs each
   pub run : (o : Ran × List ℕ) → RunAllows net movements (3 ∷ 0 ∷ []) o → RunsTo o
+  pub salvage : (o : Salvaged × List ℕ) → SalvageAllows net movements room o → SalvagesTo o
   pub certify : (told : Answer) → CertifyAllows net three (0 ∷ 3 ∷ []) told → number told ≡ 0
   -- "start 750"
   pub figure : (o : Figured) → FigureAllows net weights (3 ∷ 0 ∷ []) o → weigh.told o ≡ yields (pos 750)

@@ -21,6 +21,7 @@ use Rattle.weigh.specs.Promises.{FigureIsSum, ChangeIsSum, FigureFired}
 use Rattle.dead.specs.Promises.{SaysDead, NamesFirst}
 use Rattle.audit.specs.Promises.{SaysAudited}
 use Rattle.exclude.specs.Promises.{ExcludedExactly}
+use Rattle.salvage.specs.Promises as salvage
 use Rattle.promises.specs.DemandOne.{DemandOne, DemandOneForC}
 use Rattle.promises.specs.DemandThree.{OverBytes}
 use Rattle.text.specs.Promises.{Decimals}
@@ -127,6 +128,10 @@ pub record Promises : Type 0 where
   pub thereAndBack : ThereAndBack
   pub strippedReads : StrippedReads
   pub stripping : Stripping
+  pub listWrittenThenRead : salvage.ListWrittenThenRead
+  pub listReadThenWritten : salvage.ListReadThenWritten
+  pub salvagedRuns : salvage.SalvagedRuns
+  pub wholeComesBack : salvage.WholeComesBack
   pub overBytes : OverBytes
   pub twoRuns : TwoRuns
   pub twoSteps : TwoSteps

@@ -19,6 +19,7 @@ use Rattle.complement.specs.Contracts.{ComplementAllows}
 use Rattle.convert.specs.Contracts.{ToVersion1Allows, ToVersion2Allows}
 use Rattle.strip.specs.Contracts.{StripAllows}
 use Rattle.audit.specs.Contracts.{AuditAllows}
+use Rattle.salvage.specs.Contracts.{SalvageAllows}
 use Rattle.text.specs.Contracts.{PutBytesAllows, PutDecimalAllows, PutSignedAllows}
 use Rattle.statement.specs.Contracts.{StatementAllows}
 use Rattle.abi.specs.Contracts as c
@@ -50,6 +51,7 @@ pub record UniqueForC : Type 0 where
   pub toVersion1 : (net out : List ℕ) → Unique (c.ToVersion1Allows net out)
   pub strip : (net : List ℕ) (p : Pair) (out : List ℕ) → Unique (c.StripAllows net p out)
   pub audit : (net marking beside : List ℕ) → Unique (c.AuditAllows net marking beside)
+  pub salvage : (net damaged out : List ℕ) → Unique (c.SalvageAllows net damaged out)
   pub statement : (input out : List ℕ) → Unique (c.StatementAllows input out)
 
 -- a field for each public call, for all that it may be given
@@ -81,6 +83,7 @@ pub record Uniqueness : Type 0 where
   pub toVersion1 : (net out : List ℕ) → Unique (ToVersion1Allows net out)
   pub strip : (net : List ℕ) (p : Pair) (out : List ℕ) → Unique (StripAllows net p out)
   pub audit : (net marking beside : List ℕ) → Unique (AuditAllows net marking beside)
+  pub salvage : (net damaged out : List ℕ) → Unique (SalvageAllows net damaged out)
   pub putBytes : (out : List ℕ) (at : ℕ) (bytes : List ℕ) → Unique (PutBytesAllows out at bytes)
   pub putDecimal : (out : List ℕ) (at n : ℕ) → Unique (PutDecimalAllows out at n)
   pub putSigned : (out : List ℕ) (at : ℕ) (z : ℤ) → Unique (PutSignedAllows out at z)

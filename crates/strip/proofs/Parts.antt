@@ -25,6 +25,7 @@ use Rattle.written.specs.Written.{bytes16, headBytes, arcBytes, pairsBytes, tot
 use Rattle.written.specs.Puts.{Room, partOf, modeSize, ownSize}
 use Rattle.written.proofs.Stands.{InTurn, stands-both, in-turn, moved}
 use Rattle.written.proofs.BigEndian.{length16}
+use Rattle.written.proofs.Puts.{part-is}
 use Rattle.written.proofs.Sections.{section-append, section-one}
 use Rattle.written.proofs.Records.{arc-length}
 use Rattle.written.proofs.Versions.{own-length}
@@ -32,7 +33,6 @@ use Rattle.written.proofs.SheetLength.{counts-section, pairs-section, section-b
 use Rattle.written.proofs.ByMode.{by-mode}
 use Rattle.written.proofs.NetStands.{fields-stand}
 use Rattle.convert.specs.Parts.{modeGroup}
-use Rattle.convert.proofs.Segments.{part-is}
 use Rattle.convert.proofs.Parts.{common-there, rule-is}
 use Rattle.strip.specs.Strip.{stripEntry, strip, boundOf, stripLimits, stripRefusal}
 use Rattle.strip.specs.Stripped.{strippedSheet}

@@ -13,8 +13,10 @@ use Rattle.model.specs.declared.Version.{Version}
 use Rattle.model.specs.Numbers.{ℕ∞}
 use Rattle.model.specs.Nets.{NetArc}
 use Rattle.written.specs.Written.{bytes16, bytes32, pairBytes, arcBytes}
-use Rattle.written.specs.Puts.{Written, Put, Room, Puts, modeSize}
-use Rattle.written.proofs.Sections.{joined-room}
+use Rattle.model.proofs.Joined.{joined-ext}
+use Rattle.written.specs.Puts.{Written, Put, Room, Puts, partOf, modeSize}
+use Rattle.written.proofs.Stands.{Stands}
+use Rattle.written.proofs.Sections.{by-numbers, joined-room}
 use Rattle.written.proofs.BigEndian.{length16, length32}
 use Rattle.written.proofs.Records.{pair-length, arc-length}
 
@@ -155,3 +157,10 @@ module _ {l : List ℕ} {at : ℕ} where
 
       pub puts-end : (n : ℕ) → i ≤ n → n ≤ i → Puts l at (joined n part) m k
       puts-end n h b = let e : n ≡ i = omega arith in rw e so-far
+
+-- a part of a run is what stands there
+pub part-is : {s xs : List ℕ} {at : ℕ} → Stands s at xs → (n : ℕ) → n ≡ length xs → partOf s at n ≡ xs
+part-is {s} {xs} {at} stands n e =
+    ap (partOf s at) e
+    ∙ joined-ext (length xs) _ _ (λ i l. ap (λ b. b ∷ []) (stands .each i (at + i) l refl))
+    ∙ sym (by-numbers 0 xs)

@@ -9,6 +9,7 @@ use native.Mathlib.Omega.{arith}
 use native.Mathlib.Nat.{mul-suc, mul-zero, eq-or-lt-of-le, le-of-suc-le-suc}
 use Rattle.model.specs.Lists.{table, joined}
 use Rattle.model.proofs.Tables.{table-length, table-at}
+use Rattle.model.proofs.Joined.{joined-front}
 use Rattle.written.proofs.Stands.{Stands, stands-both, stands-left, stands-right}
 
 -- a table is the list that has its values
@@ -16,6 +17,12 @@ pub table-is : {A : Type 0} (d : A) (xs : List A) (n : ℕ) (f : ℕ → A) → 
 table-is d xs n f e h =
     ext-getD d (table n f) xs (table-length n f ∙ e)
     (λ i l. let i<n : i < n = omega (arith, table-length n f) in table-at n f d i i<n ∙ h i (omega arith))
+
+-- a list told by its numbers
+pub by-numbers : {A : Type 0} (d : A) (xs : List A) → xs ≡ joined (length xs) (λ i. getD xs i d ∷ [])
+unfolding joined
+by-numbers d [] = refl
+by-numbers d (x ∷ xs) = ap (λ r. x ∷ r) (by-numbers d xs) ∙ sym (joined-front (length xs) (λ i. getD (x ∷ xs) i d ∷ []))
 
 module _ {A B : Type 0} (f : A → List B) where
   pub section-append : (xs ys : List A) → flatMap f (xs ++ ys) ≡ flatMap f xs ++ flatMap f ys

@@ -119,6 +119,11 @@ impl Inputs {
         }
     }
 
+    /// The movement sheet without its last byte.
+    pub fn cut(&self) -> &[u8] {
+        &self.movements[..self.movements.len() - 1]
+    }
+
     /// As files, each with its part in its name; counts in the machine's order.
     pub fn write(&self, folder: &Path, part: usize) -> io::Result<()> {
         let counts =

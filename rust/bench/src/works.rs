@@ -75,7 +75,7 @@ pub const STATEMENT: Work = beside(
 pub const SIZED: [Work; 4] = [READ, RUN, COMPLEMENT, STATEMENT];
 
 /// The other calls, at full size; a call with a mode is given the last.
-pub const OTHERS: [Work; 18] = [
+pub const OTHERS: [Work; 19] = [
     beside("size", |i, _| pnet::size(&i.net).is_ok(), |i, _| swift::size(&i.net).is_ok()),
     own("read_weights", |i, _| pnet::read_weights(&i.weights, i.pairs).is_ok()),
     own("read_movements", |i, _| pnet::read_movements(&i.movements).is_ok()),
@@ -91,6 +91,18 @@ pub const OTHERS: [Work; 18] = [
             None,
         ],
     },
+    // The longest list, cut in its last movement.
+    beside(
+        "salvage",
+        |i, l| {
+            let salvaged = pnet::salvage(&i.net, i.cut(), &mut l.output);
+            salvaged.is_ok_and(|salvaged| salvaged.kept == i.cut().len() / 2 - 3)
+        },
+        |i, l| {
+            let salvaged = swift::salvage(&i.net, i.cut(), &mut l.output);
+            salvaged.is_ok_and(|salvaged| salvaged.kept == i.cut().len() / 2 - 3)
+        },
+    ),
     own("certify", |i, _| pnet::certify(&i.net, &i.movements, &i.claim).is_ok()),
     own("figure", |i, l| pnet::figure(&i.net, &i.weights, &l.marking).is_ok()),
     own("change", |i, _| pnet::change(&i.net, &i.weights, Mode(i.last)).is_ok()),

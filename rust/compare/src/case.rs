@@ -29,7 +29,7 @@ pub struct Case {
     pub both: Vec<u32>,
     /// What the weights' reader is given for the net's pair count.
     pub pairs: usize,
-    /// The length of the output slice of a call that writes a net.
+    /// The length of the output slice of a call that writes a sheet.
     pub room: usize,
 }
 
@@ -83,6 +83,7 @@ impl Case {
         same.test_step(&self.net, &self.marking, &self.step);
         same.fire_step(&self.net, &self.marking, &self.step);
         same.run(&self.net, &self.movements, &self.marking);
+        same.salvage(&self.net, &self.movements, self.room);
         same.certify(&self.net, &self.movements, &self.claim);
         same.figure(&self.net, &self.weights, &self.marking);
         same.change(&self.net, &self.weights, self.mode);

@@ -9,7 +9,7 @@ use std::cell::RefCell;
 use std::ffi::{c_char, c_int, c_uint, c_void};
 use std::{ptr, slice};
 
-use pnet::{Mode, OutOfStep, Pair, Ran, Refusal, Size};
+use pnet::{Mode, OutOfStep, Pair, Ran, Refusal, Salvaged, Size};
 
 /// Whole pages; the longest slice that is lent is the room for `replay`'s text.
 const ROOM: usize = 1 << 19;
@@ -210,6 +210,15 @@ pub fn run(net: &[u8], movements: &[u8], marking: &mut [u32]) -> Ran {
         let ran = pnet::run(lent.net.show(net), lent.sheet.show(movements), held);
         marking.copy_from_slice(held);
         ran
+    })
+}
+
+pub fn salvage(net: &[u8], damaged: &[u8], out: &mut [u8]) -> Result<Salvaged, Refusal> {
+    lend(|lent| {
+        let held = lent.written.lend(out);
+        let salvaged = pnet::salvage(lent.net.show(net), lent.sheet.show(damaged), held);
+        out.copy_from_slice(held);
+        salvaged
     })
 }
 

@@ -15,6 +15,7 @@ pub enum Call {
     TestStep,
     FireStep,
     Run,
+    Salvage,
     Certify,
     Figure,
     Change,
@@ -32,7 +33,7 @@ pub enum Call {
 
 use Call::*;
 
-const CALLS: [Call; 22] = [
+const CALLS: [Call; 23] = [
     ReadNet,
     ReadWeights,
     ReadMovements,
@@ -42,6 +43,7 @@ const CALLS: [Call; 22] = [
     TestStep,
     FireStep,
     Run,
+    Salvage,
     Certify,
     Figure,
     Change,
@@ -69,6 +71,8 @@ pub const ENOUGH: usize = 100;
 const NET: &[Told] = &[(1, 0), (2, 0), (3, 0), (4, 0), (5, 0), (6, 0), (7, 0), (8, 0), (9, 0)];
 const WEIGHTS: &[Told] = &[(1, 1), (2, 1), (3, 1), (5, 1), (17, 1)];
 const MOVEMENTS: &[Told] = &[(1, 2), (2, 2), (3, 2), (4, 2)];
+/// Of a damaged movement sheet.
+const DAMAGED: &[Told] = &[(1, 2), (2, 2), (3, 2)];
 const MARKING: &[Told] = &[(17, 3), (5, 3), (9, 3)];
 const ONE_EACH: &[Told] = &[(17, 3)];
 /// A mode or a pair that is not there.
@@ -93,6 +97,7 @@ fn refusals(call: Call) -> Vec<Told> {
         Test | Fire => [NET, MARKING, MODE, STOPPED].concat(),
         TestStep | FireStep => [NET, MARKING, STEP, MODE, STOPPED].concat(),
         Run => [NET, MOVEMENTS, MARKING, MOVEMENT].concat(),
+        Salvage => [NET, DAMAGED, NO_ROOM].concat(),
         Certify => [NET, MOVEMENTS, ONE_EACH, MOVEMENT, ELSEWHERE].concat(),
         Figure => [NET, WEIGHTS, MARKING].concat(),
         Change => [NET, WEIGHTS, MODE].concat(),
@@ -206,6 +211,16 @@ impl Hits {
             "equal nets, and equal complements",
             "a net of rule 1, over every call",
             "stripped bare by one mode alone",
+            "salvaged whole",
+            "salvaged up to a 6",
+            "salvaged up to an 11",
+            "salvaged up to a 12",
+            "salvaged up to a 13",
+            "salvaged up to a 14",
+            "modes past the 8,192nd",
+            "a lone last byte dropped",
+            "bytes past the declared length ignored",
+            "a length that claims more",
             "equal nets, and equally stripped",
             "a marking found by rule 1",
             "no marking found by rule 1",

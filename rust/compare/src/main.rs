@@ -17,6 +17,7 @@ mod guarded;
 mod hits;
 mod limits;
 mod rules;
+mod salvage;
 mod same;
 mod strip;
 mod truncation;
@@ -62,11 +63,14 @@ fn main() -> ExitCode {
             rules(&mut same, &mut searches);
             let net = generator::net(&mut searches, Style::Small, 4, 3, 12);
             strip::bare(&mut same, &mut searches, &net);
+            let sheet = net.sheet_in(generator::form(&mut searches));
+            salvage::damaged(&mut same, &mut searches, &net, &sheet);
         }
         if round % 64 == 0 {
             let (net, kilograms) = generator::balanced(&mut searches);
             let form = generator::form(&mut searches);
             exclusion::searched(&mut same, &net, form, &kilograms);
+            salvage::every_cut(&mut same, &mut searches);
         }
         if round % 400 == 0 {
             at_limits(&mut same, &mut random, round as usize / 400);
@@ -80,6 +84,8 @@ fn main() -> ExitCode {
         .for_each(|more| same.statement(&vec![random.next() as u8; 65_537 + more * more], pnet::TEXT_ROOM));
     same.part = format!("seed {seed}, the limits of stripping");
     strip::at_limits(&mut same);
+    same.part = format!("seed {seed}, the limits of salvage");
+    salvage::at_limits(&mut same, &mut searches);
     same.part = format!("seed {seed}, the limits of version 2");
     version_2::at_limits(&mut same, &mut random);
     same.part = format!("seed {seed}, the largest nets cut");

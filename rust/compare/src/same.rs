@@ -5,7 +5,7 @@ use std::fmt::Debug;
 use pnet::{Mode, Pair, Refusal};
 
 use crate::hits::{Call, Hits};
-use crate::{guarded, version_2, visits};
+use crate::{guarded, salvage, version_2, visits};
 
 /// Number, thing, position and amount.
 pub type Plain = (u64, u64, u64, u64);
@@ -110,11 +110,13 @@ impl Same {
         );
     }
 
-    pub fn begin(&mut self, net: &[u8], marking: &[u32]) {
+    /// The first marking, where the net has one of this length.
+    pub fn begin(&mut self, net: &[u8], marking: &[u32]) -> Vec<u32> {
         let (mut ours, mut theirs) = (marking.to_vec(), marking.to_vec());
         let answer = told(&guarded::begin(net, &mut ours));
         let reference = plain(reference::begin(net, &mut theirs));
-        self.hold(Call::Begin, answer, (answer, ours), (reference, theirs), &[&net, &marking]);
+        self.hold(Call::Begin, answer, (answer, &ours), (reference, &theirs), &[&net, &marking]);
+        ours
     }
 
     pub fn test(&mut self, net: &[u8], marking: &[u32], mode: u16) {
@@ -165,6 +167,22 @@ impl Same {
             visits::bounded(&mut self.hits, net, movements, &ran, stopped);
         }
         (ran.accepted, answer, ours)
+    }
+
+    /// What is salvaged into a slice of this length.
+    pub fn salvage(&mut self, net: &[u8], damaged: &[u8], room: usize) {
+        let (mut ours, mut theirs) = (vec![170; room], vec![170; room]);
+        let engine = guarded::salvage(net, damaged, &mut ours);
+        let reference = reference::salvage(net, damaged, &mut theirs);
+        let (answer, plainly) = (told(&engine), plain_of(&reference));
+        let stopped = |stop: Option<Refusal>| told(&stop.map_or(Ok(()), Err));
+        let value = engine.ok().map(|of| (of.length, (of.kept, of.dropped, stopped(of.stop))));
+        let reference = reference.ok().map(|of| (of.length, (of.kept, of.dropped, plain(of.stop))));
+        let input: [&dyn Debug; 3] = [&net, &damaged, &room];
+        self.hold(Call::Salvage, answer, (answer, value, &ours), (plainly, reference, &theirs), &input);
+        if let Some((length, report)) = value {
+            salvage::holds(self, net, damaged, report, &ours[..length]);
+        }
     }
 
     pub fn certify(&mut self, net: &[u8], movements: &[u8], claim: &[u32]) {

@@ -111,12 +111,22 @@ fn of_sheets(case: &Case, net: &[u8]) -> Vec<Told> {
     let change = guarded::change(net, weights, Mode(case.mode));
     vec![
         (Call::Run, told(&ran.result), value),
+        salvage(case, net),
         (Call::Certify, told(&guarded::certify(net, movements, &case.claim)), vec![]),
         (Call::Figure, told(&figure), figure.into_iter().collect()),
         (Call::Change, told(&change), change.into_iter().collect()),
         (Call::Exclude, told(&guarded::exclude(net, weights, &case.claim)), vec![]),
         statement(case, net),
     ]
+}
+
+/// A salvage writes a movement sheet, the same for both.
+fn salvage(case: &Case, net: &[u8]) -> Told {
+    let mut fresh = vec![170; case.movements.len() + 5];
+    let salvaged = guarded::salvage(net, &case.movements, &mut fresh);
+    let numbers = salvaged.map(|of| vec![of.length as i64, of.kept as i64, of.dropped as i64]);
+    let bytes = fresh.iter().map(|&byte| byte.into());
+    (Call::Salvage, told(&salvaged), numbers.unwrap_or_default().into_iter().chain(bytes).collect())
 }
 
 /// Three sheets that are accepted are never too long, and few bytes come after them here.

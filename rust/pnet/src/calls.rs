@@ -135,6 +135,36 @@ pub fn run(net: &[u8], movements: &[u8], marking: &mut [u32]) -> Ran {
     }
 }
 
+/// What was salvaged of a movement sheet.
+#[derive(Clone, Copy, Debug, PartialEq, Eq)]
+pub struct Salvaged {
+    /// The bytes of the fresh sheet.
+    pub length: usize,
+    /// How many movements it has.
+    pub kept: usize,
+    /// How many more were considered and dropped.
+    pub dropped: usize,
+    /// Why the first of these was refused.
+    pub stop: Option<Refusal>,
+}
+
+/// Writes a fresh movement sheet with the leading movements of a damaged one that the net accepts from its first marking, up to the first that it
+/// refuses. Bytes past the length that the damaged sheet declares are ignored, what is there is used where it declares more, a lone last byte is
+/// dropped, and at most 8,192 movements are considered. No byte after the fresh sheet is touched; 16,389 bytes are always room enough.
+pub fn salvage(net: &[u8], damaged: &[u8], out: &mut [u8]) -> Result<Salvaged, Refusal> {
+    // SAFETY: pointers and lengths are slices', and the one that is written is lent by `&mut`.
+    let salvaged = unsafe {
+        pnet_salvage(net.as_ptr(), net.len(), damaged.as_ptr(), damaged.len(), out.as_mut_ptr(), out.len())
+    }
+    .result(Sheets { net, movements: damaged, ..Sheets::default() })?;
+    Ok(Salvaged {
+        length: salvaged.length as usize,
+        kept: salvaged.kept as usize,
+        dropped: salvaged.dropped as usize,
+        stop: salvaged.stop.result(Sheets::default()).err(),
+    })
+}
+
 /// Whether the movements run whole from the net's first marking and end at the claim, or why not.
 pub fn certify(net: &[u8], movements: &[u8], claim: &[u32]) -> Result<(), Refusal> {
     // SAFETY: pointers and lengths are slices', which are only read.

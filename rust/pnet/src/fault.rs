@@ -4,7 +4,7 @@
 #[derive(Clone, Copy, Debug, PartialEq, Eq, PartialOrd, Ord, Hash)]
 #[non_exhaustive]
 pub enum Fault {
-    /// 1: fewer than 4 bytes, or fewer than 4 + L.
+    /// 1: fewer than 4 bytes, or fewer than 4 + L; of movements to salvage fewer than 5.
     CutShort,
     /// 2: the version byte is not 1, or 2 in a net sheet; in a conversion, not the version that it converts.
     WrongVersion,

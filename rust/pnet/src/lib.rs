@@ -53,9 +53,9 @@ mod raw;
 mod refusal;
 
 pub use calls::{
-    OutOfStep, Ran, Size, audit, begin, certify, change, complement, exclude, figure, fire, fire_step,
-    first_dead, first_marking, is_dead, read_movements, read_net, read_weights, run, size, statement, strip,
-    test, test_step, to_version_1, to_version_2,
+    OutOfStep, Ran, Salvaged, Size, audit, begin, certify, change, complement, exclude, figure, fire,
+    fire_step, first_dead, first_marking, is_dead, read_movements, read_net, read_weights, run, salvage,
+    size, statement, strip, test, test_step, to_version_1, to_version_2,
 };
 pub use fault::{Fault, Length};
 pub use kinds::{LARGEST_NET, Mode, Pair, TEXT_ROOM, Thing};

@@ -29,6 +29,15 @@ pub struct Visited {
     pub arcs: u64,
 }
 
+/// The bytes of a fresh movement sheet, the movements kept and dropped, and the answer of the first that was dropped.
+#[repr(C)]
+pub struct Salvage {
+    pub length: u64,
+    pub kept: u64,
+    pub dropped: u64,
+    pub stop: Answer,
+}
+
 /// A mode and a pair, where there is one.
 #[repr(C)]
 pub struct Named {
@@ -124,6 +133,14 @@ unsafe extern "C" {
     pub fn pnet_is_dead(net: *const u8, net_length: usize, mode: Mode) -> With<bool>;
     pub fn pnet_first_dead(net: *const u8, net_length: usize) -> With<Named>;
     pub fn pnet_complement(net: *const u8, net_length: usize, out: *mut u8, room: usize) -> With<u64>;
+    pub fn pnet_salvage(
+        net: *const u8,
+        net_length: usize,
+        damaged: *const u8,
+        damaged_length: usize,
+        out: *mut u8,
+        room: usize,
+    ) -> With<Salvage>;
     pub fn pnet_strip(net: *const u8, net_length: usize, pair: Pair, out: *mut u8, room: usize) -> With<u64>;
     pub fn pnet_to_version_2(net: *const u8, net_length: usize, out: *mut u8, room: usize) -> With<u64>;
     pub fn pnet_to_version_1(net: *const u8, net_length: usize, out: *mut u8, room: usize) -> With<u64>;

@@ -94,6 +94,25 @@ fn the_arcs_that_a_run_visits() {
 }
 
 #[test]
+fn of_a_salvage() {
+    let (plain, room, list) = (example(), &mut [170; 20], movements(&[0, 0, 0, 0, 0]));
+    // Five movements were listed, and the sheet was cut in the fifth.
+    let salvaged = salvage(&plain, &list[..14], room).unwrap();
+    assert_eq!((salvaged.length, salvaged.kept, salvaged.dropped), (11, 3, 1));
+    assert_eq!(room[..12], [&movements(&[0, 0, 0])[..], &[170]].concat());
+    assert_eq!(salvaged.stop.unwrap().to_string(), "11: pair 0 holds 1 too few");
+    assert_eq!(salvaged.stop.unwrap().thing(), Thing::Movements);
+    let whole = salvage(&plain, &list[..10], room).unwrap();
+    assert_eq!((whole.kept, whole.dropped, whole.stop), (2, 0, None));
+    says(salvage(&plain, &[0; 4], room), "1: the movement sheet is cut short");
+    says(salvage(&plain, &[0; 5], room), "3: the movement sheet has length 0");
+    says(salvage(&plain, &[0, 0, 0, 9, 2], room), "2: the movement sheet is not of version 1");
+    let too_long = "10: what is to be written exceeds the room for it, or the limits of a sheet";
+    says(salvage(&plain, &list, &mut room[..10]), too_long);
+    says(salvage(&plain[1..], &list, room), "1: the net sheet is cut short");
+}
+
+#[test]
 fn of_a_net() {
     let pairs = [(5, 3), (OPEN, 0)];
     says(

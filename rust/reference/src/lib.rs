@@ -1,5 +1,5 @@
 //! A plain reading of docs/RULES.md: reading a finite P-net, testing and firing one mode or a step of
-//! several at once, running a list of movements, checking a certificate, complementing, stripping a pair,
+//! several at once, running a list of movements, salvaging a cut one, checking a certificate, complementing, stripping a pair,
 //! auditing a marking by the complement's, the figure, markings out of reach, locally dead modes, both versions of a net
 //! sheet and both rules of version 2, `replay`.
 //!
@@ -29,6 +29,7 @@ mod output;
 mod replay;
 mod rule;
 mod run;
+mod salvage;
 mod sheet;
 mod size;
 mod step;
@@ -57,6 +58,7 @@ pub use net_sheet::read_net;
 pub use replay::replay;
 pub use rule::Rule;
 pub use run::{Ran, run};
+pub use salvage::{Salvaged, salvage};
 pub use size::{Size, size};
 pub use step::{fire_step, test_step};
 pub use strip::strip;

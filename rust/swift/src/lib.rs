@@ -1,4 +1,4 @@
-//! The reading, running, complementing, converting, stripping, auditing, excluding and `replay` of docs/RULES.md, written for speed: a net is
+//! The reading, running, salvaging, complementing, converting, stripping, auditing, excluding and `replay` of docs/RULES.md, written for speed: a net is
 //! decoded once into flat arrays, and the loops allocate nothing.
 //!
 //! A sheet is tested as a whole for yes or no; only a refused one is read again to name its fault.
@@ -16,6 +16,7 @@ mod list;
 mod replay;
 mod rows;
 mod run;
+mod salvage;
 mod sheet;
 mod steps;
 mod strip;
@@ -35,6 +36,7 @@ pub use exclude::exclude;
 pub use layout::{read_net, size};
 pub use replay::replay;
 pub use run::{Ran, run};
+pub use salvage::{Salvaged, salvage};
 pub use strip::strip;
 
 /// Sheets as they are read here, for a program that runs them by another method.

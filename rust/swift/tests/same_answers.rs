@@ -193,6 +193,49 @@ fn running_gives_the_same_answer() {
     assert_eq!(seen, (0..=9).chain(11..=14).chain([17]).collect());
 }
 
+/// The same report, or refusal, and the same fresh sheet of damaged movements.
+fn same_salvage(net: &[u8], damaged: &[u8], room: usize, seen: &mut BTreeSet<u32>) {
+    let (mut swiftly, mut plainly) = (vec![170; room], vec![170; room]);
+    let swift = swift::salvage(net, damaged, &mut swiftly).map_err(of_swift);
+    let plain = reference::salvage(net, damaged, &mut plainly).map_err(of_reference);
+    let told = swift.map(|told| (told.length, told.kept, told.dropped, of_swift(told.stop)));
+    let plain = plain.map(|told| (told.length, told.kept, told.dropped, of_reference(told.stop)));
+    assert_eq!(told, plain, "{net:?} {damaged:?}");
+    assert!(swiftly == plainly, "{net:?} {damaged:?}");
+    seen.insert(told.map_or_else(|answer| answer.0, |(.., stop)| 100 + stop.0));
+}
+
+#[test]
+fn salvaging_gives_the_same_sheet() {
+    let (mut random, mut seen) = (Random::new(45), BTreeSet::new());
+    for _ in 0..12_000 {
+        let (net, _) = any_net_for_lists(&mut random);
+        let list = movements(&list(&mut random, &net, 40));
+        let cut = random.below(list.len() + 1);
+        let list = if random.once_in(2) { list } else { list[..cut].to_vec() };
+        let damaged = maybe_spoiled(&mut random, list, 3);
+        let room = if random.once_in(8) { random.below(90) } else { 36_000 };
+        let sheet = sheet_of(&mut random, &net, 15);
+        same_salvage(&sheet, &damaged, room, &mut seen);
+    }
+    let stops = [100, 106].into_iter().chain(111..=114);
+    assert_eq!(seen, (1..=10).chain(stops).collect());
+}
+
+#[test]
+fn at_every_cut_the_same_is_salvaged() {
+    let (mut random, mut seen) = (Random::new(46), BTreeSet::new());
+    for length in [0, 1, 30, 8_191, 8_192, 8_193, 8_300] {
+        let net = net(&mut random, Style::Lively, 2, 3, 6);
+        let modes = total(&net.modes).max(1);
+        let list = movements(&(0..length).map(|_| random.below(modes) as u16).collect::<Vec<_>>());
+        for cut in (0..=list.len()).filter(|&cut| cut < 60 || cut + 4 > list.len()) {
+            same_salvage(&net.sheet(), &list[..cut], 36_000, &mut seen);
+        }
+    }
+    assert!(seen.contains(&100));
+}
+
 /// Mostly small nets, where refusals are near; the large ones are slow in the reference.
 fn any_net_for_lists(random: &mut Random) -> (PlainNet, Style) {
     if random.once_in(100) {

@@ -1,0 +1,5 @@
+pub mod MovementSheet
+pub mod Salvaged
+pub mod Contracts
+pub mod Parts
+pub mod Promises
