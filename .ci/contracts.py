@@ -6,7 +6,7 @@
 2. Every `pub fn` of a library with a `requires` stands among the shared parts of docs/ARCHITECTURE.md; every other `pub fn` is one of them too, or is a
    public call and stands on docs/CONTRACTS.md.
 3. A public call `x_y` has one `ensures`: `XYAllows`, which its crate's specs/Contracts.antt declares, over its arguments in their order and its outcome: the
-   answer, and the final content of every slice that it is lent to write.
+   answer, and the final content of every slice or record that it is lent to write.
 4. Every `..Allows` of a specs/Contracts.antt is the contract of a public call and has its field in Uniqueness, in ConstantAnswers and, where it answers with a
    number of document 01, in CallTables (a field may serve two calls: the comment above it names them); a call for C in UniqueForC and ConstantAnswersForC.
 5. A shared part says something of its result, and of every slice that it is lent to write: an equation whose other side does not speak of it, or a
@@ -72,7 +72,7 @@ class Function:
             depth += (letter == '(') - (letter == ')')
             if letter == ')' and depth == 0:
                 break
-        self.parameters = re.findall(r'(\w+): (&mut \[|&\[|&)?', head[1:end])
+        self.parameters = re.findall(r'(\w+): (&mut |&\[|&)?', head[1:end])
         clauses = head[end + 1:]
         self.returns = '->' in re.split(r'\n\s*(?:requires|ensures) ', clauses)[0]
         self.requires = re.findall(r'requires \{ (.*?) \}$', clauses, re.M)
@@ -290,6 +290,8 @@ OfEach P = (n : ℕ) → P n ≡ P n
     calls = [
         (call % right, {'FireOnAllows'}, 0), (call % right, {}, 1), (call % 'r ≡ r', {'FireOnAllows'}, 1), (call % '⊤', {'FireOnAllows'}, 1),
         (call % right.replace(' mode', ''), {'FireOnAllows'}, 1), (call % right.replace('(r, now (out .exit))', 'r'), {'FireOnAllows'}, 1),
+        (call.replace('out: &mut [u8]', 'out: &mut Fleet') % right, {'FireOnAllows'}, 0),
+        (call.replace('out: &mut [u8]', 'out: &mut Fleet') % right.replace('(r, now (out .exit))', 'r'), {'FireOnAllows'}, 1),
         (call % right + '    ensures { λ r. ⌜ ⊤ ⌝ }\n', {'FireOnAllows'}, 1), (call.replace('    ensures { λ r. ⌜ %s ⌝ }\n', ''), {'FireOnAllows'}, 1),
     ]
     unique = 'pub record Uniqueness : Type 0 where\n  pub fire : (s : List ℕ) → Unique (FireAllows s)\n  pub test : (s : List ℕ) → Unique (FireAllows s)\n'

@@ -56,13 +56,14 @@ enum {
     PNET_NET = 0, /* also where a call is accepted, and for 10, 15 and any number above 18 */
     PNET_WEIGHTS = 1,
     PNET_MOVEMENTS = 2, /* also a movement that a run or a certificate refuses */
-    PNET_ARGUMENT = 3   /* a marking, a claim, a mode, a step or a pair */
+    PNET_ARGUMENT = 3   /* a marking, a claim, a mode, a pair, a step or a fleet's record */
 };
 
 /* The limits of sheets and steps. */
 enum {
     PNET_PAIRS = 256,             /* at most, and so many counts in a marking */
     PNET_STEP = 64,               /* modes of a step, at most */
+    PNET_SHIPS = 1000,            /* in a fleet's record, at most */
     PNET_LARGEST_NET = 35083,     /* bytes, of a complement too */
     PNET_LARGEST_LIST = 16389,    /* bytes of a movement sheet */
     PNET_LARGEST_COUNT = 1000000, /* in a sheet or a marking */
@@ -85,6 +86,7 @@ enum {
  *       in version 2 the running total of the modes' arc counts passes 2,048      that count's field
  *       in version 2 the rule byte is neither 0 nor 1                             5
  *       a step is empty, or has more than PNET_STEP modes                         0
+ *       a fleet's record has PNET_SHIPS ships already                             0
  *    5  a number is outside its range                                             its field; in a marking, the pair
  *    6  an arc's mode or pair is not there                                        its field in the arc
  *       a movement's mode, the mode handed over or one of a step is not there     0
@@ -109,8 +111,10 @@ enum {
  *   21  a mode's weight change is not 0, in pnet_exclude                          the lowest such mode
  *   22  the claim has the figure of the first marking, in pnet_exclude            0
  *   23  a net of rule 1 has no sheet of version 1, in pnet_to_version_1           0
+ *   24  a figure of a fleet's record would be above 10^18                         0
+ *   25  a fleet's record is out of its bounds                                     0
  *
- * 19, 20 and numbers above 23 are kept for later calls; every number above 18 has thing PNET_NET.
+ * 19, 20 and numbers above 25 are kept for later calls; every number above 18 has thing PNET_NET.
  *
  * The amount is a number of tokens at the pair that the position names, at least 1:
  *
@@ -188,6 +192,15 @@ struct pnet_sized {
     uint64_t arcs;
 };
 
+/* The running record of a fleet, which the caller keeps; all 0 at first. */
+struct pnet_fleet {
+    uint64_t ships;      /* counted, at most PNET_SHIPS */
+    uint64_t movements;  /* accepted */
+    uint64_t refused[5]; /* ships whose run was stopped by 6, 11, 12, 13 and 14 */
+    int64_t added;       /* kilograms, at most 10^18: weight changes above 0 of accepted movements */
+    int64_t removed;     /* kilograms, at most 10^18: the sizes of those below 0 */
+};
+
 /* Readers. Each reads the sheet at the start of a run of bytes, which may go on after it, and writes nothing. The value is how
  * many bytes the sheet takes: what follows begins there.
  *
@@ -260,6 +273,16 @@ struct pnet_weighed pnet_figure(const uint8_t *net, size_t net_length, const uin
  * Refuses: the net; the weights; 6 for the mode (PNET_ARGUMENT). */
 struct pnet_weighed pnet_change(const uint8_t *net, size_t net_length, const uint8_t *weights, size_t weights_length,
                                 struct pnet_mode mode);
+
+/* Counts one ship more in the lent record: its movements are run from the net's first marking, up to the first that is refused. The ship is
+ * counted and the call accepted also where a movement is refused: one is added under its number. Added and removed grow by the weight change
+ * of each accepted movement. From a record of zeros, with each ship given the record as the one before left it, the starting figures of the
+ * ships counted, plus added, less removed, are their last figures. The record overlaps no sheet.
+ * Refuses: 25 for a record with ships or a refused count above 1,000, movements above 8,192,000, or a figure below 0 or above 10^18; 4 for
+ * ship 1,001 (PNET_ARGUMENT); the net; the weights; the movements; 24 where added or removed would be above 10^18. A refused call leaves
+ * the record as it was found. */
+struct pnet_answer pnet_fleet_add(struct pnet_fleet *record, const uint8_t *net, size_t net_length, const uint8_t *weights,
+                                  size_t weights_length, const uint8_t *movements, size_t movements_length);
 
 /* Whether the weights show that the claim is out of reach: every mode's weight change is 0, so that the figure stays the same over any
  * movements, and the claim's figure is not that of the net's first marking. Where it is accepted, no movements lead from the first marking to the

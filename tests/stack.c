@@ -3,7 +3,8 @@
  *
  *   cc -I include tests/stack.c target/staticlib/libabi.a -o stack && ./stack
  *
- * Exit status 1 where a call uses more than it may: pnet_run, pnet_salvage and pnet_statement 12 KiB, steps 6 KiB, every other 4 KiB.
+ * Exit status 1 where a call uses more than it may: pnet_run, pnet_salvage, pnet_fleet_add and pnet_statement 12 KiB, steps 6 KiB,
+ * every other 4 KiB.
  */
 #include <stdio.h>
 #include <string.h>
@@ -81,6 +82,7 @@ static size_t input_length;
 static struct pnet_mode last = {255};
 static struct pnet_pair last_pair = {255};
 static struct pnet_mode step[64];
+static struct pnet_fleet record;
 
 static unsigned char stack[ROOM];
 static volatile char *top;
@@ -110,6 +112,7 @@ CALL(test_step, pnet_test_step(NET, MARKING, step, 64))
 CALL(fire_step, pnet_fire_step(NET, MARKING, step, 64))
 CALL(run, pnet_run(NET, MOVEMENTS, MARKING).answer)
 CALL(salvage, pnet_salvage(NET, MOVEMENTS, out, sizeof out).answer)
+CALL(fleet_add, pnet_fleet_add(&record, NET, WEIGHTS, MOVEMENTS))
 CALL(certify, pnet_certify(NET, MOVEMENTS, MARKING))
 CALL(figure, pnet_figure(NET, WEIGHTS, MARKING).answer)
 CALL(change, pnet_change(NET, WEIGHTS, last).answer)
@@ -141,7 +144,7 @@ static const struct {
     {"pnet_audit", audit, 0, 4096},             {"pnet_statement", statement, 0, 12288},
     {"pnet_exclude", exclude, 22, 4096},        {"pnet_to_version_2", to_version_2, 0, 4096},
     {"pnet_to_version_1", to_version_1, 0, 4096}, {"pnet_strip", strip, 0, 4096},
-    {"pnet_salvage", salvage, 0, 12288},
+    {"pnet_salvage", salvage, 0, 12288},        {"pnet_fleet_add", fleet_add, 0, 12288},
 };
 
 /* replay's input: the three sheets one after another. */

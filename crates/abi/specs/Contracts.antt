@@ -22,6 +22,9 @@ use Rattle.convert.specs.Converted as convert
 use Rattle.strip.specs.Stripped as strip
 use Rattle.audit.specs.Audits as audit
 use Rattle.salvage.specs.Salvaged as salvage
+use Rattle.fleet.specs.declared.Fleet.{Fleet}
+use Rattle.fleet.specs.Ships.{ship}
+use Rattle.fleet.specs.Calls.{entered}
 use Rattle.statement.specs.Replay.{stated, statedIn}
 use Rattle.answers.specs.declared.Answered.{Answered}
 use Rattle.answers.specs.declared.Counted.{Counted}
@@ -103,6 +106,10 @@ module _ (net : List ℕ) where
 
   abbrev pub SalvageAllows : List ℕ → List ℕ → Reported × List ℕ → Type 0
   SalvageAllows damaged out o = (o .0 ≡ reported (salvage.told (salvage.salvageOf net damaged out))) × (o .1 ≡ salvage.outputOf net damaged out)
+
+abbrev pub FleetAddAllows : Fleet → List ℕ → List ℕ → List ℕ → Answered × Fleet → Type 0
+FleetAddAllows found net weights movements o =
+    (o .0 ≡ answered (entered found (ship net weights movements) .answer)) × (o .1 ≡ entered found (ship net weights movements) .fleet)
 
 abbrev pub StatementAllows : List ℕ → List ℕ → Counted × List ℕ → Type 0
 StatementAllows input out o = (o .0 ≡ counted (textTold (stated input out))) × (o .1 ≡ statedIn input out)

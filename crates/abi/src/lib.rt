@@ -1,4 +1,5 @@
 // The public calls for C (include/pnet.h). Each hands its arguments to its library's call, and its answer back as a struct by value.
+pub mod adding;
 pub mod auditing;
 pub mod complementing;
 pub mod converting;

@@ -12,7 +12,7 @@ use Rattle.model.specs.declared.Mode.{Mode}
 use Rattle.model.specs.declared.Thing.{Thing}
 use Rattle.model.specs.declared.Why.the-variants.{Lacking, OverCapacity, Inhibited, OverLimit}
 use Rattle.model.specs.declared.Fault.{Fault}
-use Rattle.model.specs.declared.Fault.the-variants.{CutShort, WrongVersion, WrongLength, CountOutside, NumberOutside, MarkingOutside, NotThereAt, NotThere, NotRising, Blank, StartAboveCapacity, MarkingAboveCapacity, NoRoom, Stopped, InhibitedUnbounded, NotOneEach, EndsElsewhere, Unbalanced, EqualFigures, RuleLost}
+use Rattle.model.specs.declared.Fault.the-variants.{CutShort, WrongVersion, WrongLength, CountOutside, NumberOutside, MarkingOutside, NotThereAt, NotThere, NotRising, Blank, StartAboveCapacity, MarkingAboveCapacity, NoRoom, Stopped, InhibitedUnbounded, NotOneEach, EndsElsewhere, Unbalanced, EqualFigures, RuleLost, FigurePast, RecordOutside}
 use Rattle.model.specs.declared.Refusal.{Refusal}
 use Rattle.model.specs.declared.Answer.{Answer}
 use Rattle.model.specs.declared.Answer.the-variants.{Accepted, Refused}
@@ -61,6 +61,8 @@ not-16 (EndsElsewhere p) e = omega arith
 not-16 (Unbalanced t) e = omega arith
 not-16 EqualFigures e = omega arith
 not-16 RuleLost e = omega arith
+not-16 FigurePast e = omega arith
+not-16 RecordOutside e = omega arith
 
 reserved : (a : Answer) → ¬ (number a ≡ 16)
 reserved Accepted e = omega arith

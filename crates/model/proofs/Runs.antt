@@ -1,21 +1,23 @@
 -- What a run does, by induction over the list; and certificates.
-use Prim.Native.Nat.{ℕ, suc, _+_, _<_}
+use Prim.Native.Nat.{ℕ, zero, suc, _+_, _<_}
 use mathlib.Core.Path.{_≡_, refl, sym, _∙_, ap}
 use mathlib.Core.List.{List, [], _∷_}
 use mathlib.Core.Logic.{_↔_, _⊎_, inl, inr, ⊎-elim}
 use mathlib.Core.Option.{Option, none, some}
 use lib.ListN.{length, take, getD}
-use lib.Seq.{take-length, ext-getD}
+use lib.Seq.{take-length, ext-getD, getD-take, length-take-le}
+use native.Mathlib.Nat.{le-of-suc-le-suc, not-suc-le-zero}
 use native.Mathlib.Omega.{arith}
 use borrow.Author.Tests.{eqb-true, eq-eqb, not-false}
 use Rattle.model.specs.declared.Mode.{Mode}
 use Rattle.model.specs.declared.Thing.the-variants.{Movements}
 use Rattle.model.specs.declared.Refusal.{Refusal}
-use Rattle.model.specs.Nets.{PNet, pairs, modeNo, count}
+use Rattle.model.specs.Nets.{PNet, pairs, modes, modeNo, count}
 use Rattle.model.specs.Firing.{modeRefusal, fired}
 use Rattle.model.specs.Runs.{Outcome, goOn, runFrom, run, elsewhere, endsAt, certificateRefusal}
 use Rattle.model.specs.Promises.{Leads, stays, moves, RunIs, Runs, Certificates}
 use Rattle.model.proofs.First.{left-none, right-none, none-then, first-each, first-all, only-if-none}
+use Rattle.model.proofs.Firing.{accepted-there}
 use Rattle.model.proofs.Markings.{fired-length}
 
 -- an outcome that k accepted movements and then `steps` more give
@@ -82,6 +84,18 @@ run-leads net ts m e = let r = runs net ts m in rw (r .whole .0 e, take-length) 
 pub leads-whole : {net : PNet} {ts : List Mode} {m m′ : List ℕ} → Leads net ts m m′ → (run net ts m .refusal ≡ none) × (run net ts m .marking ≡ m′)
 unfolding outcome
 leads-whole l = (ap (λ o. o .refusal) (leads-run l 0), ap (λ o. o .marking) (leads-run l 0))
+
+-- the mode of each movement that a run accepts is there
+leads-there : {net : PNet} {ts : List Mode} {m m′ : List ℕ} → Leads net ts m m′ → (k : ℕ) → k < length ts → getD ts k (modeNo 0) .0 < modes net
+leads-there stays k h = absurd (not-suc-le-zero h)
+leads-there {net} (moves {t = t} {m = m} e l) zero h = accepted-there Movements net t m e
+leads-there (moves e l) (suc k) h = leads-there l k (le-of-suc-le-suc h)
+
+pub accepted-modes : (net : PNet) (ts : List Mode) (m : List ℕ) (k : ℕ) → k < run net ts m .accepted → getD ts k (modeNo 0) .0 < modes net
+accepted-modes net ts m k h =
+    let is = runs net ts m in
+    let few : length (take (run net ts m .accepted) ts) ≡ run net ts m .accepted = length-take-le _ ts (is .part) in
+    rw (getD-take (run net ts m .accepted) ts k (modeNo 0) h) at (leads-there (is .leads) k (rw few h))
 
 module _ (net : PNet) (ts : List Mode) (claim : List ℕ) (each : length (net .start) ≡ pairs net) where
   abbrev last : List ℕ

@@ -8,7 +8,7 @@ use Rattle.model.specs.declared.Thing.{Thing}
 use Rattle.model.specs.declared.Why.{Why}
 use Rattle.model.specs.declared.Why.the-variants.{Lacking, OverCapacity, Inhibited, OverLimit}
 use Rattle.model.specs.declared.Fault.{Fault}
-use Rattle.model.specs.declared.Fault.the-variants.{CutShort, WrongVersion, WrongLength, CountOutside, NumberOutside, MarkingOutside, NotThereAt, NotThere, NotRising, Blank, StartAboveCapacity, MarkingAboveCapacity, NoRoom, Stopped, InhibitedUnbounded, NotOneEach, EndsElsewhere, Unbalanced, EqualFigures, RuleLost}
+use Rattle.model.specs.declared.Fault.the-variants.{CutShort, WrongVersion, WrongLength, CountOutside, NumberOutside, MarkingOutside, NotThereAt, NotThere, NotRising, Blank, StartAboveCapacity, MarkingAboveCapacity, NoRoom, Stopped, InhibitedUnbounded, NotOneEach, EndsElsewhere, Unbalanced, EqualFigures, RuleLost, FigurePast, RecordOutside}
 use Rattle.model.specs.declared.Answer.{Answer}
 use Rattle.model.specs.declared.Answer.the-variants.{Accepted, Refused}
 use Rattle.model.specs.Refusals.{answer, line, number, amount}
@@ -42,6 +42,8 @@ other-numbers (EndsElsewhere p) h = refl
 other-numbers (Unbalanced t) h = refl
 other-numbers EqualFigures h = refl
 other-numbers RuleLost h = refl
+other-numbers FigurePast h = refl
+other-numbers RecordOutside h = refl
 
 answers-zero : (a : Answer) → (number a < 11) ⊎ (14 < number a) → amount a ≡ 0
 answers-zero Accepted h = refl

@@ -51,9 +51,9 @@ mode-at-most net t = go (ltb (t .0) (modes net)) refl
     go true e = at-most (modes net) (λ t. modeArcs net (modeNo t)) (t .0) (ltb-true _ _ e)
     go false e = rw (missing net t e) (omega arith)
 
-each-at-most : (f : Mode → ℕ) (most : ℕ) → ((t : Mode) → f t ≤ most) → (ts : List Mode) → total (map f ts) ≤ length ts * most
+pub each-at-most : {A : Type 0} (f : A → ℕ) (most : ℕ) → ((x : A) → f x ≤ most) → (xs : List A) → total (map f xs) ≤ length xs * most
 each-at-most f most h [] = omega (arith, zero-mul most)
-each-at-most f most h (t ∷ ts) = omega (arith, h t, each-at-most f most h ts, suc-mul (length ts) most)
+each-at-most f most h (x ∷ xs) = omega (arith, h x, each-at-most f most h xs, suc-mul (length xs) most)
 
 pub visits-bounded : VisitsBounded
 unfolding visited

@@ -7,7 +7,7 @@ use Rattle.model.specs.declared.Thing.{Thing}
 use Rattle.model.specs.declared.Thing.the-variants.{Net, Weights, Movements, Argument}
 use Rattle.model.specs.declared.Why.the-variants.{Lacking, OverCapacity, Inhibited, OverLimit}
 use Rattle.model.specs.declared.Fault.{Fault}
-use Rattle.model.specs.declared.Fault.the-variants.{CutShort, WrongVersion, WrongLength, CountOutside, NumberOutside, MarkingOutside, NotThereAt, NotThere, NotRising, Blank, StartAboveCapacity, MarkingAboveCapacity, NoRoom, Stopped, InhibitedUnbounded, NotOneEach, EndsElsewhere, Unbalanced, EqualFigures, RuleLost}
+use Rattle.model.specs.declared.Fault.the-variants.{CutShort, WrongVersion, WrongLength, CountOutside, NumberOutside, MarkingOutside, NotThereAt, NotThere, NotRising, Blank, StartAboveCapacity, MarkingAboveCapacity, NoRoom, Stopped, InhibitedUnbounded, NotOneEach, EndsElsewhere, Unbalanced, EqualFigures, RuleLost, FigurePast, RecordOutside}
 use Rattle.model.specs.declared.Refusal.{Refusal}
 use Rattle.model.specs.declared.Answer.{Answer}
 use Rattle.model.specs.declared.Answer.the-variants.{Accepted, Refused}
@@ -58,6 +58,8 @@ line (EndsElsewhere p) = says 18 (p .0)
 line (Unbalanced t) = says 21 (t .0)
 line EqualFigures = says 22 0
 line RuleLost = says 23 0
+line FigurePast = says 24 0
+line RecordOutside = says 25 0
 
 abbrev pub number : Answer → ℕ
 number Accepted = 0

@@ -69,6 +69,8 @@ pub enum Fault {
     Unbalanced(Mode),
     EqualFigures,
     RuleLost,
+    FigurePast,
+    RecordOutside,
 }
 
 pub struct Refusal {

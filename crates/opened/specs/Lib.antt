@@ -1,3 +1,4 @@
 pub mod Shape
 pub mod Opened
 pub mod Starts
+pub mod Read

@@ -4,7 +4,7 @@ use mathlib.Core.Option.{Option, none, some}
 use native.Mathlib.Omega.{arith}
 use Rattle.model.specs.declared.Why.the-variants.{Lacking, OverCapacity, Inhibited, OverLimit}
 use Rattle.model.specs.declared.Fault.{Fault}
-use Rattle.model.specs.declared.Fault.the-variants.{CutShort, WrongVersion, WrongLength, CountOutside, NumberOutside, MarkingOutside, NotThereAt, NotThere, NotRising, Blank, StartAboveCapacity, MarkingAboveCapacity, NoRoom, Stopped, InhibitedUnbounded, NotOneEach, EndsElsewhere, Unbalanced, EqualFigures, RuleLost}
+use Rattle.model.specs.declared.Fault.the-variants.{CutShort, WrongVersion, WrongLength, CountOutside, NumberOutside, MarkingOutside, NotThereAt, NotThere, NotRising, Blank, StartAboveCapacity, MarkingAboveCapacity, NoRoom, Stopped, InhibitedUnbounded, NotOneEach, EndsElsewhere, Unbalanced, EqualFigures, RuleLost, FigurePast, RecordOutside}
 use Rattle.model.specs.declared.Refusal.{Refusal}
 use Rattle.model.specs.Refusals.{answer, line, number}
 
@@ -32,6 +32,8 @@ refused-number (EndsElsewhere p) e = omega arith
 refused-number (Unbalanced t) e = omega arith
 refused-number EqualFigures e = omega arith
 refused-number RuleLost e = omega arith
+refused-number FigurePast e = omega arith
+refused-number RecordOutside e = omega arith
 
 pub number-none : (o : Option Refusal) → number (answer o) ≡ 0 → o ≡ none
 number-none none e = refl

@@ -57,6 +57,10 @@ use Rattle.fire.specs.Calls.{beginRefusal, testRefusal}
 use Rattle.run.specs.Calls.{beforeRun, runOf, certifyRefusal}
 use Rattle.step.specs.Calls.{stepModes, testStepRefusal}
 use Rattle.weigh.specs.Calls.{figureRefusal, changeRefusal}
+use Rattle.fleet.specs.declared.Fleet.{Fleet}
+use Rattle.fleet.specs.Ships.{Ship, voyageOf, withVoyage}
+use Rattle.fleet.specs.Calls.{recordRefusal, roomRefusal as shipRoom, figureRefusal as shipFigures, shipRefusal}
+use Rattle.fleet.proofs.Entering.{by-bounds, by-past}
 use Rattle.exclude.specs.Calls.{excludeRefusal}
 use Rattle.dead.specs.IsDead.{deadRefusal}
 use Rattle.complement.specs.Complemented.{complementSheet, roomRefusal, complementingRefusal}
@@ -65,7 +69,7 @@ use Rattle.strip.specs.Strip.{boundOf, stripRefusal}
 use Rattle.strip.specs.Stripped.{strippedNet, strippedSheet, strippingRefusal}
 use Rattle.strip.specs.Stripped as stripping
 use Rattle.audit.specs.Audits.{auditingRefusal}
-use Rattle.promises.specs.CallTables.{bytesLeft, wholeNetTable, wholeWeightTable, wholeMovementTable, markingAfter, movesTable, certificateTable, stepTable, roomTable, convertTable, stripTable, RunReads, SalvageReads, CallTables, claimTable}
+use Rattle.promises.specs.CallTables.{bytesLeft, wholeNetTable, wholeWeightTable, wholeMovementTable, markingAfter, movesTable, certificateTable, stepTable, roomTable, convertTable, stripTable, RunReads, SalvageReads, CallTables, claimTable, addShipTable}
 use Rattle.salvage.specs.Salvaged as salvaging
 use Rattle.salvage.specs.Salvaged.{freshSheet, modesIn, trial, salvageRefusal}
 
@@ -179,6 +183,16 @@ unfolding claimRefusal sameFigure
 claim-reads net weights claim =
     reads-then (reads-each (modes net) (λ t l. reads-plain _ (by-not (by-same (change net weights (modeNo t)) (pos 0)))))
     (reads-plain _ (by-same (figure net weights claim) (figure net weights (net .start))))
+
+-- a ship: the record, the room for it, its sheets, then the figures
+ship-reads : (found : Fleet) (s : Ship) → Reads (addShipTable found s) (shipRefusal found s)
+unfolding shipRefusal recordRefusal shipRoom shipFigures withVoyage voyageOf
+ship-reads found s =
+    reads-then (reads-plain _ (by-bounds found))
+    (reads-then (reads-plain _ (by-less 1000 (found .ships + 1)))
+    (reads-then (net-reads (s .net))
+    (reads-then (weights-reads (pairs (netOf (s .net))) (s .weights))
+    (reads-then (movements-reads (s .movements)) (reads-plain _ (by-or (by-past _) (by-past _)))))))
 
 -- complementing
 by-finite : (x : ℕ∞) → Decided (finite x) ((i : ℕ) × (x ≡ fin i))
@@ -338,6 +352,7 @@ call-tables =
           reads-then (net-reads net) (reads-then (weights-reads (pairs (netOf net)) weights) (refusal-table .marking (netOf net) marking));
       change = λ net weights t.
           reads-then (net-reads net) (reads-then (weights-reads (pairs (netOf net)) weights) (missing-reads Argument (netOf net) t));
+      addShip = ship-reads;
       exclude = λ net weights claim.
           reads-then (net-reads net)
           (reads-then (weights-reads (pairs (netOf net)) weights)

@@ -34,6 +34,9 @@ use Rattle.run.specs.Calls.{beforeRun, runOf, certifyRefusal}
 use Rattle.step.specs.Calls.{testStepRefusal}
 use Rattle.weigh.specs.Calls.{figured, figureRefusal, changeRefusal}
 use Rattle.weigh.specs.Calls as weigh
+use Rattle.fleet.specs.Ships.{ship}
+use Rattle.fleet.specs.Calls.{recordRefusal, roomRefusal, shipRefusal, entered}
+use Rattle.fleet.specs.Promises.{zeros}
 use Rattle.exclude.specs.Calls.{excludeRefusal}
 use Rattle.dead.specs.IsDead.{deadRefusal}
 use Rattle.dead.specs.IsDead as one
@@ -131,6 +134,10 @@ figure-cut = whole-cut _
 change-cut : changeRefusal lone [] (modeNo 0) ≡ some (cutShort Net)
 unfolding changeRefusal
 change-cut = whole-cut _
+
+ship-cut : shipRefusal zeros (ship lone [] []) ≡ some (cutShort Net)
+unfolding shipRefusal recordRefusal roomRefusal
+ship-cut = none-then refl (none-then refl (whole-cut _))
 
 exclude-cut : excludeRefusal lone [] [] ≡ some (cutShort Net)
 unfolding excludeRefusal
@@ -251,7 +258,7 @@ strips =
     rw none-refused
 
 pub constant-answers : ConstantAnswers
-unfolding wholeNet wholeWeights wholeMovements beginRefusal testRefusal runOf certifyRefusal figured finds decimal decimalWithin signedDecimal
+unfolding wholeNet wholeWeights wholeMovements beginRefusal testRefusal runOf certifyRefusal figured entered finds decimal decimalWithin signedDecimal
 constant-answers =
     record {
       readNet = varies _ _ own.net lone (says net-accepted) (says net-cut);
@@ -280,6 +287,9 @@ constant-answers =
       change =
           varies _ _ (own.net, sheets.weights, modeNo 0) (lone, [], modeNo 0) (λ o a. ap (λ r. r .carried .number) (own-example .change o a))
           (λ o a. ap (λ o. weigh.told o .carried .number) a ∙ rw change-cut);
+      addShip =
+          varies _ _ (zeros, own.net, sheets.weights, sheets.movements) (zeros, lone, [], []) (λ o a. own-example .addShip o a .0)
+          (λ o a. says ship-cut (o .0) (a .0));
       exclude = varies _ _ (own.net, own.even, 3 ∷ 1 ∷ []) (lone, [], []) (own-example .exclude) (says exclude-cut);
       isDead =
           varies _ _ (own.net, modeNo 0) (lone, modeNo 0) (λ o a. ap (λ r. r .carried .number) (own-example .isDead o a))

@@ -51,6 +51,7 @@ constant-answers-for-c =
       certify = tells (library .certify) (λ i p a. (_, refl, ap (λ r. r .number) a));
       figure = tells (library .figure) (λ i p a. (_, refl, ap (λ r. r .answer .number) a));
       change = tells (library .change) (λ i p a. (_, refl, ap (λ r. r .answer .number) a));
+      fleetAdd = tells (library .addShip) (λ i p a. ((_, p .1), (refl, a .1), ap (λ r. r .number) (a .0)));
       exclude = tells (library .exclude) (λ i p a. (_, refl, ap (λ r. r .number) a));
       isDead = tells (library .isDead) (λ i p a. (_, refl, ap (λ r. r .answer .number) a));
       firstDead =

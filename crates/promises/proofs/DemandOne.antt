@@ -23,6 +23,9 @@ use Rattle.fire.specs.Calls.{beginRefusal, testRefusal}
 use Rattle.run.specs.Calls.{runOf}
 use Rattle.run.proofs.Promises.{runs-leave}
 use Rattle.step.specs.Calls.{stepModes, testStepRefusal}
+use Rattle.fleet.specs.declared.Fleet.{Fleet}
+use Rattle.fleet.specs.Ships.{Ship, ship, voyageOf, withVoyage}
+use Rattle.fleet.specs.Calls.{shipRefusal, left, entered}
 use Rattle.complement.specs.Complemented.{complementSheet, complementingRefusal, told, complemented, output}
 use Rattle.convert.specs.Converted.{convertedSheet, convertRefusal, converted, conversionOf, outputOf}
 use Rattle.convert.specs.Converted as converting
@@ -40,6 +43,14 @@ use Rattle.promises.specs.DemandOne.{Refused, DemandOne, DemandOneForC}
 kept : (o : Option Refusal) (new found : List ℕ) → Refused (answer o) → written o new found ≡ found
 kept none new found h = absurd (h refl)
 kept (some r) new found h = refl
+
+record-kept : (o : Option Refusal) (f next : Fleet) → Refused (answer o) → left o f next ≡ f
+record-kept none f next h = absurd (h refl)
+record-kept (some r) f next h = refl
+
+ship-kept : (f : Fleet) (s : Ship) → Refused (entered f s .answer) → entered f s .fleet ≡ f
+unfolding entered
+ship-kept f s h = record-kept (shipRefusal f s) f (withVoyage f (voyageOf s)) h
 
 output-kept : (o : Option Refusal) (n : ℕ) (sheet found : List ℕ) → told (complemented o n) .carried .number ≢ 0 → output o sheet found ≡ found
 output-kept none n sheet found h = absurd (h refl)
@@ -107,6 +118,7 @@ demand-one =
           allows .1 ∙ kept (testRefusal net marking t) (fired (netOf net) t marking) marking (subst Refused (allows .0) refused);
       fireStep = λ net marking modes o allows refused.
           allows .1 ∙ kept (testStepRefusal net marking modes) (firedTogether (netOf net) (stepModes modes) marking) marking (subst Refused (allows .0) refused);
+      addShip = λ found net weights movements o allows refused. allows .1 ∙ ship-kept found (ship net weights movements) (subst Refused (allows .0) refused);
       complement = λ net out o allows refused.
           allows .1
           ∙ output-kept (complementingRefusal net (length out)) (length (complementSheet net)) (complementSheet net) out
@@ -135,6 +147,8 @@ demand-one-for-c =
           allows .1 ∙ kept (testRefusal net marking t) (fired (netOf net) t marking) marking (subst (λ a. a .number ≢ 0) (allows .0) refused);
       fireStep = λ net marking modes o allows refused.
           allows .1 ∙ kept (testStepRefusal net marking modes) (firedTogether (netOf net) (stepModes modes) marking) marking (subst (λ a. a .number ≢ 0) (allows .0) refused);
+      fleetAdd = λ found net weights movements o allows refused.
+          allows .1 ∙ ship-kept found (ship net weights movements) (subst (λ a. a .number ≢ 0) (allows .0) refused);
       complement = λ net out o allows refused.
           allows .1
           ∙ output-kept (complementingRefusal net (length out)) (length (complementSheet net)) (complementSheet net) out

@@ -33,6 +33,9 @@ use Rattle.fire.specs.Calls.{beginRefusal, testRefusal}
 use Rattle.run.specs.Calls.{beforeRun, runOf, visitedBy, certifyRefusal}
 use Rattle.step.specs.Calls.{testStepRefusal}
 use Rattle.weigh.specs.Calls.{figureRefusal, changeRefusal}
+use Rattle.fleet.specs.declared.Fleet.{Fleet}
+use Rattle.fleet.specs.Ships.{ship, voyageOf}
+use Rattle.fleet.specs.Calls.{figureRefusal as shipFigures, shipRefusal, entered}
 use Rattle.exclude.specs.Calls.{excludeRefusal}
 use Rattle.dead.specs.IsDead.{deadRefusal}
 use Rattle.complement.specs.Complemented as complementing
@@ -215,6 +218,10 @@ module _ (a b : List ℕ) (one : OneNet a b) where
         statement = λ out l l′ o h. rw (texts more bytes bytes′ l l′) h;
       }
 
+  pub ships : (found : Fleet) (weights movements : List ℕ) → entered found (ship b weights movements) ≡ entered found (ship a weights movements)
+  unfolding entered shipRefusal shipFigures voyageOf
+  ships found weights movements = rw (whole, net)
+
   alike : Alike a b
   unfolding beginRefusal testRefusal testStepRefusal beforeRun runOf visitedBy certifyRefusal figureRefusal changeRefusal excludeRefusal deadRefusal
   alike =
@@ -229,6 +236,7 @@ module _ (a b : List ℕ) (one : OneNet a b) where
         certify = λ movements m o h. rw (whole, net) h;
         figure = λ weights m o h. rw (whole, net) h;
         change = λ weights t o h. rw (whole, net) h;
+        addShip = λ found weights movements o h. rw (ships found weights movements) h;
         exclude = λ weights m o h. rw (whole, net) h;
         isDead = λ t o h. rw (whole, net) h;
         firstDead = λ o h. rw (whole, net) h;

@@ -15,7 +15,7 @@ use Rattle.answers.specs.declared.Answered.{Answered}
 use Rattle.answers.specs.Told.{telling, valueOr, finding, audited, reported}
 use Rattle.promises.specs.EqualNets.{OffsetAside, AuditsAlike}
 use Rattle.promises.specs.EqualNetsForC.{carriedToC, FindingsAlike, EqualNetsForC}
-use Rattle.promises.proofs.EqualNets.{whole, net, complements, strips, audits, salvages, salvage-outputs, texts, reads}
+use Rattle.promises.proofs.EqualNets.{whole, net, ships, complements, strips, audits, salvages, salvage-outputs, texts, reads}
 
 finding-alike : (x y : Answered) (f : Option Finding) → OffsetAside (carriedToC x) (carriedToC y) → FindingsAlike (finding x f) (finding y f)
 finding-alike x y none h = record { answer = h; found = refl; pair = refl; excess = refl }
@@ -39,6 +39,7 @@ equal-nets-for-c a b one =
       certify = λ movements m o h. rw (w, n) h;
       figure = λ weights m o h. rw (w, n) h;
       change = λ weights t o h. rw (w, n) h;
+      fleetAdd = λ found weights movements o h. rw (ships a b one found weights movements) h;
       exclude = λ weights m o h. rw (w, n) h;
       isDead = λ t o h. rw (w, n) h;
       firstDead = λ o h. rw (w, n) h;

@@ -13,6 +13,7 @@ use Rattle.promises.proofs.StepFrauds.{first-member-alone}
 use Rattle.promises.proofs.AuditFrauds.{always-in-step}
 use Rattle.promises.proofs.Exclusion.{exclusion-frauds}
 use Rattle.promises.proofs.SalvageFrauds.{salvage-frauds}
+use Rattle.promises.proofs.FleetOfCalls.{fleet-frauds}
 
 pub frauds : Frauds
 frauds =
@@ -30,4 +31,5 @@ frauds =
       auditing = always-in-step;
       excluding = exclusion-frauds;
       salvaging = salvage-frauds;
+      counting = fleet-frauds;
     }

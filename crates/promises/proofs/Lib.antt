@@ -27,6 +27,7 @@ pub mod ArcsVisited
 pub mod StepFrauds
 pub mod AuditFrauds
 pub mod Exclusion
+pub mod FleetOfCalls
 pub mod Frauds
 pub mod CallTables
 pub mod Promises

@@ -55,6 +55,9 @@ use Rattle.run.specs.Calls.{ranOf, beforeRun, runOf, visitedBy, certifyRefusal}
 use Rattle.step.specs.Calls.{stepModes, testStepRefusal}
 use Rattle.weigh.specs.Calls as weigh
 use Rattle.weigh.specs.Calls.{figured, figureRefusal, changeRefusal}
+use Rattle.fleet.specs.Ships.{ship, addedBy, removedBy, voyageOf, withVoyage}
+use Rattle.fleet.specs.Calls.{recordRefusal, roomRefusal as shipRoom, figureRefusal as shipFigures, shipRefusal, entered}
+use Rattle.fleet.specs.Promises.{zeros}
 use Rattle.exclude.specs.Calls.{excludeRefusal}
 use Rattle.dead.specs.IsDead as one
 use Rattle.dead.specs.IsDead.{deadRefusal}
@@ -228,6 +231,17 @@ change-is : change example (weightsOf sheets.weights) (modeNo 0) ≡ negsuc 249
 unfolding change sum weightsOf table signed u16At u32At entryAt
 change-is = refl
 
+sailed : voyageOf (ship own.net sheets.weights sheets.movements)
+    ≡ record { accepted = 3; answer = answers.Refused (lacking Movements 1); added = pos 0; removed = pos 750 }
+unfolding voyageOf addedBy removedBy change sum weightsOf movementsOf table signed u16At u32At entryAt
+sailed = rw (read-back .same, runs)
+
+ship-accepted : shipRefusal zeros (ship own.net sheets.weights sheets.movements) ≡ none
+unfolding shipRefusal recordRefusal shipRoom shipFigures withVoyage
+ship-accepted =
+    none-then refl
+    (none-then refl (none-then (read-back .accepted) (rw (read-back .same) (none-then weights-read (none-then movements-read (rw sailed))))))
+
 even-read : wholeWeights 2 own.even ≡ none
 unfolding wholeWeights weightsRefusal weightFields weightRefusal known headRefusal bytesAfter first _▸_ signed u16At u32At
 even-read = refl
@@ -363,7 +377,7 @@ salvage-allows o a =
     }
 
 pub own-example : OwnExample
-unfolding figured
+unfolding figured entered withVoyage
 own-example =
     record {
       begin = λ o a. (ap number (a .0) ∙ rw begins, a .1 ∙ rw (begins, read-back .same));
@@ -376,6 +390,7 @@ own-example =
       certify = λ told a. ap number a ∙ rw certifies;
       figure = λ o a. ap weigh.told a ∙ rw (figure-accepted, read-back .same, figure-is);
       change = λ o a. ap weigh.told a ∙ rw (change-accepted, read-back .same, change-is);
+      addShip = λ o a. (ap number (a .0) ∙ rw ship-accepted, a .1 ∙ rw (ship-accepted, sailed));
       exclude = λ told a. ap number a ∙ rw (excludes own.even (3 ∷ 1 ∷ []) even-read four-marks, four-excluded);
       notExcluded = λ told a. ap carried a ∙ rw (excludes own.even (0 ∷ 3 ∷ []) even-read landed-marks, landed-equal);
       notBalanced = λ told a. ap carried a ∙ rw (excludes sheets.weights (3 ∷ 1 ∷ []) weights-read four-marks, mode-unbalanced);

@@ -38,6 +38,7 @@ use Rattle.weigh.proofs.Promises.{figure-is-sum, change-is-sum, figure-fired}
 use Rattle.dead.proofs.Promises.{says-dead, names-first}
 use Rattle.audit.proofs.Promises.{says-audited}
 use Rattle.exclude.proofs.Promises.{excluded-exactly}
+use Rattle.fleet.proofs.Totals.{fleet-statement, refused-ship}
 use Rattle.promises.specs.Promises.{Promises}
 use Rattle.promises.proofs.DemandOne.{demand-one, demand-one-for-c}
 use Rattle.promises.proofs.DemandThree.{over-bytes}
@@ -54,6 +55,7 @@ use Rattle.promises.proofs.FigureOverRun.{figure-over-run}
 use Rattle.promises.proofs.ArcsVisited.{arcs-visited}
 use Rattle.promises.proofs.LiveModes.{live-modes}
 use Rattle.promises.proofs.Exclusion.{no-list-leads, no-sheet-certifies, figure-call-constant}
+use Rattle.promises.proofs.FleetOfCalls.{fleet-of-calls}
 use Rattle.promises.proofs.CallTables.{call-tables}
 use Rattle.promises.proofs.Uniqueness.{uniqueness}
 use Rattle.promises.proofs.EqualNets.{equal-nets}
@@ -139,6 +141,9 @@ promises =
       noListLeads = no-list-leads;
       noSheetCertifies = no-sheet-certifies;
       figureCallConstant = figure-call-constant;
+      fleetStatement = fleet-statement;
+      refusedShip = refused-ship;
+      fleetOfCalls = fleet-of-calls;
       sourceOnly = source-only;
       convertedReads = converted-reads;
       thereAndBack = there-and-back;

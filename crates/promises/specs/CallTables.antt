@@ -5,7 +5,7 @@ use mathlib.Core.Path.{_≡_}
 use mathlib.Core.List.{List, [], _∷_, map}
 use mathlib.Core.Logic.{_⊎_, _≢_}
 use mathlib.Core.Option.{none}
-use lib.IntN.{ℤ, pos}
+use lib.IntN.{ℤ, pos, _+ℤ_}
 use lib.ListN.{length, take, getD}
 use Rattle.model.specs.declared.Pair.{Pair}
 use Rattle.model.specs.declared.Mode.{Mode}
@@ -29,6 +29,9 @@ use Rattle.fire.specs.Calls.{beginRefusal, testRefusal}
 use Rattle.run.specs.Calls.{beforeRun, runOf, certifyRefusal}
 use Rattle.step.specs.Calls.{stepModes, testStepRefusal}
 use Rattle.weigh.specs.Calls.{figureRefusal, changeRefusal}
+use Rattle.fleet.specs.declared.Fleet.{Fleet}
+use Rattle.fleet.specs.Ships.{Ship, shipAdded, shipRemoved}
+use Rattle.fleet.specs.Calls.{Past, InBounds, shipRefusal}
 use Rattle.exclude.specs.Calls.{excludeRefusal}
 use Rattle.dead.specs.IsDead.{deadRefusal}
 use Rattle.complement.specs.Complemented.{complementSheet, complementingRefusal}
@@ -205,6 +208,17 @@ module _ (net : List ℕ) where
       then row (version damaged ≢ 1) (carries 2 2 4)
       then row (room < length (freshSheet net damaged)) (carries 10 0 0)
 
+-- a ship into a lent record (document 02, P13): "25 for a lent record with ships or a refusal count above 1,000, movements above 8,192,000, or a figure below
+-- 0 or above 10^18; 4 for ship 1,001; those of the sheets; then 24 where a figure would pass 10^18"
+abbrev pub addShipTable : Fleet → Ship → Table
+addShipTable found s =
+    row (¬ InBounds found) (carries 25 0 0)
+    then row (1000 < found .ships + 1) (carries 4 3 0)
+    then wholeNetTable (s .net)
+    then wholeWeightTable (pairs (netOf (s .net))) (s .weights)
+    then wholeMovementTable (s .movements)
+    then row (Past (found .added +ℤ pos (shipAdded s)) ⊎ Past (found .removed +ℤ pos (shipRemoved s))) (carries 24 0 0)
+
 -- the movement at which a run stops is the one after those that it accepted, refused at the marking that it leaves
 module _ (net movements marking : List ℕ) where
   abbrev stop : Mode
@@ -237,6 +251,7 @@ pub record CallTables : Type 0 where
   pub certify : (net movements claim : List ℕ) → Reads (certifyTable net movements claim) (certifyRefusal net movements claim)
   pub figure : (net weights marking : List ℕ) → Reads (figureTable net weights marking) (figureRefusal net weights marking)
   pub change : (net weights : List ℕ) (t : Mode) → Reads (changeTable net weights t) (changeRefusal net weights t)
+  pub addShip : (found : Fleet) (s : Ship) → Reads (addShipTable found s) (shipRefusal found s)
   pub exclude : (net weights claim : List ℕ) → Reads (excludeTable net weights claim) (excludeRefusal net weights claim)
   pub isDead : (net : List ℕ) (t : Mode) → Reads (isDeadTable net t) (deadRefusal net t)
   pub complement : (net : List ℕ) (room : ℕ) → Reads (complementTable net room) (complementingRefusal net room)

@@ -16,6 +16,8 @@ use Rattle.run.specs.Contracts.{RunAllows, CertifyAllows}
 use Rattle.step.specs.Contracts.{TestStepAllows, FireStepAllows}
 use Rattle.weigh.specs.Calls as weigh
 use Rattle.weigh.specs.Contracts.{FigureAllows, ChangeAllows}
+use Rattle.fleet.specs.declared.Fleet.{Fleet}
+use Rattle.fleet.specs.Contracts.{AddShipAllows}
 use Rattle.exclude.specs.Contracts.{ExcludeAllows}
 use Rattle.dead.specs.IsDead as one
 use Rattle.dead.specs.FirstDead as first
@@ -85,6 +87,7 @@ pub record ConstantAnswers : Type 0 where
   pub certify : Varies (λ (i : List ℕ × List ℕ × List ℕ). CertifyAllows (i .0) (i .1) (i .2)) number
   pub figure : Varies (λ (i : List ℕ × List ℕ × List ℕ). FigureAllows (i .0) (i .1) (i .2)) (λ o. weigh.told o .carried .number)
   pub change : Varies (λ (i : List ℕ × List ℕ × Mode). ChangeAllows (i .0) (i .1) (i .2)) (λ o. weigh.told o .carried .number)
+  pub addShip : Varies (λ (i : Fleet × List ℕ × List ℕ × List ℕ). AddShipAllows (i .0) (i .1) (i .2) (i .3)) (λ o. number (o .0))
   pub exclude : Varies (λ (i : List ℕ × List ℕ × List ℕ). ExcludeAllows (i .0) (i .1) (i .2)) number
   pub isDead : Varies (λ (i : List ℕ × Mode). IsDeadAllows (i .0) (i .1)) (λ o. one.told o .carried .number)
   pub firstDead : Varies FirstDeadAllows (λ o. first.told o .carried .number)

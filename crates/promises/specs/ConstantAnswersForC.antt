@@ -3,6 +3,7 @@ use Prim.Native.Nat.{ℕ}
 use mathlib.Core.List.{List}
 use Rattle.model.specs.declared.Pair.{Pair}
 use Rattle.model.specs.declared.Mode.{Mode}
+use Rattle.fleet.specs.declared.Fleet.{Fleet}
 use Rattle.abi.specs.Contracts as c
 use Rattle.promises.specs.ConstantAnswers.{Varies}
 
@@ -19,6 +20,7 @@ pub record ConstantAnswersForC : Type 0 where
   pub certify : Varies (λ (i : List ℕ × List ℕ × List ℕ). c.CertifyAllows (i .0) (i .1) (i .2)) (λ o. o .number)
   pub figure : Varies (λ (i : List ℕ × List ℕ × List ℕ). c.FigureAllows (i .0) (i .1) (i .2)) (λ o. o .answer .number)
   pub change : Varies (λ (i : List ℕ × List ℕ × Mode). c.ChangeAllows (i .0) (i .1) (i .2)) (λ o. o .answer .number)
+  pub fleetAdd : Varies (λ (i : Fleet × List ℕ × List ℕ × List ℕ). c.FleetAddAllows (i .0) (i .1) (i .2) (i .3)) (λ o. o .0 .number)
   pub exclude : Varies (λ (i : List ℕ × List ℕ × List ℕ). c.ExcludeAllows (i .0) (i .1) (i .2)) (λ o. o .number)
   pub isDead : Varies (λ (i : List ℕ × Mode). c.IsDeadAllows (i .0) (i .1)) (λ o. o .answer .number)
   pub firstDead : Varies c.FirstDeadAllows (λ o. o .answer .number)

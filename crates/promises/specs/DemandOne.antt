@@ -1,5 +1,5 @@
 -- Demand 1: "A refused call changes no lent buffer, except that a refused list of movements leaves the marking after those accepted before it."
--- A field for each call that is lent a slice to write, for every outcome that its contract allows: what it answers, and what it leaves in the slice.
+-- A field for each call that is lent a slice or a record to write, for every outcome that its contract allows: what it answers, and what it leaves there.
 use Prim.Native.Nat.{ℕ}
 use mathlib.Core.Path.{_≡_}
 use mathlib.Core.List.{List}
@@ -15,6 +15,8 @@ use Rattle.fire.specs.Contracts.{BeginAllows, FireAllows}
 use Rattle.run.specs.declared.Ran.{Ran}
 use Rattle.run.specs.Contracts.{RunAllows}
 use Rattle.step.specs.Contracts.{FireStepAllows}
+use Rattle.fleet.specs.declared.Fleet.{Fleet}
+use Rattle.fleet.specs.Contracts.{AddShipAllows}
 use Rattle.complement.specs.declared.Complemented.{Complemented}
 use Rattle.complement.specs.Complemented.{told}
 use Rattle.complement.specs.Contracts.{ComplementAllows}
@@ -47,6 +49,8 @@ pub record DemandOne : Type 0 where
   pub begin : (net marking : List ℕ) (o : Answer × List ℕ) → BeginAllows net marking o → Refused (o .0) → o .1 ≡ marking
   pub fire : (net marking : List ℕ) (t : Mode) (o : Answer × List ℕ) → FireAllows net marking t o → Refused (o .0) → o .1 ≡ marking
   pub fireStep : (net marking modes : List ℕ) (o : Answer × List ℕ) → FireStepAllows net marking modes o → Refused (o .0) → o .1 ≡ marking
+  -- of a ship the lent record
+  pub addShip : (found : Fleet) (net weights movements : List ℕ) (o : Answer × Fleet) → AddShipAllows found net weights movements o → Refused (o .0) → o .1 ≡ found
   pub complement : (net out : List ℕ) (o : Complemented × List ℕ) → ComplementAllows net out o → told (o .0) .carried .number ≢ 0 → o .1 ≡ out
   pub toVersion2 : (net out : List ℕ) (o : Converted × List ℕ) → ToVersion2Allows net out o → converting.told (o .0) .carried .number ≢ 0 → o .1 ≡ out
   pub toVersion1 : (net out : List ℕ) (o : Converted × List ℕ) → ToVersion1Allows net out o → converting.told (o .0) .carried .number ≢ 0 → o .1 ≡ out
@@ -65,6 +69,8 @@ pub record DemandOneForC : Type 0 where
   pub begin : (net marking : List ℕ) (o : Answered × List ℕ) → forC.BeginAllows net marking o → o .0 .number ≢ 0 → o .1 ≡ marking
   pub fire : (net marking : List ℕ) (t : Mode) (o : Answered × List ℕ) → forC.FireAllows net marking t o → o .0 .number ≢ 0 → o .1 ≡ marking
   pub fireStep : (net marking modes : List ℕ) (o : Answered × List ℕ) → forC.FireStepAllows net marking modes o → o .0 .number ≢ 0 → o .1 ≡ marking
+  pub fleetAdd : (found : Fleet) (net weights movements : List ℕ) (o : Answered × Fleet) → forC.FleetAddAllows found net weights movements o
+      → o .0 .number ≢ 0 → o .1 ≡ found
   pub complement : (net out : List ℕ) (o : Counted × List ℕ) → forC.ComplementAllows net out o → o .0 .answer .number ≢ 0 → o .1 ≡ out
   pub toVersion2 : (net out : List ℕ) (o : Counted × List ℕ) → forC.ToVersion2Allows net out o → o .0 .answer .number ≢ 0 → o .1 ≡ out
   pub toVersion1 : (net out : List ℕ) (o : Counted × List ℕ) → forC.ToVersion1Allows net out o → o .0 .answer .number ≢ 0 → o .1 ≡ out

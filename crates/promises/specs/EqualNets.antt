@@ -20,6 +20,8 @@ use Rattle.fire.specs.Contracts.{BeginAllows, TestAllows, FireAllows}
 use Rattle.run.specs.Contracts.{RunAllows, CertifyAllows}
 use Rattle.step.specs.Contracts.{TestStepAllows, FireStepAllows}
 use Rattle.weigh.specs.Contracts.{FigureAllows, ChangeAllows}
+use Rattle.fleet.specs.declared.Fleet.{Fleet}
+use Rattle.fleet.specs.Contracts.{AddShipAllows}
 use Rattle.exclude.specs.Contracts.{ExcludeAllows}
 use Rattle.dead.specs.Contracts.{IsDeadAllows, FirstDeadAllows}
 use Rattle.size.specs.Contracts.{SizeAllows}
@@ -96,6 +98,7 @@ pub record Alike (a b : List ℕ) : Type 0 where
   pub certify : (movements claim : List ℕ) → Within (CertifyAllows a movements claim) (CertifyAllows b movements claim)
   pub figure : (weights marking : List ℕ) → Within (FigureAllows a weights marking) (FigureAllows b weights marking)
   pub change : (weights : List ℕ) (t : Mode) → Within (ChangeAllows a weights t) (ChangeAllows b weights t)
+  pub addShip : (found : Fleet) (weights movements : List ℕ) → Within (AddShipAllows found a weights movements) (AddShipAllows found b weights movements)
   pub exclude : (weights claim : List ℕ) → Within (ExcludeAllows a weights claim) (ExcludeAllows b weights claim)
   pub isDead : (t : Mode) → Within (IsDeadAllows a t) (IsDeadAllows b t)
   pub firstDead : Within (FirstDeadAllows a) (FirstDeadAllows b)

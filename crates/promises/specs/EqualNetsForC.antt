@@ -9,6 +9,7 @@ use Rattle.model.specs.Refusals.{Carried, carriesBy}
 use Rattle.answers.specs.declared.Answered.{Answered}
 use Rattle.answers.specs.declared.Counted.{Counted}
 use Rattle.answers.specs.declared.Audited.{Audited}
+use Rattle.fleet.specs.declared.Fleet.{Fleet}
 use Rattle.abi.specs.Contracts as c
 use Rattle.promises.specs.EqualNets.{OneNet, Within, OffsetAside, Fits, StripFits, Bytes}
 
@@ -32,6 +33,7 @@ pub record AlikeForC (a b : List ℕ) : Type 0 where
   pub certify : (movements claim : List ℕ) → Within (c.CertifyAllows a movements claim) (c.CertifyAllows b movements claim)
   pub figure : (weights marking : List ℕ) → Within (c.FigureAllows a weights marking) (c.FigureAllows b weights marking)
   pub change : (weights : List ℕ) (t : Mode) → Within (c.ChangeAllows a weights t) (c.ChangeAllows b weights t)
+  pub fleetAdd : (found : Fleet) (weights movements : List ℕ) → Within (c.FleetAddAllows found a weights movements) (c.FleetAddAllows found b weights movements)
   pub exclude : (weights claim : List ℕ) → Within (c.ExcludeAllows a weights claim) (c.ExcludeAllows b weights claim)
   pub isDead : (t : Mode) → Within (c.IsDeadAllows a t) (c.IsDeadAllows b t)
   pub firstDead : Within (c.FirstDeadAllows a) (c.FirstDeadAllows b)

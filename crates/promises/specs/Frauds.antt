@@ -4,6 +4,7 @@ use mathlib.Core.Path.{_≡_}
 use mathlib.Core.List.{List, [], _∷_, map}
 use mathlib.Core.Logic.{_↔_, _≢_}
 use mathlib.Core.Option.{none}
+use lib.IntN.{negsuc}
 use lib.ListN.{length, take, drop, getD}
 use Rattle.model.specs.declared.Pair.{Pair}
 use Rattle.model.specs.declared.Mode.{Mode}
@@ -19,13 +20,17 @@ use Rattle.model.specs.Complement.{Corresponds}
 use Rattle.model.specs.Audit.{OutOfStep}
 use Rattle.model.specs.Promises.{Leads}
 use Rattle.model.specs.Visits.{modeArcs}
-use Rattle.sheets.specs.Decoded.{netOf, movementsOf}
+use Rattle.model.specs.Figures.{change}
+use Rattle.sheets.specs.Decoded.{netOf, weightsOf, movementsOf}
 use Rattle.fire.specs.Contracts.{FireAllows}
 use Rattle.run.specs.declared.Ran.{Ran}
 use Rattle.run.specs.Calls.{beforeRun, runOf}
 use Rattle.run.specs.Contracts.{RunAllows, CertifyAllows}
 use Rattle.step.specs.Calls.{stepModes}
 use Rattle.step.specs.Contracts.{FireStepAllows}
+use Rattle.fleet.specs.declared.Fleet.{Fleet}
+use Rattle.fleet.specs.Ships.{Ship, accepted}
+use Rattle.fleet.specs.Contracts.{AddShipAllows}
 use Rattle.exclude.specs.Promises.{Excluded}
 use Rattle.exclude.specs.Contracts.{ExcludeAllows}
 use Rattle.complement.specs.declared.Complemented.{Complemented}
@@ -144,6 +149,14 @@ pub record SalvageFrauds : Type 0 where
   pub everything : (net damaged out : List ℕ) → trial net damaged .refusal ≢ none
       → (o : Salvaged × List ℕ) → SalvageAllows net damaged out o → (report : Report) → o .0 ≡ Written report → report .kept ≢ considered damaged
 
+-- A fleet statement that never raises `removed`, with an accepted movement that takes weight off, or that counts no ship.
+pub record FleetFrauds : Type 0 where
+  pub neverRemoved : (found : Fleet) (s : Ship) (k n : ℕ) → k < length (accepted s)
+      → change (netOf (s .net)) (weightsOf (s .weights)) (getD (accepted s) k (modeNo 0)) ≡ negsuc n
+      → (o : Answer × Fleet) → AddShipAllows found (s .net) (s .weights) (s .movements) o → number (o .0) ≡ 0 → o .1 .removed ≢ found .removed
+  pub neverCounted : (found : Fleet) (s : Ship) (o : Answer × Fleet) → AddShipAllows found (s .net) (s .weights) (s .movements) o → number (o .0) ≡ 0
+      → o .1 .ships ≢ found .ships
+
 pub record Frauds : Type 0 where
   pub constant : ConstantAnswers
   pub constantForC : ConstantAnswersForC
@@ -158,3 +171,4 @@ pub record Frauds : Type 0 where
   pub auditing : AlwaysInStep
   pub excluding : ExclusionFrauds
   pub salvaging : SalvageFrauds
+  pub counting : FleetFrauds

@@ -10,6 +10,7 @@ pub mod FigureOverRun
 pub mod ArcsVisited
 pub mod LiveModes
 pub mod Exclusion
+pub mod FleetOfCalls
 pub mod Uniqueness
 pub mod EqualNets
 pub mod EqualNetsForC

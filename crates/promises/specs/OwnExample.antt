@@ -20,6 +20,9 @@ use Rattle.step.specs.Contracts.{TestStepAllows, FireStepAllows}
 use Rattle.weigh.specs.declared.Figured.{Figured}
 use Rattle.weigh.specs.Calls as weigh
 use Rattle.weigh.specs.Contracts.{FigureAllows, ChangeAllows}
+use Rattle.fleet.specs.declared.Fleet.{Fleet}
+use Rattle.fleet.specs.Promises.{zeros}
+use Rattle.fleet.specs.Contracts.{AddShipAllows}
 use Rattle.exclude.specs.Contracts.{ExcludeAllows}
 use Rattle.dead.specs.declared.Deadness.{Deadness}
 use Rattle.dead.specs.declared.FirstDead.{FirstDead}
@@ -95,6 +98,9 @@ pub record OwnExample : Type 0 where
   pub figure : (o : Figured) → FigureAllows net weights (3 ∷ 0 ∷ []) o → weigh.told o ≡ yields (pos 750)
   -- -250
   pub change : (o : Figured) → ChangeAllows net weights (modeNo 0) o → weigh.told o ≡ yields (negsuc 249)
+  -- a ship of its three sheets into a record of zeros: three movements of 250 kilograms off, the fourth refused by 11
+  pub addShip : (o : Answer × Fleet) → AddShipAllows zeros net weights movements o
+      → (number (o .0) ≡ 0) × (o .1 ≡ record { ships = 1; movements = 3; by6 = 0; by11 = 1; by12 = 0; by13 = 0; by14 = 0; added = pos 0; removed = pos 750 })
   -- there are three items and never four; that three are ashore is not excluded, nor anything by the weights of its figure, which its one mode changes
   pub exclude : (told : Answer) → ExcludeAllows net even (3 ∷ 1 ∷ []) told → number told ≡ 0
   pub notExcluded : (told : Answer) → ExcludeAllows net even (0 ∷ 3 ∷ []) told → carried told ≡ carries 22 0 0

@@ -22,6 +22,7 @@ use Rattle.dead.specs.Promises.{SaysDead, NamesFirst}
 use Rattle.audit.specs.Promises.{SaysAudited}
 use Rattle.exclude.specs.Promises.{ExcludedExactly}
 use Rattle.salvage.specs.Promises as salvage
+use Rattle.fleet.specs.Promises.{FleetStatement, RefusedShip}
 use Rattle.promises.specs.DemandOne.{DemandOne, DemandOneForC}
 use Rattle.promises.specs.DemandThree.{OverBytes}
 use Rattle.text.specs.Promises.{Decimals}
@@ -37,6 +38,7 @@ use Rattle.promises.specs.FigureOverRun.{FigureOverRun}
 use Rattle.promises.specs.ArcsVisited.{ArcsVisited}
 use Rattle.promises.specs.LiveModes.{LiveModes}
 use Rattle.promises.specs.Exclusion.{NoListLeads, NoSheetCertifies, FigureCallConstant}
+use Rattle.promises.specs.FleetOfCalls.{FleetOfCalls}
 use Rattle.promises.specs.CallTables.{CallTables}
 use Rattle.promises.specs.Uniqueness.{Uniqueness}
 use Rattle.promises.specs.EqualNets.{EqualNets}
@@ -123,6 +125,9 @@ pub record Promises : Type 0 where
   pub noListLeads : NoListLeads
   pub noSheetCertifies : NoSheetCertifies
   pub figureCallConstant : FigureCallConstant
+  pub fleetStatement : FleetStatement
+  pub refusedShip : RefusedShip
+  pub fleetOfCalls : FleetOfCalls
   pub sourceOnly : SourceOnly
   pub convertedReads : ConvertedReads
   pub thereAndBack : ThereAndBack

@@ -12,6 +12,8 @@ use Rattle.fire.specs.Contracts.{BeginAllows, TestAllows, FireAllows}
 use Rattle.run.specs.Contracts.{RunAllows, CertifyAllows}
 use Rattle.step.specs.Contracts.{TestStepAllows, FireStepAllows}
 use Rattle.weigh.specs.Contracts.{FigureAllows, ChangeAllows}
+use Rattle.fleet.specs.declared.Fleet.{Fleet}
+use Rattle.fleet.specs.Contracts.{AddShipAllows}
 use Rattle.exclude.specs.Contracts.{ExcludeAllows}
 use Rattle.dead.specs.Contracts.{IsDeadAllows, FirstDeadAllows}
 use Rattle.size.specs.Contracts.{SizeAllows}
@@ -42,6 +44,7 @@ pub record UniqueForC : Type 0 where
   pub certify : (net movements claim : List ℕ) → Unique (c.CertifyAllows net movements claim)
   pub figure : (net weights marking : List ℕ) → Unique (c.FigureAllows net weights marking)
   pub change : (net weights : List ℕ) (t : Mode) → Unique (c.ChangeAllows net weights t)
+  pub fleetAdd : (found : Fleet) (net weights movements : List ℕ) → Unique (c.FleetAddAllows found net weights movements)
   pub exclude : (net weights claim : List ℕ) → Unique (c.ExcludeAllows net weights claim)
   pub isDead : (net : List ℕ) (t : Mode) → Unique (c.IsDeadAllows net t)
   pub firstDead : (net : List ℕ) → Unique (c.FirstDeadAllows net)
@@ -74,6 +77,7 @@ pub record Uniqueness : Type 0 where
   pub certify : (net movements claim : List ℕ) → Unique (CertifyAllows net movements claim)
   pub figure : (net weights marking : List ℕ) → Unique (FigureAllows net weights marking)
   pub change : (net weights : List ℕ) (t : Mode) → Unique (ChangeAllows net weights t)
+  pub addShip : (found : Fleet) (net weights movements : List ℕ) → Unique (AddShipAllows found net weights movements)
   pub exclude : (net weights claim : List ℕ) → Unique (ExcludeAllows net weights claim)
   pub isDead : (net : List ℕ) (t : Mode) → Unique (IsDeadAllows net t)
   pub firstDead : (net : List ℕ) → Unique (FirstDeadAllows net)

@@ -15,8 +15,11 @@ use Rattle.model.proofs.Refusals.{answer-refused}
 use Rattle.sheets.specs.Decoded.{netOf, movementsOf}
 use Rattle.run.specs.declared.Ran.{Ran}
 use Rattle.run.specs.Calls.{beforeRun, runOf, visitedBy, ranOf}
-use Rattle.run.specs.Parts.{Reports, Begins}
+use Rattle.run.specs.Parts.{RunTells, Reports, Begins}
 use Rattle.run.proofs.Running.{told}
+
+pub run-tells : {o : Outcome} {arcs : ℕ} {told : Ran} {left : List ℕ} → Reports o arcs told left → RunTells o (told .accepted) (told .answer)
+run-tells r = record { accepted = ap (λ t. t .accepted) (r .tells); answers = ap (λ t. t .answer) (r .tells) }
 
 module _ {m : List ℕ} {next : Outcome} {arcs : ℕ} where
   pub begins-refused : {a : Answer} {r : Refusal} (o : Option Refusal) → a ≡ answer o → a ≡ Refused r → Begins o m next arcs (told 0 0 a) m

@@ -7,6 +7,8 @@ use mathlib.Core.Option.{Option}
 use lib.ListN.{length, getD}
 use Rattle.model.specs.declared.Mode.{Mode}
 use Rattle.model.specs.declared.Refusal.{Refusal}
+use Rattle.model.specs.declared.Answer.{Answer}
+use Rattle.model.specs.Refusals.{answer}
 use Rattle.model.specs.Nets.{PNet, modes, arcNo}
 use Rattle.model.specs.Firing.{roomAt}
 use Rattle.model.specs.Runs.{Outcome, goOn, run}
@@ -54,6 +56,11 @@ pub record Accepts (net : PNet) (ts : List Mode) (m : List ℕ) (done : Progress
   pub accepted : done .accepted ≡ run net ts m .accepted
   pub visits : done .visited ≡ visited net ts m
   pub leaves : left ≡ run net ts m .marking
+
+-- how many movements a run of this outcome accepts, and the answer to the first that it does not
+pub record RunTells (o : Outcome) (k : ℕ) (told : Answer) : Type 0 where
+  pub accepted : k ≡ o .accepted
+  pub answers : told ≡ answer (o .refusal)
 
 -- a run with this outcome and so many arcs visited: what it tells, and what it leaves in the marking
 pub record Reports (o : Outcome) (arcs : ℕ) (told : Ran) (left : List ℕ) : Type 0 where

@@ -30,13 +30,12 @@ use Rattle.opened.specs.declared.shape.NetShape.{NetShape}
 use Rattle.sheets.specs.Decoded.{netOf, weightsOf, movementsOf}
 use Rattle.sheets.proofs.Lists.{movements-within}
 use Rattle.opened.proofs.Shapes.{sizes}
-use Rattle.run.specs.declared.Ran.{Ran}
-use Rattle.run.specs.Parts.{Reports}
+use Rattle.opened.specs.Read.{Read}
+use Rattle.run.specs.Parts.{RunTells}
 use Rattle.weigh.specs.Parts.{ChangesAre}
 use Rattle.weigh.proofs.Sizes.{fits-size}
 use Rattle.text.specs.Puts.{Writes}
 use Rattle.lines.specs.Lines.{acceptedLine, refusedLine, endLine}
-use Rattle.statement.specs.Parts.{Read, RunTells}
 use Rattle.statement.specs.Promises.{acceptedLines, lastLines}
 use Rattle.statement.specs.Replay.{linesFrom}
 use Rattle.text.proofs.Writing.{_and_, nothing, within, length-kept}
@@ -47,10 +46,6 @@ use Rattle.statement.proofs.Weighed.{figure-size}
 -- the lines of at most 8,192 accepted movements, `refused` and `end`
 abbrev pub mostLines : ℕ
 mostLines = 28 * 8192 + 159
-
--- what a run reports
-pub run-tells : {o : Outcome} {arcs : ℕ} {told : Ran} {left : List ℕ} → Reports o arcs told left → RunTells o (told .accepted) (told .answer)
-run-tells r = record { accepted = ap (λ t. t .accepted) (r .tells); answers = ap (λ t. t .answer) (r .tells) }
 
 -- the first movement of a list that leads somewhere is accepted, and the rest leads on from the marking that it gives
 leads-on : {net : PNet} {t : Mode} {ts : List Mode} {m m′ : List ℕ} → Leads net (t ∷ ts) m m′

@@ -1,5 +1,4 @@
 pub mod Contracts
 pub mod Example
-pub mod Parts
 pub mod Promises
 pub mod Replay

@@ -22,7 +22,7 @@ ghost use Rattle.lists.specs.Weights.{weightsRefusal};
 ghost use Rattle.text.specs.Puts.{Writes};
 ghost use Rattle.sheets.specs.Decoded.{netOf, weightsOf, movementsOf};
 ghost use Rattle.opened.specs.Shape.{Open};
-ghost use Rattle.statement.specs.Parts.{Read};
+ghost use Rattle.opened.specs.Read.{Read};
 ghost use Rattle.statement.specs.Replay.{runText, movementsText, weightsText, sheetsText, room};
 
 // The net's first marking and its figure; then the whole list is run, and told.

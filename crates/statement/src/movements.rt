@@ -26,7 +26,8 @@ ghost use Rattle.opened.specs.Shape.{Open};
 ghost use Rattle.opened.specs.Starts.{StartsAre};
 ghost use Rattle.text.specs.Puts.{Writes};
 ghost use Rattle.lines.specs.Lines.{refusedLine, endLine};
-ghost use Rattle.statement.specs.Parts.{Read, RunTells};
+ghost use Rattle.opened.specs.Read.{Read};
+ghost use Rattle.run.specs.Parts.{RunTells};
 ghost use Rattle.statement.specs.Replay.{linesFrom};
 
 // The numbers of the arcs (8 KiB) stand on the stack only while the list runs: the table of changes comes after them, in another function.

@@ -71,6 +71,8 @@ pub fn line_of(fault: Fault) -> Line
         Fault::Unbalanced(mode) => says(21, mode.0 as usize),
         Fault::EqualFigures => says(22, 0),
         Fault::RuleLost => says(23, 0),
+        Fault::FigurePast => says(24, 0),
+        Fault::RecordOutside => says(25, 0),
     }
 }
 

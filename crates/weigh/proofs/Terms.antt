@@ -3,16 +3,17 @@ use Prim.Native.Nat.{ℕ, _+_, _*_, _^_, _≤_, _<_}
 use mathlib.Core.Path.{_≡_, sym, _∙_, ap₂}
 use mathlib.Core.List.{List}
 use mathlib.Core.Option.{none}
-use lib.IntN.{ℤ, pos, natAbs, _+ℤ_, _*ℤ_}
+use lib.IntN.{ℤ, pos, natAbs, _+ℤ_, _-ℤ_, _*ℤ_}
 use lib.Signed.{mag}
 use mir.Syntax.{w64}
 use mir.Val.{SFits, hbits, toZ, ofZ}
 use mir.Facts.{toZ-ofZ}
 use native.Mathlib.Omega.{arith}
 use Rattle.model.specs.declared.Mode.{Mode}
-use Rattle.model.specs.Nets.{arcNo, count}
+use Rattle.model.specs.Nets.{pairs, arcNo, count, row}
 use Rattle.model.specs.Markings.{Marking}
 use Rattle.model.specs.Figures.{sum, weight, change}
+use Rattle.model.proofs.ComplementNet.{row-small}
 use Rattle.model.proofs.Integers.{size-add}
 use Rattle.model.proofs.Figures.{sum-more, size-sum, gain, change-by-arcs}
 use Rattle.opened.specs.declared.shape.NetShape.{NetShape}
@@ -66,6 +67,21 @@ module _ {s : List ℕ} {net : NetShape} (o : Open s net) (w : List ℕ) (accept
             (weights-within (net .pairs) w accepted .1 _ (rw (sizes o .pairs) (arc .pair)))
             (size-difference _ _ (arc .post) (arc .pre));
       }
+
+  -- a weight change: at most 256 pairs of a weight and a difference within 1,000,000
+  pub change-size : (t : Mode) → natAbs (change (netOf s) (weightsOf w) t) ≤ 256000000000000
+  unfolding change
+  change-size t =
+      omega (
+        arith,
+        sizes o .pairs,
+        sizes o .pairsWithin,
+        size-sum (pairs (netOf s)) (λ p. weight (weightsOf w) p *ℤ (pos (row (netOf s) t p .post) -ℤ pos (row (netOf s) t p .pre))) 1000000000000
+            (λ p h.
+            let e = row-small (netOf s) (sizes o .wellFormed) t p in
+            size-product (weight (weightsOf w) p) (pos (row (netOf s) t p .post) -ℤ pos (row (netOf s) t p .pre))
+            (weights-within (net .pairs) w accepted .1 p (rw (sizes o .pairs) h)) (size-difference _ _ (e .1) (e .0))),
+      )
 
 -- what a mode's own arcs add up to is its weight change
 pub gains-change : {s : List ℕ} {net : NetShape} → Open s net → (w : List ℕ) (t : Mode) (start count : ℕ) → ModeArcs (netOf s .arcs) t start count

@@ -75,7 +75,7 @@ pub const STATEMENT: Work = beside(
 pub const SIZED: [Work; 4] = [READ, RUN, COMPLEMENT, STATEMENT];
 
 /// The other calls, at full size; a call with a mode is given the last.
-pub const OTHERS: [Work; 19] = [
+pub const OTHERS: [Work; 20] = [
     beside("size", |i, _| pnet::size(&i.net).is_ok(), |i, _| swift::size(&i.net).is_ok()),
     own("read_weights", |i, _| pnet::read_weights(&i.weights, i.pairs).is_ok()),
     own("read_movements", |i, _| pnet::read_movements(&i.movements).is_ok()),
@@ -101,6 +101,18 @@ pub const OTHERS: [Work; 19] = [
         |i, l| {
             let salvaged = swift::salvage(&i.net, i.cut(), &mut l.output);
             salvaged.is_ok_and(|salvaged| salvaged.kept == i.cut().len() / 2 - 3)
+        },
+    ),
+    beside(
+        "fleet_add",
+        |i, _| {
+            let mut record = pnet::Fleet::default();
+            pnet::fleet_add(&mut record, &i.net, &i.weights, &i.movements).is_ok() && record.refused == [0; 5]
+        },
+        |i, _| {
+            let mut record = swift::Fleet::default();
+            swift::fleet_add(&mut record, &i.net, &i.weights, &i.movements).number == 0
+                && record.refused == [0; 5]
         },
     ),
     own("certify", |i, _| pnet::certify(&i.net, &i.movements, &i.claim).is_ok()),

@@ -1,14 +1,14 @@
-//! One input for every call: sheets, a marking, one of the complement, a claim, a mode, a pair, a step.
+//! One input for every call: sheets, a marking, one of the complement, a claim, a mode, a pair, a step, a record.
 
 use pnet::Mode;
-use reference::Form;
 use reference::build::{PlainNet, movements, weights};
+use reference::{Fleet, Form};
 
 use crate::demand3::completed;
 use crate::generator::{self, Random, Style, total};
 use crate::guarded;
 use crate::same::Same;
-use crate::{rules, versions};
+use crate::{fleet, rules, versions};
 
 /// What every call is tried on.
 #[derive(Clone)]
@@ -27,6 +27,8 @@ pub struct Case {
     pub step: Vec<u16>,
     /// A marking of the complement.
     pub both: Vec<u32>,
+    /// A fleet's record.
+    pub record: Fleet,
     /// What the weights' reader is given for the net's pair count.
     pub pairs: usize,
     /// The length of the output slice of a call that writes a sheet.
@@ -66,6 +68,7 @@ impl Case {
             mode: random.below(total(&plain.modes).max(1)) as u16,
             pair: random.below(plain.pairs.len()) as u16,
             step: generator::step(random, plain),
+            record: if random.once_in(2) { Fleet::default() } else { fleet::any_record(random) },
             pairs: plain.pairs.len(),
             room: pnet::LARGEST_NET,
             net,
@@ -84,6 +87,7 @@ impl Case {
         same.fire_step(&self.net, &self.marking, &self.step);
         same.run(&self.net, &self.movements, &self.marking);
         same.salvage(&self.net, &self.movements, self.room);
+        same.fleet_add(&self.record, &self.net, &self.weights, &self.movements);
         same.certify(&self.net, &self.movements, &self.claim);
         same.figure(&self.net, &self.weights, &self.marking);
         same.change(&self.net, &self.weights, self.mode);

@@ -9,7 +9,7 @@ use std::cell::RefCell;
 use std::ffi::{c_char, c_int, c_uint, c_void};
 use std::{ptr, slice};
 
-use pnet::{Mode, OutOfStep, Pair, Ran, Refusal, Salvaged, Size};
+use pnet::{Fleet, Mode, OutOfStep, Pair, Ran, Refusal, Salvaged, Size};
 
 /// Whole pages; the longest slice that is lent is the room for `replay`'s text.
 const ROOM: usize = 1 << 19;
@@ -219,6 +219,16 @@ pub fn salvage(net: &[u8], damaged: &[u8], out: &mut [u8]) -> Result<Salvaged, R
         let salvaged = pnet::salvage(lent.net.show(net), lent.sheet.show(damaged), held);
         out.copy_from_slice(held);
         salvaged
+    })
+}
+
+pub fn fleet_add(record: &mut Fleet, net: &[u8], weights: &[u8], movements: &[u8]) -> Result<(), Refusal> {
+    lend(|lent| {
+        let [held] = lent.written.lend(&[*record]) else { unreachable!("one record was lent") };
+        let (net, weights) = (lent.net.show(net), lent.counts.show(weights));
+        let counted = pnet::fleet_add(held, net, weights, lent.sheet.show(movements));
+        *record = *held;
+        counted
     })
 }
 

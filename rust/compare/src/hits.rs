@@ -16,6 +16,7 @@ pub enum Call {
     FireStep,
     Run,
     Salvage,
+    FleetAdd,
     Certify,
     Figure,
     Change,
@@ -33,7 +34,7 @@ pub enum Call {
 
 use Call::*;
 
-const CALLS: [Call; 23] = [
+const CALLS: [Call; 24] = [
     ReadNet,
     ReadWeights,
     ReadMovements,
@@ -44,6 +45,7 @@ const CALLS: [Call; 23] = [
     FireStep,
     Run,
     Salvage,
+    FleetAdd,
     Certify,
     Figure,
     Change,
@@ -71,6 +73,8 @@ pub const ENOUGH: usize = 100;
 const NET: &[Told] = &[(1, 0), (2, 0), (3, 0), (4, 0), (5, 0), (6, 0), (7, 0), (8, 0), (9, 0)];
 const WEIGHTS: &[Told] = &[(1, 1), (2, 1), (3, 1), (5, 1), (17, 1)];
 const MOVEMENTS: &[Told] = &[(1, 2), (2, 2), (3, 2), (4, 2)];
+/// Of a fleet's record.
+const FLEET: &[Told] = &[(4, 3), (24, 0), (25, 0)];
 /// Of a damaged movement sheet.
 const DAMAGED: &[Told] = &[(1, 2), (2, 2), (3, 2)];
 const MARKING: &[Told] = &[(17, 3), (5, 3), (9, 3)];
@@ -98,6 +102,7 @@ fn refusals(call: Call) -> Vec<Told> {
         TestStep | FireStep => [NET, MARKING, STEP, MODE, STOPPED].concat(),
         Run => [NET, MOVEMENTS, MARKING, MOVEMENT].concat(),
         Salvage => [NET, DAMAGED, NO_ROOM].concat(),
+        FleetAdd => [NET, WEIGHTS, MOVEMENTS, FLEET].concat(),
         Certify => [NET, MOVEMENTS, ONE_EACH, MOVEMENT, ELSEWHERE].concat(),
         Figure => [NET, WEIGHTS, MARKING].concat(),
         Change => [NET, WEIGHTS, MODE].concat(),
@@ -211,6 +216,11 @@ impl Hits {
             "equal nets, and equal complements",
             "a net of rule 1, over every call",
             "stripped bare by one mode alone",
+            "a ship counted",
+            "a ship refused, and the record as found",
+            "a record counted past its bounds",
+            "added 10^18",
+            "removed 10^18",
             "salvaged whole",
             "salvaged up to a 6",
             "salvaged up to an 11",

@@ -11,6 +11,7 @@ mod damage;
 mod dead;
 mod demand3;
 mod exclusion;
+mod fleet;
 #[path = "../../reference/tests/support/generator.rs"]
 mod generator;
 mod guarded;
@@ -71,6 +72,8 @@ fn main() -> ExitCode {
             let form = generator::form(&mut searches);
             exclusion::searched(&mut same, &net, form, &kilograms);
             salvage::every_cut(&mut same, &mut searches);
+            fleet::carried(&mut same, &mut searches, 20);
+            (0..4).for_each(|_| fleet::at_bounds(&mut same, &mut searches));
         }
         if round % 400 == 0 {
             at_limits(&mut same, &mut random, round as usize / 400);
@@ -84,6 +87,9 @@ fn main() -> ExitCode {
         .for_each(|more| same.statement(&vec![random.next() as u8; 65_537 + more * more], pnet::TEXT_ROOM));
     same.part = format!("seed {seed}, the limits of stripping");
     strip::at_limits(&mut same);
+    same.part = format!("seed {seed}, a full fleet");
+    fleet::full(&mut same);
+    fleet::carried(&mut same, &mut searches, 1_000);
     same.part = format!("seed {seed}, the limits of salvage");
     salvage::at_limits(&mut same, &mut searches);
     same.part = format!("seed {seed}, the limits of version 2");

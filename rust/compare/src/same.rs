@@ -3,6 +3,7 @@
 use std::fmt::Debug;
 
 use pnet::{Mode, Pair, Refusal};
+use reference::Fleet;
 
 use crate::hits::{Call, Hits};
 use crate::{guarded, salvage, version_2, visits};
@@ -183,6 +184,26 @@ impl Same {
         if let Some((length, report)) = value {
             salvage::holds(self, net, damaged, report, &ours[..length]);
         }
+    }
+
+    /// The answer to a ship, and the record after it.
+    pub fn fleet_add(
+        &mut self,
+        record: &Fleet,
+        net: &[u8],
+        weights: &[u8],
+        movements: &[u8],
+    ) -> (Plain, Fleet) {
+        let Fleet { ships, movements: accepted, refused, added, removed } = *record;
+        let mut ours = pnet::Fleet { ships, movements: accepted, refused, added, removed };
+        let mut theirs = *record;
+        let answer = told(&guarded::fleet_add(&mut ours, net, weights, movements));
+        let reference = plain(reference::fleet_add(&mut theirs, net, weights, movements));
+        let pnet::Fleet { ships, movements: accepted, refused, added, removed } = ours;
+        let ours = Fleet { ships, movements: accepted, refused, added, removed };
+        let input: [&dyn Debug; 4] = [record, &net, &weights, &movements];
+        self.hold(Call::FleetAdd, answer, (answer, ours), (reference, theirs), &input);
+        (answer, ours)
     }
 
     pub fn certify(&mut self, net: &[u8], movements: &[u8], claim: &[u32]) {

@@ -112,12 +112,22 @@ fn of_sheets(case: &Case, net: &[u8]) -> Vec<Told> {
     vec![
         (Call::Run, told(&ran.result), value),
         salvage(case, net),
+        fleet(case, net),
         (Call::Certify, told(&guarded::certify(net, movements, &case.claim)), vec![]),
         (Call::Figure, told(&figure), figure.into_iter().collect()),
         (Call::Change, told(&change), change.into_iter().collect()),
         (Call::Exclude, told(&guarded::exclude(net, weights, &case.claim)), vec![]),
         statement(case, net),
     ]
+}
+
+fn fleet(case: &Case, net: &[u8]) -> Told {
+    let reference::Fleet { ships, movements, refused, added, removed } = case.record;
+    let mut record = pnet::Fleet { ships, movements, refused, added, removed };
+    let counted = guarded::fleet_add(&mut record, net, &case.weights, &case.movements);
+    let counts = [&[record.ships, record.movements][..], &record.refused].concat();
+    let numbers = counts.into_iter().map(|count| count as i64).chain([record.added, record.removed]);
+    (Call::FleetAdd, told(&counted), numbers.collect())
 }
 
 /// A salvage writes a movement sheet, the same for both.

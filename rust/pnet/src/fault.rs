@@ -47,6 +47,12 @@ pub enum Fault {
     EqualFigures,
     /// 23: a net of rule 1 has no sheet of version 1.
     WeakRule,
+    /// 4: a fleet's record has 1,000 ships.
+    FleetFull,
+    /// 24: a figure of a fleet's record would pass 10^18.
+    FigureOutside,
+    /// 25: a fleet's record has more than 1,000 ships or refusals by a number, or 8,192,000 movements, or a figure below 0 or above 10^18.
+    RecordOutside,
     /// A number that has no name here yet.
     Other(u64),
 }
@@ -88,6 +94,8 @@ impl Fault {
             21 => Unbalanced,
             22 => EqualFigures,
             23 => WeakRule,
+            24 => FigureOutside,
+            25 => RecordOutside,
             other => Other(other),
         }
     }
@@ -99,7 +107,7 @@ impl Fault {
             CutShort => 1,
             WrongVersion => 2,
             WrongLength(_) => 3,
-            CountOutside => 4,
+            CountOutside | FleetFull => 4,
             NumberOutside => 5,
             NotThere => 6,
             NotRising => 7,
@@ -117,6 +125,8 @@ impl Fault {
             Unbalanced => 21,
             EqualFigures => 22,
             WeakRule => 23,
+            FigureOutside => 24,
+            RecordOutside => 25,
             Other(number) => number,
         }
     }
@@ -130,7 +140,7 @@ mod tests {
     fn every_fault_has_its_number_and_no_number_panics() {
         for number in (1..100).chain([u64::MAX]) {
             let fault = Fault::of(number, || Length::Nothing);
-            let named = matches!(number, 1..=18 | 21..=23);
+            let named = matches!(number, 1..=18 | 21..=25);
             assert_eq!((fault.number(), matches!(fault, Fault::Other(_))), (number, !named));
         }
     }

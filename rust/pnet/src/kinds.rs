@@ -20,7 +20,7 @@ pub enum Thing {
     Weights = 1,
     /// The movements, or one that a run or a certificate refuses.
     Movements = 2,
-    /// A marking, a claim, a mode, a pair or a step.
+    /// A marking, a claim, a mode, a pair, a step or a record.
     Argument = 3,
 }
 

@@ -47,6 +47,7 @@
 
 mod calls;
 mod fault;
+mod fleet;
 mod kinds;
 mod left_behind;
 mod raw;
@@ -58,6 +59,7 @@ pub use calls::{
     size, statement, strip, test, test_step, to_version_1, to_version_2,
 };
 pub use fault::{Fault, Length};
+pub use fleet::{Fleet, fleet_add};
 pub use kinds::{LARGEST_NET, Mode, Pair, TEXT_ROOM, Thing};
 pub use left_behind::left_behind;
 pub use refusal::Refusal;

@@ -5,6 +5,7 @@ use std::hint::black_box;
 
 use crate::calls::Size;
 use crate::fault::{Fault, Length};
+use crate::fleet::Fleet;
 use crate::kinds::{Mode, Pair, Thing};
 use crate::refusal::Refusal;
 
@@ -141,6 +142,15 @@ unsafe extern "C" {
         out: *mut u8,
         room: usize,
     ) -> With<Salvage>;
+    pub fn pnet_fleet_add(
+        record: *mut Fleet,
+        net: *const u8,
+        net_length: usize,
+        weights: *const u8,
+        weights_length: usize,
+        movements: *const u8,
+        movements_length: usize,
+    ) -> Answer;
     pub fn pnet_strip(net: *const u8, net_length: usize, pair: Pair, out: *mut u8, room: usize) -> With<u64>;
     pub fn pnet_to_version_2(net: *const u8, net_length: usize, out: *mut u8, room: usize) -> With<u64>;
     pub fn pnet_to_version_1(net: *const u8, net_length: usize, out: *mut u8, room: usize) -> With<u64>;

@@ -19,6 +19,11 @@ impl Refusal {
         Refusal { fault, thing, position, amount }
     }
 
+    /// The same refusal, what is wrong by another name.
+    pub(crate) fn with(self, fault: Fault) -> Refusal {
+        Refusal { fault, ..self }
+    }
+
     /// What is wrong.
     pub fn fault(&self) -> Fault {
         self.fault
@@ -145,6 +150,9 @@ impl fmt::Display for Refusal {
             (Fault::EndsElsewhere, _) => write!(f, "pair {at} ends at another count than is claimed"),
             (Fault::Unbalanced, _) => write!(f, "mode {at} changes the figure, which so excludes nothing"),
             (Fault::EqualFigures, _) => write!(f, "the claim has the figure of the first marking"),
+            (Fault::FleetFull, _) => write!(f, "the record has 1,000 ships, and has no place for another"),
+            (Fault::FigureOutside, _) => write!(f, "a figure of the record would pass 10^18"),
+            (Fault::RecordOutside, _) => write!(f, "the record is out of its bounds"),
             (Fault::WeakRule, _) => write!(f, "a net of the weak capacity rule has no sheet of version 1"),
             (Fault::Other(_), thing) => write!(f, "the {thing} is refused at {at}"),
         }

@@ -113,6 +113,36 @@ fn of_a_salvage() {
 }
 
 #[test]
+fn of_a_fleet() {
+    let (plain, kilograms, list) = (example(), weights(&[250, 0]), movements(&[0, 0, 0, 0]));
+    let add = |mut record: Fleet, net: &[u8], weights: &[u8], list: &[u8]| {
+        let found = record;
+        let counted = fleet_add(&mut record, net, weights, list);
+        assert!(counted.is_ok() || record == found);
+        counted.map(|()| record)
+    };
+    let zeros = Fleet::default();
+    let one = Fleet { ships: 1, movements: 3, refused: [0, 1, 0, 0, 0], added: 0, removed: 750 };
+    assert_eq!(add(zeros, &plain, &kilograms, &list), Ok(one));
+    assert_eq!(
+        add(one, &plain, &weights(&[-250, 0]), &movements(&[0, 9])).unwrap(),
+        Fleet { ships: 2, movements: 4, refused: [1, 1, 0, 0, 0], added: 250, removed: 750 }
+    );
+    let most = 1_000_000_000_000_000_000;
+    let told = |record| add(record, &plain, &kilograms, &list);
+    says(told(Fleet { ships: 1_001, ..zeros }), "25: the record is out of its bounds");
+    says(told(Fleet { added: -1, ..zeros }), "25: the record is out of its bounds");
+    let full = told(Fleet { ships: 1_000, ..zeros });
+    says(full, "4: the record has 1,000 ships, and has no place for another");
+    assert_eq!((full.unwrap_err().offset(), full.unwrap_err().thing()), (None, Thing::Argument));
+    says(told(Fleet { removed: most, ..zeros }), "24: a figure of the record would pass 10^18");
+    says(add(zeros, &plain[1..], &kilograms, &list), "1: the net sheet is cut short");
+    says(add(zeros, &plain, &kilograms[..9], &list), "1: the weight sheet is cut short");
+    let after = [&list[..], &[7]].concat();
+    says(add(zeros, &plain, &kilograms, &after), "3: the movement sheet has bytes left over from byte 13 on");
+}
+
+#[test]
 fn of_a_net() {
     let pairs = [(5, 3), (OPEN, 0)];
     says(

@@ -38,7 +38,7 @@ pub enum Refusal {
     /// "L = 0; a field runs past L; bytes left over."
     Field = 3,
     /// "A count outside its limits, or the running total passes 256"; "another rule byte, or the arc count whose running
-    /// total passes 2,048".
+    /// total passes 2,048"; "4 for ship 1,001".
     Count = 4,
     /// "A number outside its range."
     Range = 5,
@@ -73,6 +73,10 @@ pub enum Refusal {
     EqualFigures = 22,
     /// "Converting a rule-1 sheet to version 1 is always refused by 23, before 10."
     WeakRule = 23,
+    /// "24 where a figure would pass 10^18."
+    FigureOutside = 24,
+    /// "25 for a lent record with ships or a refusal count above 1,000, movements above 8,192,000, or a figure below 0 or above 10^18."
+    RecordOutside = 25,
 }
 
 impl Answer {

@@ -1,7 +1,7 @@
 //! A plain reading of docs/RULES.md: reading a finite P-net, testing and firing one mode or a step of
 //! several at once, running a list of movements, salvaging a cut one, checking a certificate, complementing, stripping a pair,
 //! auditing a marking by the complement's, the figure, markings out of reach, locally dead modes, both versions of a net
-//! sheet and both rules of version 2, `replay`.
+//! sheet and both rules of version 2, a fleet's record, `replay`.
 //!
 //! Each call takes sheets as bytes and gives the answer, value and lent slices of docs/RULES.md exactly.
 
@@ -18,6 +18,7 @@ mod dead;
 mod exclusion;
 mod figure;
 mod firing;
+mod fleet;
 mod form;
 mod kinds;
 mod limits;
@@ -51,6 +52,7 @@ pub use dead::{first_dead, is_dead};
 pub use exclusion::exclude;
 pub use figure::figure;
 pub use firing::{fire, test};
+pub use fleet::{Fleet, fleet_add};
 pub use form::Form;
 pub use kinds::{Mode, Pair};
 pub use movement_sheet::read_movements;

@@ -1,4 +1,4 @@
-//! The limits of docs/RULES.md: of sheets, of a step and of `replay`'s input.
+//! The limits of docs/RULES.md: of sheets, of a step, of a fleet's record and of `replay`'s input.
 
 use std::ops::RangeInclusive;
 
@@ -37,6 +37,15 @@ pub const STEP: RangeInclusive<usize> = 1..=64;
 
 /// "A weight may be negative, from -1000000 to 1000000."
 pub const WEIGHT: i32 = 1_000_000;
+
+/// "At most 1,000 ships", and as many refusals by each number.
+pub const SHIPS: u64 = 1_000;
+
+/// "Movements above 8,192,000": 8,192 of each ship.
+pub const FLEET_MOVEMENTS: u64 = 8_192_000;
+
+/// "A figure below 0 or above 10^18."
+pub const FIGURE: i64 = 1_000_000_000_000_000_000;
 
 /// "Input above 65,536 bytes prints only `long`."
 pub const INPUT: usize = 65_536;

@@ -2,11 +2,11 @@
 
 use crate::answer::Answer;
 use crate::kernel::Reach;
-use crate::layout::{Arc, Layout, net_at, pair_of};
+use crate::layout::{Layout, net_at, pair_of};
 use crate::list::whole_list;
 use crate::run::run_from;
 use crate::text::{High, Page, Positions, Word, short};
-use crate::weights::weights_at;
+use crate::weights::{changes_of, weights_at};
 
 /// "Standard input: a net sheet, a weight sheet, a movement sheet, then nothing."
 pub fn replay(input: &[u8]) -> Vec<u8> {
@@ -78,7 +78,7 @@ fn line(page: &mut Page, mut at: usize, numbers: &[i64]) -> usize {
 struct Mode {
     /// The mode's number and the answer 0, with a space before and after each.
     text: Word,
-    /// "A mode's weight change is the sum of weight times (Post less Pre)."
+    /// Its weight change.
     change: i64,
 }
 
@@ -90,10 +90,8 @@ fn modes_of(layout: &Layout, weights: &[i32; 256]) -> [Mode; 256] {
         let around = u64::from(b' ') | u64::from_le_bytes(*b" 0 \0\0\0\0\0") << (8 * length + 8);
         mode.text = Word(digits << 8 | around, length + 4);
     }
-    for bytes in &*layout.arcs {
-        let arc = Arc::of(bytes);
-        let flow = i64::from(arc.post) - i64::from(arc.pre);
-        modes[arc.mode() & 255].change += i64::from(weights[arc.pair()]) * flow;
+    for (mode, change) in modes.iter_mut().zip(changes_of(layout, weights)) {
+        mode.change = change;
     }
     modes
 }

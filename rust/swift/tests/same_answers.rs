@@ -354,6 +354,63 @@ fn at_the_limits_of_stripping_the_answers_are_the_same() {
     assert_eq!(seen, [0, 10].into());
 }
 
+fn fields(record: &swift::Fleet) -> reference::Fleet {
+    let swift::Fleet { ships, movements, refused, added, removed } = *record;
+    reference::Fleet { ships, movements, refused, added, removed }
+}
+
+/// The same answer to a ship, and the same record after it.
+fn same_fleet(record: &mut swift::Fleet, [net, weights, list]: [&[u8]; 3], seen: &mut BTreeSet<u32>) {
+    let mut plainly = fields(record);
+    let plain = of_reference(reference::fleet_add(&mut plainly, net, weights, list));
+    let found = *record;
+    let answer = of_swift(swift::fleet_add(record, net, weights, list));
+    assert_eq!((answer, fields(record)), (plain, plainly), "{found:?} {net:?} {weights:?} {list:?}");
+    seen.insert(answer.0);
+}
+
+/// A record at its bounds, or past one of them.
+fn any_record(random: &mut Random) -> swift::Fleet {
+    let most = 1_000_000_000_000_000_000;
+    let mut record = swift::Fleet {
+        ships: random.pick(&[0, 1, 999, 1_000]),
+        movements: random.pick(&[0, 8_191_999, 8_192_000]),
+        refused: [(); 5].map(|()| random.pick(&[0, 999, 1_000])),
+        added: random.pick(&[0, most - 1_000_000, most - 1, most]),
+        removed: random.pick(&[0, most - 1_000_000, most - 1, most]),
+    };
+    let by = random.below(5);
+    match random.below(12) {
+        0 => record.ships = random.pick(&[1_001, u64::MAX]),
+        1 => record.movements = random.pick(&[8_192_001, u64::MAX]),
+        2 => record.refused[by] = random.pick(&[1_001, u64::MAX]),
+        3 => record.added = random.pick(&[-1, most + 1, i64::MIN, i64::MAX]),
+        4 => record.removed = random.pick(&[-1, most + 1, i64::MIN, i64::MAX]),
+        _ => {}
+    }
+    record
+}
+
+#[test]
+fn a_fleet_gives_the_same_record() {
+    let (mut random, mut seen) = (Random::new(47), BTreeSet::new());
+    let mut carried = swift::Fleet::default();
+    for round in 0..10_000 {
+        let net = any_net_for_lists(&mut random).0;
+        let kilograms = weights(&generator::weights(&mut random, total(&net.colours)));
+        let kilograms = maybe_spoiled(&mut random, kilograms, 15);
+        let list = movements(&list(&mut random, &net, 30));
+        let list = maybe_spoiled(&mut random, list, 15);
+        let sheet = sheet_of(&mut random, &net, 10);
+        if round % 1_400 == 0 {
+            carried = swift::Fleet::default();
+        }
+        same_fleet(&mut carried, [&sheet, &kilograms, &list], &mut seen);
+        same_fleet(&mut any_record(&mut random), [&sheet, &kilograms, &list], &mut seen);
+    }
+    assert_eq!(seen, (0..=9).chain([17, 24, 25]).collect());
+}
+
 /// The counts of a net and its complement: in step, or one of them anything.
 fn both_markings(random: &mut Random, net: &PlainNet) -> (Vec<u32>, Vec<u32>) {
     let counts: Vec<u32> = net.pairs.iter().map(|pair| pair.1).collect();

@@ -1,6 +1,6 @@
 -- What the run reports.
 use borrow.Author.Needs.{needs}
-use Rattle.statement.proofs.Telling.{run-tells}
+use Rattle.run.proofs.Reporting.{run-tells}
 use Rattle.statement.proofs.movements.run_list.Statement.{statement}
 use Rattle.statement.proofs.movements.run_list.Tie as tie
 

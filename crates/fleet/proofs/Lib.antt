@@ -1,0 +1,4 @@
+pub mod Totals
+pub mod Growing
+pub mod Weighing
+pub mod Entering

@@ -1,0 +1,5 @@
+pub mod Ships
+pub mod Calls
+pub mod Promises
+pub mod Contracts
+pub mod Parts
