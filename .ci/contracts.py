@@ -148,7 +148,7 @@ def says(tokens, subject, declared):
 
 def shared_part(f, declared):
     where = f'{f.crate}::{f.path}'
-    subjects = [(f'(?<!\\S){re.escape(f.result)}(?!\\S)', 'its result')] if f.returns else []
+    subjects = [(f'(?<!\\S){re.escape(f.result)},?(?!\\S)', 'its result')] if f.returns else []
     subjects += [(f'now \\( {name} \\.exit \\)', f'what it leaves in `{name}`') for name in f.lent()]
     if not subjects:
         return [f'{where} has no result and is lent nothing: there is nothing that it could say']

@@ -38,17 +38,6 @@ pub each-arc : (s : List ℕ) → first (length (netOf s .arcs)) (inhibitedAt s)
 unfolding refusal15
 each-arc s = refl
 
--- where an arc of a mode's segment is refused, and where none is
-module _ (f : ℕ → Option Refusal) (start count : ℕ) (none-before : first start f ≡ none) where
-  pub stops-at : (n : ℕ) {a : Answer} {r : Refusal} → start + count ≤ n → a ≡ answer (first count (λ i. f (start + i))) → a ≡ Refused′ r → a ≡ answer (first n f)
-  stops-at n h e q =
-      let rest : start + count + (n - (start + count)) ≡ n = omega arith in
-      let all = first-split (start + count) (n - (start + count)) f ∙ ap (λ o. o ▸ first (n - (start + count)) (λ i. f (start + count + i))) (first-split start count f ∙ none-then none-before refl) in
-      answer-stops _ _ e q ∙ ap answer (sym (rw rest at all))
-
-  pub goes-on : {a : Answer} → a ≡ answer (first count (λ i. f (start + i))) → a ≡ Accepted → first (start + count) f ≡ none
-  goes-on e q = first-split start count f ∙ none-then none-before (answer-none _ e q)
-
 -- what the survey finds clear
 pub clear-none : (s : List ℕ) → every (length (netOf s .arcs)) (clearAt (netOf s)) ≡ true → refusal15 (arcOffset s) (netOf s) ≡ none
 unfolding clearAt

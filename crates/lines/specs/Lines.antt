@@ -7,7 +7,7 @@ use Rattle.model.specs.declared.Refusal.{Refusal}
 use Rattle.model.specs.declared.Answer.the-variants.{Accepted, Refused}
 use Rattle.model.specs.Refusals.{number, thing, position, amount}
 use Rattle.text.specs.Decimals.{decimal, signedDecimal}
-use Rattle.lines.specs.Ascii.{ascii, space, newline}
+use Rattle.text.specs.Ascii.{ascii, space, newline}
 
 unfoldable pub line : List (List ℕ) → List ℕ
 line [] = newline ∷ []

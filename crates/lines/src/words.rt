@@ -9,7 +9,7 @@ ghost use Rattle.model.specs.declared.Answer.the-variants.{Accepted};
 ghost use Rattle.model.specs.Refusals.{number};
 ghost use Rattle.text.specs.Decimals.{decimal, signedDecimal};
 ghost use Rattle.text.specs.Puts.{Writes};
-ghost use Rattle.lines.specs.Ascii.{space, newline};
+ghost use Rattle.text.specs.Ascii.{space, newline};
 
 pub(crate) fn next_decimal(out: &mut [u8], at: usize, n: u64) -> usize
     requires { ⌜ at + 21 ≤ length (now out) ⌝ }

@@ -8,7 +8,7 @@ use Rattle.model.specs.declared.Thing.{Thing}
 use Rattle.model.specs.declared.Why.{Why}
 use Rattle.model.specs.declared.Why.the-variants.{Lacking, OverCapacity, Inhibited, OverLimit}
 use Rattle.model.specs.declared.Fault.{Fault}
-use Rattle.model.specs.declared.Fault.the-variants.{CutShort, WrongVersion, WrongLength, CountOutside, NumberOutside, MarkingOutside, NotThereAt, NotThere, NotRising, Blank, StartAboveCapacity, MarkingAboveCapacity, NoRoom, Stopped, InhibitedUnbounded, NotOneEach, EndsElsewhere, Unbalanced, EqualFigures, RuleLost, FigurePast, RecordOutside}
+use Rattle.model.specs.declared.Fault.the-variants.{CutShort, WrongVersion, WrongLength, CountOutside, NumberOutside, MarkingOutside, NotThereAt, NotThere, NotRising, Blank, StartAboveCapacity, MarkingAboveCapacity, NoRoom, Stopped, InhibitedUnbounded, NotOneEach, EndsElsewhere, NotUnbounded, NotAnExport, Unbalanced, EqualFigures, RuleLost, FigurePast, RecordOutside}
 use Rattle.model.specs.declared.Answer.{Answer}
 use Rattle.model.specs.declared.Answer.the-variants.{Accepted, Refused}
 use Rattle.model.specs.Refusals.{answer, line, number, amount}
@@ -39,6 +39,8 @@ other-numbers (Stopped OverLimit p by) h = ⊎-elim (λ l. omega (arith, l)) (λ
 other-numbers (InhibitedUnbounded at) h = refl
 other-numbers (NotOneEach at) h = refl
 other-numbers (EndsElsewhere p) h = refl
+other-numbers (NotUnbounded at) h = refl
+other-numbers (NotAnExport at) h = refl
 other-numbers (Unbalanced t) h = refl
 other-numbers EqualFigures h = refl
 other-numbers RuleLost h = refl

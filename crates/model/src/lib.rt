@@ -66,6 +66,8 @@ pub enum Fault {
     InhibitedUnbounded(usize),
     NotOneEach(usize),
     EndsElsewhere(Pair),
+    NotUnbounded(usize),
+    NotAnExport(usize),
     Unbalanced(Mode),
     EqualFigures,
     RuleLost,

@@ -13,7 +13,7 @@ use Rattle.model.specs.declared.Version.the-variants.{One, Two}
 use Rattle.model.specs.Nets.{arcNo}
 use Rattle.model.proofs.First.{below-or}
 use Rattle.heads.specs.Bytes.{u16At}
-use Rattle.heads.specs.Layout.{modeCount, arcCount, arcCountAt, arcsAfter, arcsAt, arcAt, arcSize, arcModeAt, arcTailAt, tailSize, groupArcAt, arcsBefore, groupAt, groupCount}
+use Rattle.heads.specs.Layout.{modeCount, arcCount, arcCountAt, arcsAfter, arcsAt, arcAt, arcSize, arcModeAt, arcTailAt, tailSize, tailInhibitorAt, groupArcAt, arcsBefore, groupAt, groupCount}
 use Rattle.heads.specs.Version.{versionOf}
 use Rattle.nets.specs.Nets.{netRefusal}
 use Rattle.nets.proofs.GroupsRead.{before-next, before-more}
@@ -22,7 +22,7 @@ use Rattle.sheets.specs.Decoded.{netArcIn, arcsOf, netOf}
 use Rattle.sheets.proofs.Meaning.{modes-are, arcs-length, arc-at, arcs-two}
 use Rattle.sheets.proofs.GroupArcs.{group-arcs-length, modes-below, modes-from, arc-is}
 use Rattle.sheets.proofs.Accepted.{well-formed}
-use Rattle.opened.specs.Shape.{arcOffset, leadOf, strideOf, tailAt, Before}
+use Rattle.opened.specs.Shape.{arcOffset, inhibitorBy, inhibitorOffset, leadOf, strideOf, tailAt, Before}
 use Rattle.opened.specs.Starts.{FirstFrom}
 
 module _ (s : List ℕ) (base : ℕ) where
@@ -122,6 +122,15 @@ module _ (s : List ℕ) (accepted : netRefusal s ≡ none) where
     pub offset-two : versionOf s ≡ Two → tailAt s t k ≡ arcOffset s k
     unfolding tailAt arcOffset
     offset-two v = rw (v, own) (omega arith)
+
+    -- its I, after the 10 bytes of its pair, Pre and Post
+    pub inhibitor-there : tailInhibitorAt (tailAt s t k) ≡ inhibitorOffset s k
+    unfolding inhibitorOffset
+    inhibitor-there = go (versionOf s) refl
+      where
+        go : (v : Version) → versionOf s ≡ v → tailInhibitorAt (tailAt s t k) ≡ inhibitorBy v (arcOffset s k)
+        go One e = omega (arith, offset-one e)
+        go Two e = omega (arith, offset-two e)
 
   -- version 1: the mode of an arc, in its first field
   module _ (one : versionOf s ≡ One) (k : ℕ) (h : k < length (netOf s .arcs)) where

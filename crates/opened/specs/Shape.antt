@@ -1,5 +1,5 @@
 -- What is worked out once of a net sheet that has been accepted, and what a look into it gives.
--- A reader of the promises needs `arcOffset` alone.
+-- A reader of the promises needs `arcOffset` and `inhibitorOffset` alone.
 use Prim.Native.Nat.{ℕ, _+_, _*_, _≤_, _<_}
 use mathlib.Core.Path.{_≡_}
 use mathlib.Core.List.{List}
@@ -12,7 +12,7 @@ use Rattle.model.specs.Numbers.{limit}
 use Rattle.model.specs.Nets.{arcNo}
 use Rattle.model.specs.WellFormed.{InRange}
 use Rattle.opened.specs.declared.shape.NetShape.{NetShape}
-use Rattle.heads.specs.Layout.{placeCount, transitionCount, pairCount, modeCount, pairsAt, arcCountAt, arcsAfter, arcsAt, arcAt, groupArcAt, arcsBefore}
+use Rattle.heads.specs.Layout.{placeCount, transitionCount, pairCount, modeCount, pairsAt, arcCountAt, arcsAfter, arcsAt, arcAt, arcTailAt, groupArcAt, tailInhibitorAt, arcsBefore}
 use Rattle.heads.specs.Version.{versionOf}
 use Rattle.fields.specs.Numbers.{bound}
 use Rattle.nets.specs.Nets.{netRefusal}
@@ -54,6 +54,14 @@ offsetBy Two s k = groupArcAt (arcsAfter (arcCountAt s + 2 * arcNo (netOf s .arc
 
 unfoldable pub arcOffset : List ℕ → ℕ → ℕ
 arcOffset s k = offsetBy (versionOf s) s k
+
+-- and of its I: "mode (2 bytes), pair (2), Pre, Post, I (4 each)", in version 2 "without the mode"
+abbrev pub inhibitorBy : Version → ℕ → ℕ
+inhibitorBy One at = tailInhibitorAt (arcTailAt at)
+inhibitorBy Two at = tailInhibitorAt at
+
+unfoldable pub inhibitorOffset : List ℕ → ℕ → ℕ
+inhibitorOffset s k = inhibitorBy (versionOf s) (arcOffset s k)
 
 -- where the 14 bytes of the k-th arc stand, which is one of mode t's
 abbrev pub leadOf : Version → ℕ → ℕ

@@ -12,7 +12,7 @@ ghost use Prim.Native.Nat.{_+_, _≤_, _<_};
 ghost use lib.ListN.{length};
 ghost use Rattle.heads.specs.Layout.{tailSize};
 ghost use Rattle.sheets.specs.Decoded.{netOf};
-ghost use Rattle.opened.specs.Shape.{Open, ArcIs, arcOffset, leadOf, strideOf, tailAt};
+ghost use Rattle.opened.specs.Shape.{Open, ArcIs, arcOffset, inhibitorOffset, leadOf, strideOf, tailAt};
 ghost use Rattle.opened.specs.Starts.{OwnArc};
 
 // How far the 14 bytes of one arc stand from those of the next.
@@ -60,6 +60,15 @@ pub fn arc_offset(s: &[u8], net: NetShape, arcs: Segment, i: usize) -> usize
         Version::One => tail - 2,
         Version::Two => tail,
     }
+}
+
+// The position of refusal 19 at an arc: where its I stands.
+pub fn inhibitor_offset(s: &[u8], net: NetShape, arcs: Segment, i: usize) -> usize
+    requires { ⌜ Open (now s) net ⌝ }
+    requires { ⌜ OwnArc (netOf (now s) .arcs) arcs i ⌝ }
+    ensures { λ r. ⌜ r ≡ inhibitorOffset (now (s .entry)) (arcs .start + i) ⌝ }
+{
+    tail_of(s, net, arcs, i) + 10
 }
 
 pub fn arc(s: &[u8], net: NetShape, arcs: Segment, i: usize) -> Arc

@@ -81,7 +81,8 @@ pub fn modes_of(s: &[u8], net: NetShape, transition: usize) -> usize
     count_at(s, fields_at(s) + 4 + 2 * net.places + 2 * transition)
 }
 
-fn pair_at(s: &[u8], net: NetShape, pair: Pair) -> usize
+// Where the pair's K stands, and after it the first marking: the position of refusal 19 at a pair.
+pub fn pair_at(s: &[u8], net: NetShape, pair: Pair) -> usize
     requires { ⌜ Open (now s) net ⌝ }
     requires { ⌜ pair .0 < net .pairs ⌝ }
     ensures { λ r. ⌜ (r ≡ pairAt (pairsAt (now (s .entry))) (pair .0)) × (r + 8 ≤ length (now (s .entry))) ⌝ }

@@ -4,7 +4,7 @@ use mathlib.Core.Option.{Option, none, some}
 use native.Mathlib.Omega.{arith}
 use Rattle.model.specs.declared.Why.the-variants.{Lacking, OverCapacity, Inhibited, OverLimit}
 use Rattle.model.specs.declared.Fault.{Fault}
-use Rattle.model.specs.declared.Fault.the-variants.{CutShort, WrongVersion, WrongLength, CountOutside, NumberOutside, MarkingOutside, NotThereAt, NotThere, NotRising, Blank, StartAboveCapacity, MarkingAboveCapacity, NoRoom, Stopped, InhibitedUnbounded, NotOneEach, EndsElsewhere, Unbalanced, EqualFigures, RuleLost, FigurePast, RecordOutside}
+use Rattle.model.specs.declared.Fault.the-variants.{CutShort, WrongVersion, WrongLength, CountOutside, NumberOutside, MarkingOutside, NotThereAt, NotThere, NotRising, Blank, StartAboveCapacity, MarkingAboveCapacity, NoRoom, Stopped, InhibitedUnbounded, NotOneEach, EndsElsewhere, NotUnbounded, NotAnExport, Unbalanced, EqualFigures, RuleLost, FigurePast, RecordOutside}
 use Rattle.model.specs.declared.Refusal.{Refusal}
 use Rattle.model.specs.Refusals.{answer, line, number}
 
@@ -29,6 +29,8 @@ refused-number (Stopped OverLimit p by) e = omega arith
 refused-number (InhibitedUnbounded at) e = omega arith
 refused-number (NotOneEach at) e = omega arith
 refused-number (EndsElsewhere p) e = omega arith
+refused-number (NotUnbounded at) e = omega arith
+refused-number (NotAnExport at) e = omega arith
 refused-number (Unbalanced t) e = omega arith
 refused-number EqualFigures e = omega arith
 refused-number RuleLost e = omega arith

@@ -1,3 +1,4 @@
+pub mod Ascii
 pub mod Promises
 pub mod Decimals
 pub mod Puts

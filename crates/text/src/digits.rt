@@ -7,7 +7,7 @@ ghost use Rattle.text.specs.Decimals.{decimal};
 ghost use Rattle.text.specs.Puts.{putInto};
 
 // By powers of ten up to n / 10, so that none wraps: `power` is 10 ^ `after`.
-pub(crate) fn digit_count(n: u64) -> usize
+pub fn digit_count(n: u64) -> usize
     ensures { λ r. ⌜ r ≡ length (decimal n) ⌝ }
 {
     let tenth = n / 10;

@@ -1,5 +1,5 @@
 // Runs of bytes and numbers in decimal, put into a slice that the caller lends: the parts of a line of `replay` (document 01, "`replay`").
-mod digits;
+pub mod digits;
 pub mod twos;
 pub mod writes;
 

@@ -68,6 +68,8 @@ pub fn line_of(fault: Fault) -> Line
         Fault::InhibitedUnbounded(at) => says(15, at),
         Fault::NotOneEach(at) => says(17, at),
         Fault::EndsElsewhere(pair) => says(18, pair.0 as usize),
+        Fault::NotUnbounded(at) => says(19, at),
+        Fault::NotAnExport(at) => says(20, at),
         Fault::Unbalanced(mode) => says(21, mode.0 as usize),
         Fault::EqualFigures => says(22, 0),
         Fault::RuleLost => says(23, 0),

@@ -4,6 +4,7 @@ pub mod Sections
 pub mod Records
 pub mod SheetLength
 pub mod ByMode
+pub mod Together
 pub mod Versions
 pub mod Groups
 pub mod NetRead

@@ -38,7 +38,7 @@ pub enum Refusal {
     /// "L = 0; a field runs past L; bytes left over."
     Field = 3,
     /// "A count outside its limits, or the running total passes 256"; "another rule byte, or the arc count whose running
-    /// total passes 2,048"; "4 for ship 1,001".
+    /// total passes 2,048"; "4 for ship 1,001"; "4 where there are more than 64 pairs or modes" in a text.
     Count = 4,
     /// "A number outside its range."
     Range = 5,
@@ -67,6 +67,10 @@ pub enum Refusal {
     NotEachPair = 17,
     /// "Certificate ends at another marking."
     OtherMarking = 18,
+    /// "19 at the first finite K or I."
+    Bounded = 19,
+    /// "20 at the first byte (or the end) from which no export agrees with the text."
+    NoExport = 20,
     /// "21 with the first unbalanced mode."
     Unbalanced = 21,
     /// "22 when the figures are equal."

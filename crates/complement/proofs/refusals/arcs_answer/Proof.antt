@@ -8,12 +8,13 @@ use native.Mathlib.Omega.{arith}
 use Rattle.model.specs.First.{first}
 use Rattle.model.specs.Refusals.{answer}
 use Rattle.model.proofs.First.{first-none}
+use Rattle.model.proofs.Refusals.{answer-run-stops, answer-run-passes}
 use Rattle.sheets.specs.Decoded.{netOf}
 use Rattle.opened.specs.Starts.{FirstFrom}
 use Rattle.opened.proofs.Shapes.{sizes}
 use Rattle.opened.proofs.Segments.{first-arc, first-ends, first-same}
 use Rattle.complement.specs.ArcRefusals.{inhibitedAt}
-use Rattle.complement.proofs.Answers.{each-arc, stops-at, goes-on}
+use Rattle.complement.proofs.Answers.{each-arc}
 use Rattle.complement.proofs.refusals.arcs_answer.Statement.{statement}
 use Rattle.complement.proofs.refusals.arcs_answer.Tie as tie
 
@@ -31,7 +32,7 @@ returns c =
     let l = c .before .before .before .before .before .loop in
     let a = c .before .before .before .before .before .before .before .args in
     let segment = c .before .before .before .arcs-of .ensures in
-    stops-at (inhibitedAt (a .s .now)) _ _ (l .inv .1 _ (segment .starts)) _ (segment .ends .inside) (c .before .before .mode-answer .ensures) (c .enum-told .given .1)
+    answer-run-stops (inhibitedAt (a .s .now)) _ _ (l .inv .1 _ (segment .starts)) _ (segment .ends .inside) (c .before .before .mode-answer .ensures) (c .enum-told .given .1)
     ∙ ap answer (each-arc (a .s .now))
 
 loop-again : tie.Need-loop-again Inv-loop μ-loop
@@ -39,7 +40,7 @@ loop-again c =
     let l = c .before .before .before .before .before .loop in
     let a = c .before .before .before .before .before .before .before .args in
     let segment = c .before .before .before .arcs-of .ensures in
-    let here = goes-on (inhibitedAt (a .s .now)) _ _ (l .inv .1 _ (segment .starts)) (c .before .before .mode-answer .ensures) (c .enum-told2 .given .1) in
+    let here = answer-run-passes (inhibitedAt (a .s .now)) _ _ (l .inv .1 _ (segment .starts)) (c .before .before .mode-answer .ensures) (c .enum-told2 .given .1) in
     (search needs, λ k f. rw (first-same _ (l .t + 1) k _ f (segment .ends)) here)
 
 returns-2 : tie.Need-returns-2 Inv-loop μ-loop

@@ -1,0 +1,15 @@
+-- The words, then the place or the transition.
+use borrow.Author.Needs.{needs}
+use native.Mathlib.Omega.{arith}
+use Rattle.text.proofs.Writing.{within, _and_}
+use Rattle.elements.proofs.put_end.Statement.{statement}
+use Rattle.elements.proofs.put_end.Tie as tie
+
+returns : tie.Need-returns
+returns c =
+    let last = c .before .before in
+    let all = last .before .before .before .before .write-bytes .ensures and last .write-three .ensures in
+    within all (omega (arith, all .within))
+
+pub put-end-spec : {M : Type 1} → statement M
+put-end-spec = tie.close (tie.spec (λ c κs. search needs) (λ c κs. search needs) (λ c. search needs) returns)

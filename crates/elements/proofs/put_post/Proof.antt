@@ -1,0 +1,22 @@
+-- The arc is named, goes from the transition to the place, and has its weight.
+use borrow.Author.Needs.{needs}
+use Rattle.text.proofs.Writing.{_and_}
+use Rattle.pnml.specs.Pnml.{three, postText}
+use Rattle.elements.proofs.put_post.Statement.{statement}
+use Rattle.elements.proofs.put_post.Tie as tie
+
+returns : tie.Need-returns
+unfolding three postText
+returns c =
+    let weight = c .before .before in
+    let target = weight .before .before .before .before in
+    let source = target .before .before .before .before .before in
+    let name = source .before .before .before .before .before in
+    name .before .before .before .before .write-bytes .ensures and name .put-name .ensures and source .put-end .ensures and target .put-end2 .ensures
+    and weight .put-weight .ensures
+
+pub put-post-spec : {M : Type 1} → statement M
+put-post-spec =
+    tie.close
+    (tie.spec (λ c. search needs) (λ c κs. search needs) (λ c κs. search needs) (λ c κs. search needs) (λ c κs. search needs) (λ c κs. search needs)
+    (λ c. search needs) returns)

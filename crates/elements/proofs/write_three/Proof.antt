@@ -1,0 +1,19 @@
+-- Three bytes.
+use borrow.Author.Needs.{needs}
+use Rattle.text.proofs.Writing.{_and_}
+use Rattle.pnml.specs.Pnml.{three}
+use Rattle.elements.proofs.write_three.Statement.{statement}
+use Rattle.elements.proofs.write_three.Tie as tie
+
+returns : tie.Need-returns
+unfolding three
+returns c =
+    let last = c .before .before in
+    let second = last .before .before .before .before in
+    second .before .before .before .before .write-byte .ensures and second .write-byte2 .ensures and last .write-byte3 .ensures
+
+pub write-three-spec : {M : Type 1} → statement M
+write-three-spec =
+    tie.close
+    (tie.spec (λ c. search needs) (λ c. search needs) (λ c κs. search needs) (λ c. search needs) (λ c. search needs) (λ c κs. search needs)
+    (λ c. search needs) (λ c. search needs) (λ c κs. search needs) (λ c. search needs) returns)

@@ -1,0 +1,4 @@
+pub mod Exports
+pub mod Calls
+pub mod Bounds
+pub mod Promises

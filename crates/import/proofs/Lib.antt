@@ -1,0 +1,10 @@
+pub mod Left
+pub mod Overwritten
+pub mod ArcBytes
+pub mod Singles
+pub mod LineWrites
+pub mod Loops
+pub mod Answers
+pub mod SheetRoom
+pub mod Promises
+pub mod RefusalTable

@@ -1,0 +1,194 @@
+-- What the contract of the import says, and that it allows one outcome.
+use Prim.Native.Nat.{ℕ, _+_, _≤_, _<_}
+use mathlib.Core.Path.{_≡_, refl, sym, _∙_, ap, ap₂, subst}
+use mathlib.Core.List.{List, [], _∷_, _++_}
+use mathlib.Core.Logic.{_⊎_, inl, inr, ⊎-elim, _≢_}
+use mathlib.Core.Option.{Option, none, some}
+use lib.ListN.{length, drop}
+use native.Mathlib.Omega.{arith}
+use Rattle.model.specs.declared.Thing.the-variants.{Net, Argument}
+use Rattle.model.specs.declared.Fault.the-variants.{NotAnExport, CountOutside, NoRoom}
+use Rattle.model.specs.declared.Refusal.{Refusal}
+use Rattle.model.specs.declared.Version.the-variants.{One}
+use Rattle.model.specs.declared.CapacityRule.the-variants.{Strong}
+use Rattle.model.specs.WellFormed.{WellFormed}
+use Rattle.model.specs.Numbers.{∞}
+use Rattle.model.specs.Nets.{PNet, pairs, modes}
+use Rattle.model.specs.Refusals.{wrong}
+use Rattle.model.proofs.First.{below-or}
+use Rattle.written.proofs.RoundTrip.{written-then-read}
+use Rattle.pnml.specs.Agrees.{FirstNone}
+use Rattle.pnml.specs.Pnml.{opening, pnml, Refused20}
+use Rattle.parts.proofs.Steps.{agrees-fewer}
+use Rattle.import.specs.declared.Imported.{Imported}
+use Rattle.import.specs.declared.Imported.the-variants.{Length, Refused}
+use Rattle.import.specs.Imports.{singles, importedSheet, importRefusal, imported, output, importOf, outputOf, told}
+use Rattle.import.specs.Calls.{ImportPnmlAllows}
+use Rattle.import.specs.Promises.{RefusedExactly, Small, ImportsExactly, ImportedReads}
+use Rattle.import.proofs.Answers.{too-many, short, roomy}
+use Rattle.import.proofs.Singles.{pairs-same, modes-same, singles-well, no-bound}
+
+-- there is one place from which no export agrees
+first-once : {I : Type 0} {texts : I → List ℕ} {s : List ℕ} {at n m : ℕ} → FirstNone texts s at n → FirstNone texts s at m → n ≡ m
+first-once {n = n} {m = m} a b =
+    ⊎-elim (λ (l : n < m). absurd (a .none (b .one .0) (agrees-fewer (omega arith) (b .one .1))))
+    (λ (l : m ≤ n). ⊎-elim (λ (k : m < n). absurd (b .none (a .one .0) (agrees-fewer (omega arith) (a .one .1)))) (λ (k : n ≤ m). omega arith) (below-or m n))
+    (below-or n m)
+
+pub once : {text : List ℕ} {n m : ℕ} → Refused20 text n → Refused20 text m → n ≡ m
+once a b = first-once (a .first) (b .first)
+
+outcome : {A B : Type 0} {a c : A} {b d : B} → a ≡ c → b ≡ d → _≡_ {A = A × B} (a, b) (c, d)
+outcome {A} {B} e f = ap₂ {C = A × B} (λ x y. (x, y)) e f
+
+pub import-once : (text out : List ℕ) (o o′ : Imported × List ℕ) → ImportPnmlAllows text out o → ImportPnmlAllows text out o′ → o ≡ o′
+import-once text out o o′ (inl x) (inl y) =
+    let e = x .each (x .net) (x .exportable) (x .is) in
+    let f = y .each (x .net) (x .exportable) (x .is) in
+    outcome (e .0 ∙ sym (f .0)) (e .1 ∙ sym (f .1))
+import-once text out o o′ (inl x) (inr y) = absurd (y .refused .noExport (x .net) (x .exportable) (x .is))
+import-once text out o o′ (inr x) (inl y) = absurd (x .refused .noExport (y .net) (y .exportable) (y .is))
+import-once text out o o′ (inr x) (inr y) =
+    let e = once (x .refused) (y .refused) in
+    outcome (x .answer ∙ ap (λ n. Refused (wrong Net (NotAnExport n))) e ∙ sym (y .answer)) (x .kept ∙ sym (y .kept))
+
+-- an answer that tells another number is another answer
+abbrev numberOf : Imported → ℕ
+numberOf a = told a .carried .number
+
+abbrev positionOf : Imported → ℕ
+positionOf a = told a .carried .position
+
+-- what an export is refused by, if it is: 4, else 10
+pub data Way (net : PNet) (room : ℕ) : Type 0 where
+  many : (64 < pairs net) ⊎ (64 < modes net) → importRefusal net room ≡ some (wrong Argument (CountOutside 0)) → Way net room
+  full : pairs net ≤ 64 → modes net ≤ 64 → room < length (importedSheet net) → importRefusal net room ≡ some (wrong Net NoRoom) → Way net room
+  whole : pairs net ≤ 64 → modes net ≤ 64 → length (importedSheet net) ≤ room → importRefusal net room ≡ none → Way net room
+
+pub way : (net : PNet) (room : ℕ) → Way net room
+way net room =
+    ⊎-elim (λ (l : 64 < pairs net). many (inl l) (too-many net room (inl l)))
+    (λ (p : pairs net ≤ 64).
+    ⊎-elim (λ (l : 64 < modes net). many (inr l) (too-many net room (inr l)))
+    (λ (m : modes net ≤ 64).
+    ⊎-elim (λ (l : room < length (importedSheet net)). full p m l (short net room p m l)) (λ (l : length (importedSheet net) ≤ room). whole p m l (roomy net room p m l))
+    (below-or room (length (importedSheet net))))
+    (below-or 64 (modes net)))
+    (below-or 64 (pairs net))
+
+pub answered : (net : PNet) (out : List ℕ) {a : Imported} {o : Option Refusal} → a ≡ importOf net out → importRefusal net (length out) ≡ o → a ≡ imported o (length (importedSheet net))
+answered net out e f = e ∙ ap (λ o. imported o (length (importedSheet net))) f
+
+pub left : (net : PNet) (out : List ℕ) {now : List ℕ} {o : Option Refusal} → now ≡ outputOf net out → importRefusal net (length out) ≡ o → now ≡ output o (importedSheet net) out
+left net out e f = e ∙ ap (λ o. output o (importedSheet net) out) f
+
+refused-only : (text out : List ℕ) (o : Imported × List ℕ) → ImportPnmlAllows text out o → (at : ℕ) → o .0 ≡ Refused (wrong Net (NotAnExport at)) → Refused20 text at
+refused-only text out o (inr x) at e = subst (λ n. Refused20 text n) (ap positionOf (sym (x .answer) ∙ e)) (x .refused)
+refused-only text out o (inl x) at e = go (way (x .net) (length out))
+  where
+    is : o .0 ≡ importOf (x .net) out
+    is = x .each (x .net) (x .exportable) (x .is) .0
+
+    go : Way (x .net) (length out) → Refused20 text at
+    go (many h r) = absurd (omega (arith, ap numberOf (sym (answered (x .net) out is r) ∙ e)))
+    go (full p m h r) = absurd (omega (arith, ap numberOf (sym (answered (x .net) out is r) ∙ e)))
+    go (whole p m h r) = absurd (omega (arith, ap numberOf (sym (answered (x .net) out is r) ∙ e)))
+
+pub refused-exactly : RefusedExactly
+refused-exactly = record { only = refused-only; all = all }
+  where
+    all : (text out : List ℕ) (o : Imported × List ℕ) → ImportPnmlAllows text out o → (at : ℕ) → Refused20 text at → o .0 ≡ Refused (wrong Net (NotAnExport at))
+    all text out o (inl x) at r = absurd (r .noExport (x .net) (x .exportable) (x .is))
+    all text out o (inr x) at r = x .answer ∙ ap (λ n. Refused (wrong Net (NotAnExport n))) (once (x .refused) r)
+
+imports-only : (text out : List ℕ) (o : Imported × List ℕ) → ImportPnmlAllows text out o → (n : ℕ) → o .0 ≡ Length n
+    → (net : PNet) × (Small net) × (text ≡ pnml net) × (length (importedSheet net) ≤ length out)
+imports-only text out o (inr x) n e = absurd (omega (arith, ap numberOf (sym (x .answer) ∙ e)))
+imports-only text out o (inl x) n e = go (way (x .net) (length out))
+  where
+    is : o .0 ≡ importOf (x .net) out
+    is = x .each (x .net) (x .exportable) (x .is) .0
+
+    go : Way (x .net) (length out) → (net : PNet) × (Small net) × (text ≡ pnml net) × (length (importedSheet net) ≤ length out)
+    go (many h r) = absurd (omega (arith, ap numberOf (sym (answered (x .net) out is r) ∙ e)))
+    go (full p m h r) = absurd (omega (arith, ap numberOf (sym (answered (x .net) out is r) ∙ e)))
+    go (whole p m h r) = (x .net, record { exportable = x .exportable; pairs = p; modes = m }, x .is, h)
+
+imports-all : (net : PNet) → Small net → (out : List ℕ) → length (importedSheet net) ≤ length out → (o : Imported × List ℕ) → ImportPnmlAllows (pnml net) out o
+    → (o .0 ≡ Length (length (importedSheet net))) × (o .1 ≡ importedSheet net ++ drop (length (importedSheet net)) out)
+imports-all net w out h o (inr x) = absurd (x .refused .noExport net (w .exportable) refl)
+imports-all net w out h o (inl x) =
+    let r = roomy net (length out) (w .pairs) (w .modes) h in
+    let e = x .each net (w .exportable) refl in
+    (answered net out (e .0) r, left net out (e .1) r)
+
+pub imports-exactly : ImportsExactly
+imports-exactly = record { only = imports-only; all = imports-all }
+
+pub imported-reads : ImportedReads
+imported-reads =
+    record {
+      readBack = λ net w. written-then-read One (singles net) (singles-well net (w .exportable) (w .pairs) (w .modes)) (λ _. refl);
+      same = λ net e.
+          record {
+            capacities = λ p h. no-bound net p h ∙ sym (e .capacities p h);
+            start = refl;
+            arcs = refl;
+            places = refl;
+            transitions = refl;
+            modes = modes-same net;
+            pairs = pairs-same net;
+          };
+    }
+
+-- a refused import leaves the output as it was
+pub import-kept : (text out : List ℕ) (o : Imported × List ℕ) → ImportPnmlAllows text out o → told (o .0) .carried .number ≢ 0 → o .1 ≡ out
+import-kept text out o (inr x) h = x .kept
+import-kept text out o (inl x) h = go (way (x .net) (length out))
+  where
+    is : (o .0 ≡ importOf (x .net) out) × (o .1 ≡ outputOf (x .net) out)
+    is = x .each (x .net) (x .exportable) (x .is)
+
+    go : Way (x .net) (length out) → o .1 ≡ out
+    go (many l r) = left (x .net) out (is .1) r
+    go (full p m l r) = left (x .net) out (is .1) r
+    go (whole p m l r) = absurd (h (ap numberOf (answered (x .net) out (is .0) r)))
+
+-- no export is empty, and one place without a token is a net
+some-text : (net : PNet) → 0 < length (pnml net)
+unfolding pnml opening
+some-text net = omega arith
+
+pub refuses-none : (out : List ℕ) (o : Imported × List ℕ) → ImportPnmlAllows [] out o → told (o .0) .carried .number ≢ 0
+refuses-none out o (inr x) e = omega (arith, ap numberOf (x .answer))
+refuses-none out o (inl x) e = omega (arith, ap length (x .is), some-text (x .net))
+
+pub smallest : PNet
+smallest = record { rule = Strong; colours = 1 ∷ []; modesOf = []; capacity = ∞ ∷ []; start = 0 ∷ []; arcs = [] }
+
+smallest-well : WellFormed smallest
+unfolding smallest
+smallest-well =
+    record {
+      somePlace = omega arith;
+      places = record { many = omega arith; each = λ i h. let z : i ≡ 0 = omega arith in rw z (omega arith, omega arith); inTotal = omega arith };
+      transitions = record { many = omega arith; each = λ i h. absurd (omega arith); inTotal = omega arith };
+      capacities = refl;
+      capacityInRange = λ p h. let z : p ≡ 0 = omega arith in rw z tt;
+      start = record { oneEach = refl; inRange = λ p h. let z : p ≡ 0 = omega arith in rw z (omega arith); within = λ p h. let z : p ≡ 0 = omega arith in rw z tt };
+      arcCount = omega arith;
+      eachArc = λ k h. absurd (omega arith);
+      rising = λ k h. absurd (omega arith);
+    }
+
+smallest-small : Small smallest
+unfolding smallest
+smallest-small =
+    record {
+      exportable = record { wellFormed = smallest-well; capacities = λ p h. let z : p ≡ 0 = omega arith in rw z refl; inhibitors = λ k h. absurd (omega arith) };
+      pairs = omega arith;
+      modes = omega arith;
+    }
+
+pub accepts-some : (o : Imported × List ℕ) → ImportPnmlAllows (pnml smallest) (importedSheet smallest) o → told (o .0) .carried .number ≡ 0
+accepts-some o a = ap numberOf (imports-all smallest smallest-small (importedSheet smallest) (omega arith) o a .0)

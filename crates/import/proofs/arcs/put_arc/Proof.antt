@@ -1,0 +1,32 @@
+-- The fields of an arc, one after the other.
+use borrow.Author.Needs.{needs}
+use mathlib.Core.List.{flatten}
+use Rattle.written.specs.Written.{modeBytes, tailBytes, arcBytes}
+use Rattle.written.proofs.Puts.{nothing, puts}
+use Rattle.import.proofs.arcs.put_arc.Statement.{statement}
+use Rattle.import.proofs.arcs.put_arc.Tie as tie
+
+returns : tie.Need-returns
+unfolding arcBytes modeBytes tailBytes flatten
+returns c =
+    let inhibitor = c .before .before in
+    let post = inhibitor .before .before .before .before in
+    let pre = post .before .before .before .before in
+    let pair = pre .before .before .before .before in
+    let mode = pair .before .before .before .before in
+    puts (mode .put16 .ensures)
+    (puts (pair .put162 .ensures) (puts (pre .put32 .ensures) (puts (post .put322 .ensures) (puts (inhibitor .put323 .ensures) nothing))))
+
+pub put-arc-spec : {M : Type 1} → statement M
+put-arc-spec =
+    tie.close
+    (tie.spec
+    (λ c. search needs)
+    (λ c κs. search needs)
+    (λ c. search needs)
+    (λ c κs. search needs)
+    (λ c κs. search needs)
+    (λ c κs. search needs)
+    (λ c κs. search needs)
+    (λ c. search needs)
+    returns)

@@ -1,0 +1,5 @@
+pub mod Heads
+pub mod Choice
+pub mod LineKinds
+pub mod Onward
+pub mod Answers

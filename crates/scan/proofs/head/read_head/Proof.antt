@@ -1,0 +1,21 @@
+-- All five kinds in turn.
+use Rattle.scan.proofs.Heads.{none-tried}
+use borrow.Author.Needs.{needs}
+use Rattle.scan.proofs.head.read_head.Statement.{statement}
+use Rattle.scan.proofs.head.read_head.Tie as tie
+
+returns : tie.Need-returns
+returns c =
+    c .try-head5 .ensures .more _
+    (c .before .try-head4 .ensures .more _ (c .before .before .try-head3 .ensures .more _ (c .before .before .before .try-head2 .ensures .more _ (c .before .before .before .before .try-head .ensures .more _ (none-tried (c .before .before .before .before .before .before .pre .0))))))
+
+pub read-head-spec : {M : Type 1} → statement M
+read-head-spec =
+    tie.close
+    (tie.spec
+    (λ c κs. search needs)
+    (λ c κs. search needs)
+    (λ c κs. search needs)
+    (λ c κs. search needs)
+    (λ c κs. search needs)
+    returns)
