@@ -119,6 +119,10 @@ def declarations(text):
 
 # The rules: each gives its faults.
 
+# what stands in a definition that says something
+SAYING = r'≡|↔|≤|<|[A-Z]\w+ '
+
+
 def speaks(tokens, subject):
     """Whether an expression speaks of the result, or of the final content of a slice."""
     text = ' '.join(tokens)
@@ -140,7 +144,7 @@ def says(tokens, subject, declared):
     name = parts[0][0] if parts else ''
     if not re.fullmatch(r'[A-Z]\w*', name) or not speaks(tokens, subject):
         return False
-    if not re.search(r'≡|↔|≤|<|[A-Z]\w+ ', declared.get(name, '')):
+    if not re.search(SAYING, declared.get(name, '')):
         return False
     under = [bare(part)[2:] for part in parts[1:] if bare(part)[0] == 'λ' and speaks(part, subject)]
     return all(says(part, subject, declared) for part in under)
@@ -148,7 +152,10 @@ def says(tokens, subject, declared):
 
 def shared_part(f, declared):
     where = f'{f.crate}::{f.path}'
-    subjects = [(f'(?<!\\S){re.escape(f.result)},?(?!\\S)', 'its result')] if f.returns else []
+    # One that asks for nothing and has a definition of its name, as a call that is prepared, is held to the whole form of a public call.
+    if not f.requires and re.search(SAYING, declared.get(f.contract()[0].split(' ')[0], '')):
+        return public_call(f, declared)
+    subjects = [(f'(?<!\\S){re.escape(f.result)}(?!\\S)', 'its result')] if f.returns else []
     subjects += [(f'now \\( {name} \\.exit \\)', f'what it leaves in `{name}`') for name in f.lent()]
     if not subjects:
         return [f'{where} has no result and is lent nothing: there is nothing that it could say']
@@ -275,14 +282,21 @@ pub record Empty (r : ℕ) : Type 0 where
 
 abbrev pub OfEach : (ℕ → Type 0) → Type 0
 OfEach P = (n : ℕ) → P n ≡ P n
+
+abbrev pub PartAllows : List ℕ → List ℕ → ℕ × List ℕ → Type 0
+PartAllows s out o = o ≡ put s out
 ''')
     say = '(s: &[u8], out: &mut [u8]) -> usize\n    requires { ⌜ x ⌝ }\n    ensures { λ r. ⌜ %s ⌝ }\n'
     nothing = '(out: &mut [u8])\n    requires { ⌜ x ⌝ }\n    ensures { λ _. ⌜ %s ⌝ }\n'
+    free = say.replace('    requires { ⌜ x ⌝ }\n', '')
+    whole = 'PartAllows (now (s .entry)) (now (out .entry)) (r, now (out .exit))'
     both = '(r ≡ end s) × (now (out .exit) ≡ put s)'
     parts = [
         (say % both, 0), (say % 'r ≡ r', 2), (say % '⊤', 2), (say % '(r ≡ r) × (now (out .exit) ≡ put s)', 1), (say % 'r ≡ end s', 1),
         (say % 'r + 0 ≡ r', 2), (say % 'Rises (now (out .exit)) r', 0), (say % 'Unknown (now (out .exit)) r', 2), (say % 'Empty r', 2),
         (say % 'OfEach (λ t. r ≡ r)', 2), (say % 'OfEach (λ t. (r ≡ end t) × (now (out .exit) ≡ put t))', 0),
+        (free % whole, 0), (free % whole.replace(' (now (out .entry))', ''), 1), (free % whole.replace('(r, now (out .exit))', 'r'), 1), (free % both, 1),
+        (say % whole, 1), (free % whole.replace('Part', 'Unknown'), 1),
         (nothing % 'now (out .exit) ≡ put s', 0), (nothing % 'now (out .exit) ≡ now (out .exit)', 1), (nothing % '⊤', 1),
     ]
     call = '(net: &[u8], mode: Mode, out: &mut [u8]) -> Answer\n    ensures { λ r. ⌜ %s ⌝ }\n'
