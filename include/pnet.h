@@ -1,7 +1,7 @@
 /* Bezgintay, an engine for P-nets: its calls for C. Link target/staticlib/libabi.a (`rt staticlib abi`).
  *
- * Each call answers for any bytes, counts and numbers, and always returns. The engine holds nothing between calls, and
- * allocates nothing. docs/RULES.md says what a net, a sheet and a movement are, field by field and rule by rule.
+ * Each call answers for any bytes, counts and numbers, and always returns. The engine holds nothing between calls, allocates
+ * nothing, and uses at most 12 KiB of stack. docs/RULES.md says what a net, a sheet and a movement are, field by field and rule by rule.
  *
  * Words. A pair is a place with one of its colours: a marking has a count for each. A mode is a transition with one of its colours:
  * it is what moves. K is a pair's capacity. At a mode and a pair stand Pre, what the mode takes, Post, what it gives, and the
@@ -55,7 +55,7 @@ struct pnet_mode {
 enum {
     PNET_NET = 0, /* also where a call is accepted, and for 10, 15 and any number above 18 */
     PNET_WEIGHTS = 1,
-    PNET_MOVEMENTS = 2, /* also a movement that a run or a certificate refuses */
+    PNET_MOVEMENTS = 2, /* also a movement that a run or a certificate refuses, or at which a salvage stops */
     PNET_ARGUMENT = 3   /* a marking, a claim, a mode, a pair, a step or a fleet's record */
 };
 
@@ -84,6 +84,7 @@ enum {
  *       bytes are left over after the last field, or after the sheet              the first of them
  *    4  a count is outside its limits, or the running total passes 256            the count's field
  *       in version 2 the running total of the modes' arc counts passes 2,048      that count's field
+ *       a movement sheet has more than 8,192 movements                            5
  *       in version 2 the rule byte is neither 0 nor 1                             5
  *       a step is empty, or has more than PNET_STEP modes                         0
  *       a fleet's record has PNET_SHIPS ships already                             0
@@ -103,7 +104,7 @@ enum {
  *   12  the count and Post together are above K, by rule 1 above K and Pre        the lowest such pair
  *   13  the count is above I                                                      the lowest such pair
  *   14  the new count is above 1,000,000                                          the lowest such pair
- *   15  I is bounded at a pair of unbounded K                                     the arc
+ *   15  I is bounded at a pair of unbounded K, in pnet_complement and pnet_audit  the arc
  *       the pair that is to be stripped has unbounded K                           0
  *   16  reserved: no answer has it
  *   17  a marking or weights are not one for each pair                            0; in weights, 5
@@ -257,8 +258,8 @@ struct pnet_answer pnet_certify(const uint8_t *net, size_t net_length, const uin
 /* What can be kept of a damaged movement sheet: writes a fresh sheet with the longest run of its leading movements that the net accepts from its
  * first marking, from the first byte of `out` on. No byte after it is touched, and PNET_LARGEST_LIST bytes are always room enough. Bytes
  * past the length L are ignored; where L says more than is there, what is there is used; a lone last byte is dropped; at most 8,192 movements
- * are considered. `stop` is the first movement's refusal, 6, 11, 12, 13 or 14 (PNET_MOVEMENTS) with its amount. The sheet written runs whole
- * from the first marking, and with the first dropped movement added it does not; a sheet that is whole and runs whole is written as it is.
+ * are considered. `stop` is the refusal of the first dropped one, 6, 11, 12, 13 or 14 (PNET_MOVEMENTS) with its amount. The sheet written runs
+ * whole from the first marking, and with that one added it does not; a sheet that is whole and runs whole is written as it is.
  * Refuses: the net; of the damaged bytes 1 where they are fewer than 5, 3 where L is 0, 2 (PNET_MOVEMENTS); 10 where `room` is less than
  * the sheet takes. A refused call writes nothing. */
 struct pnet_salvaged pnet_salvage(const uint8_t *net, size_t net_length, const uint8_t *damaged, size_t damaged_length, uint8_t *out,
@@ -302,8 +303,8 @@ struct pnet_decided pnet_is_dead(const uint8_t *net, size_t net_length, struct p
 struct pnet_named pnet_first_dead(const uint8_t *net, size_t net_length);
 
 /* Writes the sheet of the net's complement from the first byte of `out` on; the value is its length. No byte after it is touched,
- * and PNET_LARGEST_NET bytes are always room enough. It has the version and the rule of the net. A locally dead mode, which is enabled at no marking of either net, gives back at
- * every complement pair what it takes there.
+ * and PNET_LARGEST_NET bytes are always room enough. It has the version and the rule of the net. A locally dead mode, which is enabled at
+ * no marking of the net, nor at one of the complement that is in step with it (pnet_audit), gives back at every complement pair what it takes there.
  * Refuses: the net; 15 at its first arc, of a locally dead mode too; 10 where the complement exceeds a sheet's limits or `room`. A
  * refused call writes nothing. */
 struct pnet_counted pnet_complement(const uint8_t *net, size_t net_length, uint8_t *out, size_t room);
@@ -320,7 +321,7 @@ struct pnet_counted pnet_to_version_1(const uint8_t *net, size_t net_length, uin
  * pair's K, takes n tokens there (Pre n) and is refused above n (I n). At every marking within capacity exactly one of these modes is
  * enabled, the one numbered by the count; it leaves 0 at the pair and every other pair as it was. The new modes are numbered after all
  * others, which keep their numbers and answer as before. The version and the rule are those of the sheet given; the value is the length
- * written, and no byte after it is touched.
+ * written. No byte after it is touched, and PNET_LARGEST_NET bytes are always room enough.
  * Refuses: the net; 6 for the pair, thing PNET_ARGUMENT; 15 where its K is unbounded; 10 where K is above 63, where the net would have more
  * than 64 transitions, 256 modes or 2,048 arcs, or where `room` is less than its sheet takes. A refused call writes nothing. */
 struct pnet_counted pnet_strip(const uint8_t *net, size_t net_length, struct pnet_pair pair, uint8_t *out, size_t room);
