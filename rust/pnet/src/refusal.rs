@@ -129,9 +129,8 @@ impl fmt::Display for Refusal {
                 write!(f, "what is to be written exceeds the room for it, or the limits of a sheet")
             }
             (Fault::Lacking, _) => write!(f, "pair {at} holds {amount} too few"),
-            (Fault::OverCapacity, _) => {
-                write!(f, "pair {at} with what is added is {amount} over the capacity")
-            }
+            // True by either capacity rule: by rule 1 what the movement takes is gone before.
+            (Fault::OverCapacity, _) => write!(f, "pair {at} has no room for {amount} of what is added"),
             (Fault::Inhibited, _) => write!(f, "pair {at} holds {amount} over the inhibitor"),
             (Fault::OverLimit, _) => {
                 write!(f, "pair {at} would hold {amount} over the counter's limit, 1,000,000")

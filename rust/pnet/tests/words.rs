@@ -172,7 +172,7 @@ fn of_a_marking_and_a_mode() {
         "14: pair 1 would hold 1 over the counter's limit, 1,000,000",
     );
     let full = net(&[(5, 5)], &[arc(0, 0, 1, 1, OPEN)]);
-    says(test(&full, &[5], Mode(0)), "12: pair 0 with what is added is 1 over the capacity");
+    says(test(&full, &[5], Mode(0)), "12: pair 0 has no room for 1 of what is added");
     says(certify(&plain, &movements(&[0]), &[3, 1]), "18: pair 0 ends at another count than is claimed");
 }
 
@@ -180,10 +180,10 @@ fn of_a_marking_and_a_mode() {
 fn of_the_weak_capacity_rule() {
     let rack = PlainNet::plain(2, &[(5, 5)], &[arc(0, 0, 1, 1, OPEN), arc(1, 0, 1, 3, OPEN)]);
     let (strict, weak) = (rack.sheet(), rack.sheet_in(Form::Two(Rule::Weak)));
-    says(test(&strict, &[5], Mode(0)), "12: pair 0 with what is added is 1 over the capacity");
+    says(test(&strict, &[5], Mode(0)), "12: pair 0 has no room for 1 of what is added");
     assert_eq!(test(&weak, &[5], Mode(0)), Ok(()));
-    says(test(&weak, &[5], Mode(1)), "12: pair 0 with what is added is 2 over the capacity");
-    says(test_step(&weak, &[5], &[Mode(0), Mode(1)]), "12: pair 0 with what is added is 2 over the capacity");
+    says(test(&weak, &[5], Mode(1)), "12: pair 0 has no room for 2 of what is added");
+    says(test_step(&weak, &[5], &[Mode(0), Mode(1)]), "12: pair 0 has no room for 2 of what is added");
     assert_eq!((is_dead(&strict, Mode(1)), is_dead(&weak, Mode(1))), (Ok(false), Ok(false)));
     let full = PlainNet::plain(1, &[(5, 5)], &[arc(0, 0, 5, 5, OPEN)]);
     assert_eq!(is_dead(&full.sheet(), Mode(0)), Ok(true));
@@ -195,7 +195,7 @@ fn of_an_amount_above_1() {
     let one = |pair: (u32, u32), arc| net(&[(5, 3), pair], &[arc]);
     says(test(&one((9, 2), arc(0, 1, 9, 0, OPEN)), &[3, 2], Mode(0)), "11: pair 1 holds 7 too few");
     let over = one((10, 3), arc(0, 1, 3, 9, 3));
-    says(fire(&over, &mut [3, 3], Mode(0)), "12: pair 1 with what is added is 2 over the capacity");
+    says(fire(&over, &mut [3, 3], Mode(0)), "12: pair 1 has no room for 2 of what is added");
     let inhibited = one((9, 7), arc(0, 1, 1, 2, 4));
     says(certify(&inhibited, &movements(&[0]), &[3, 7]), "13: pair 1 holds 3 over the inhibitor");
     let limit = run(&one((OPEN, 0), arc(0, 1, 1, 6, OPEN)), &movements(&[0]), &mut [3, 999_999]).result;
