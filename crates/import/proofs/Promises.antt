@@ -23,7 +23,7 @@ use Rattle.parts.proofs.Steps.{agrees-fewer}
 use Rattle.import.specs.declared.Imported.{Imported}
 use Rattle.import.specs.declared.Imported.the-variants.{Length, Refused}
 use Rattle.import.specs.Imports.{singles, importedSheet, importRefusal, imported, output, importOf, outputOf, told}
-use Rattle.import.specs.Calls.{ImportPnmlAllows}
+use Rattle.import.specs.Contracts.{ImportPnmlAllows}
 use Rattle.import.specs.Promises.{RefusedExactly, Small, ImportsExactly, ImportedReads}
 use Rattle.import.proofs.Answers.{too-many, short, roomy}
 use Rattle.import.proofs.Singles.{pairs-same, modes-same, singles-well, no-bound}
