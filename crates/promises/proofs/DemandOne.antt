@@ -32,6 +32,9 @@ use Rattle.convert.specs.Converted.{convertedSheet, convertRefusal, converted, 
 use Rattle.convert.specs.Converted as converting
 use Rattle.strip.specs.Stripped.{strippedSheet, strippingRefusal, stripped, strippedOf}
 use Rattle.strip.specs.Stripped as stripping
+use Rattle.export.specs.Exports.{exportText, exportRefusal, exported, exportOf}
+use Rattle.export.specs.Exports as exporting
+use Rattle.import.proofs.Promises.{import-kept}
 use Rattle.salvage.specs.Salvaged as salvaging
 use Rattle.text.specs.declared.Put.the-variants.{To, Full}
 use Rattle.text.specs.Puts.{endWithin, putTo, putInto}
@@ -65,6 +68,12 @@ stripped-kept net p out =
     let sheet = strippedSheet net p in
     left-alone (λ o. stripping.told (stripped o (length sheet)) .carried .number) (λ o. stripping.output o sheet out) refl (λ r. refl)
     (strippingRefusal net p (length out))
+
+exported-kept : (net out : List ℕ) → exporting.told (exportOf net out) .carried .number ≢ 0 → exporting.outputOf net out ≡ out
+exported-kept net out =
+    let text = exportText net in
+    left-alone (λ o. exporting.told (exported o (length text)) .carried .number) (λ o. exporting.output o text out) refl (λ r. refl)
+    (exportRefusal net (length out))
 
 salvaged-kept : (net damaged out : List ℕ) → salvaging.told (salvaging.salvageOf net damaged out) .carried .number ≢ 0 → salvaging.outputOf net damaged out ≡ out
 salvaged-kept net damaged out =
@@ -112,6 +121,8 @@ demand-one =
       toVersion1 = λ net out o allows refused.
           allows .1 ∙ converted-kept Two One net out (subst (λ c. converting.told c .carried .number ≢ 0) (allows .0) refused);
       strip = λ net p out o allows refused. allows .1 ∙ stripped-kept net p out (subst (λ c. stripping.told c .carried .number ≢ 0) (allows .0) refused);
+      exportPnml = λ net out o allows refused. allows .1 ∙ exported-kept net out (subst (λ c. exporting.told c .carried .number ≢ 0) (allows .0) refused);
+      importPnml = import-kept;
       salvage = λ net damaged out o allows refused.
           allows .1 ∙ salvaged-kept net damaged out (subst (λ c. salvaging.told c .carried .number ≢ 0) (allows .0) refused);
       run = λ net movements marking o allows refused. run-leads net movements marking (ap (λ ran. ran .accepted) (allows .0)) (allows .1);

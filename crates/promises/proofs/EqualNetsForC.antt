@@ -13,7 +13,7 @@ use Rattle.salvage.specs.Salvaged as salvaging
 use Rattle.statement.specs.Replay.{stated, statedIn}
 use Rattle.answers.specs.declared.Answered.{Answered}
 use Rattle.answers.specs.Told.{telling, valueOr, finding, audited, reported}
-use Rattle.promises.specs.EqualNets.{OffsetAside, AuditsAlike}
+use Rattle.promises.specs.EqualNets.{OffsetAside, RepliesAlike}
 use Rattle.promises.specs.EqualNetsForC.{carriedToC, FindingsAlike, EqualNetsForC}
 use Rattle.promises.proofs.EqualNets.{whole, net, ships, complements, strips, audits, salvages, salvage-outputs, texts, reads}
 
@@ -21,7 +21,7 @@ finding-alike : (x y : Answered) (f : Option Finding) → OffsetAside (carriedTo
 finding-alike x y none h = record { answer = h; found = refl; pair = refl; excess = refl }
 finding-alike x y (some f) h = record { answer = h; found = refl; pair = refl; excess = refl }
 
-audits-told : (r q : Reply (Option Finding)) → AuditsAlike r q → FindingsAlike (audited r) (audited q)
+audits-told : (r q : Reply (Option Finding)) → RepliesAlike r q → FindingsAlike (audited r) (audited q)
 audits-told r q h = rw (h .value) (finding-alike (telling (r .carried)) (telling (q .carried)) (valueOr none (q .value)) (h .carried))
 
 pub equal-nets-for-c : EqualNetsForC

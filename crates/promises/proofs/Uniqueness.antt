@@ -1,5 +1,6 @@
--- A contract that is an equation, or one for the answer and one for the lent slice, allows one outcome.
+-- A contract that is an equation, or one for the answer and one for the lent slice, allows one outcome; so does that of an import, of which each case excludes the other.
 use mathlib.Core.Path.{_≡_, sym, _∙_, ap₂}
+use Rattle.import.proofs.Promises.{import-once}
 use Rattle.promises.specs.Uniqueness.{Unique, UniqueForC, Uniqueness}
 
 one-answer : {A : Type 0} (given : A) → Unique (λ o. o ≡ given)
@@ -67,6 +68,8 @@ uniqueness =
       toVersion2 = λ net out. answer-and-slice _ _;
       toVersion1 = λ net out. answer-and-slice _ _;
       strip = λ net p out. answer-and-slice _ _;
+      exportPnml = λ net out. answer-and-slice _ _;
+      importPnml = import-once;
       audit = λ net marking beside. one-answer _;
       salvage = λ net damaged out. answer-and-slice _ _;
       putBytes = λ out at bytes. answer-and-slice _ _;
