@@ -14,9 +14,11 @@ use Rattle.import.specs.declared.Imported.{Imported}
 use Rattle.import.specs.Imports as importing
 use Rattle.import.specs.Contracts.{ImportPnmlAllows}
 use Rattle.import.proofs.Promises.{of-net, Way, many, full, whole, way, answered, between}
+use Rattle.abi.specs.Contracts as c
 use Rattle.promises.specs.ConstantAnswers.{Varies}
 use Rattle.promises.specs.Frauds.{ExchangeFrauds}
 use Rattle.promises.proofs.ConstantAnswers.{accepts-and-refuses}
+use Rattle.promises.proofs.ConstantAnswersForC.{tells}
 use Rattle.promises.proofs.Exchange.{exportable, text-there}
 use Rattle.promises.proofs.OwnExample.{printed-exportable}
 
@@ -51,6 +53,9 @@ ends-after o (inr x) e =
 positions-vary : Varies (λ (i : List ℕ × List ℕ). ImportPnmlAllows (i .0) (i .1)) (λ o. positionOf (o .0))
 positions-vary = accepts-and-refuses _ _ ([], []) (bracket, []) ends-empty ends-after
 
+positions-vary-for-c : Varies (λ (i : List ℕ × List ℕ). c.ImportPnmlAllows (i .0) (i .1)) (λ o. o .0 .answer .position)
+positions-vary-for-c = tells positions-vary (λ i p a. ((a .0, p .1), a .1, ap (λ r. r .answer .position) (a .2)))
+
 pub exchange-frauds : ExchangeFrauds
 exchange-frauds =
     record {
@@ -59,4 +64,5 @@ exchange-frauds =
       noneRead = λ net out o n allows e out′ o′ allows′.
           never-20 (netOf net) out′ (of-net (netOf net) (exportable net out o n allows e) (text-there net out o n allows e) out′ o′ allows′ .0) (way (netOf net) (length out′));
       onePosition = positions-vary .notConstant;
+      onePositionForC = positions-vary-for-c .notConstant;
     }

@@ -83,6 +83,8 @@ pub record DemandOneForC : Type 0 where
   pub toVersion2 : (net out : List ℕ) (o : Counted × List ℕ) → forC.ToVersion2Allows net out o → o .0 .answer .number ≢ 0 → o .1 ≡ out
   pub toVersion1 : (net out : List ℕ) (o : Counted × List ℕ) → forC.ToVersion1Allows net out o → o .0 .answer .number ≢ 0 → o .1 ≡ out
   pub strip : (net : List ℕ) (p : Pair) (out : List ℕ) (o : Counted × List ℕ) → forC.StripAllows net p out o → o .0 .answer .number ≢ 0 → o .1 ≡ out
+  pub exportPnml : (net out : List ℕ) (o : Counted × List ℕ) → forC.ExportPnmlAllows net out o → o .0 .answer .number ≢ 0 → o .1 ≡ out
+  pub importPnml : (text out : List ℕ) (o : Counted × List ℕ) → forC.ImportPnmlAllows text out o → o .0 .answer .number ≢ 0 → o .1 ≡ out
   pub salvage : (net damaged out : List ℕ) (o : Reported × List ℕ) → forC.SalvageAllows net damaged out o → o .0 .answer .number ≢ 0 → o .1 ≡ out
   pub statement : (input out : List ℕ) (o : Counted × List ℕ) → forC.StatementAllows input out o → o .0 .answer .number ≢ 0 → o .1 ≡ out
   pub run : (net movements marking : List ℕ) (o : Tallied × List ℕ) → forC.RunAllows net movements marking o → o .0 .answer .number ≢ 0

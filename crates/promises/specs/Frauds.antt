@@ -97,6 +97,7 @@ pub record ExchangeFrauds : Type 0 where
   pub noneRead : (net out : List ℕ) (o : Exported × List ℕ) (n : ℕ) → ExportPnmlAllows net out o → exporting.told (o .0) ≡ yields n
       → (out′ : List ℕ) (o′ : Imported × List ℕ) → ImportPnmlAllows (take n (o .1)) out′ o′ → importing.told (o′ .0) .carried .number ≢ 20
   pub onePosition : NotConstant (λ (i : List ℕ × List ℕ). ImportPnmlAllows (i .0) (i .1)) (λ o. importing.told (o .0) .carried .position)
+  pub onePositionForC : NotConstant (λ (i : List ℕ × List ℕ). c.ImportPnmlAllows (i .0) (i .1)) (λ o. o .0 .answer .position)
 
 -- what the modes of a list take from pair p in all, and what they give
 unfoldable pub taken : PNet → List Mode → ℕ → ℕ

@@ -55,6 +55,8 @@ pub record UniqueForC : Type 0 where
   pub toVersion2 : (net out : List ℕ) → Unique (c.ToVersion2Allows net out)
   pub toVersion1 : (net out : List ℕ) → Unique (c.ToVersion1Allows net out)
   pub strip : (net : List ℕ) (p : Pair) (out : List ℕ) → Unique (c.StripAllows net p out)
+  pub exportPnml : (net out : List ℕ) → Unique (c.ExportPnmlAllows net out)
+  pub importPnml : (text out : List ℕ) → Unique (c.ImportPnmlAllows text out)
   pub audit : (net marking beside : List ℕ) → Unique (c.AuditAllows net marking beside)
   pub salvage : (net damaged out : List ℕ) → Unique (c.SalvageAllows net damaged out)
   pub statement : (input out : List ℕ) → Unique (c.StatementAllows input out)
