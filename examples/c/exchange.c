@@ -55,7 +55,7 @@ static void run(const struct sheet *over)
     struct pnet_sized size = pnet_size(over->bytes, over->length);
     pnet_begin(over->bytes, over->length, marking, size.pairs);
     struct pnet_ran ran = pnet_run(over->bytes, over->length, movements.bytes, movements.length, marking, size.pairs);
-    printf("%" PRIu64 " pairs, %" PRIu64 " modes, %" PRIu64 " arcs; %" PRIu64 " movements are accepted", size.pairs, size.modes, size.arcs, ran.accepted);
+    printf("pairs %" PRIu64 ", modes %" PRIu64 ", arcs %" PRIu64 "; movements accepted: %" PRIu64, size.pairs, size.modes, size.arcs, ran.accepted);
     if (ran.answer.number != 0)
         printf(", then %" PRIu64 " at pair %" PRIu64 ", amount %" PRIu64, ran.answer.number, ran.answer.position, ran.answer.amount);
     printf("\n");
