@@ -56,10 +56,10 @@ enum {
     PNET_NET = 0, /* also where a call is accepted, and for 10, 15 and any number above 18 */
     PNET_WEIGHTS = 1,
     PNET_MOVEMENTS = 2, /* also a movement that a run or a certificate refuses, or at which a salvage stops */
-    PNET_ARGUMENT = 3   /* a marking, a claim, a mode, a pair, a step or a fleet's record */
+    PNET_ARGUMENT = 3   /* a marking, a claim, a mode, a pair, a step, a fleet's record or a text in PNML */
 };
 
-/* The limits of sheets and steps. */
+/* The limits of sheets, steps and texts. */
 enum {
     PNET_PAIRS = 256,             /* at most, and so many counts in a marking */
     PNET_STEP = 64,               /* modes of a step, at most */
@@ -67,11 +67,12 @@ enum {
     PNET_LARGEST_NET = 35083,     /* bytes, of a complement too */
     PNET_LARGEST_LIST = 16389,    /* bytes of a movement sheet */
     PNET_LARGEST_COUNT = 1000000, /* in a sheet or a marking */
-    PNET_TEXT_ROOM = 262144       /* bytes, for any text of replay */
+    PNET_TEXT_ROOM = 262144,      /* bytes, for any text of replay */
+    PNET_LARGEST_PNML = 467928    /* bytes of a text in PNML */
 };
 
 /* An answer: its number, which thing was at fault, where, and by how much. The position of a byte, a field or an arc is the offset of its
- * first byte, counted from 0 at the first byte of its sheet; that of a pair or a mode is its number.
+ * first byte, counted from 0 at the first byte of its sheet or text; that of a pair or a mode is its number.
  *
  *   No  Given exactly when                                                        Position
  *    0  accepted                                                                  0
@@ -88,6 +89,7 @@ enum {
  *       in version 2 the rule byte is neither 0 nor 1                             5
  *       a step is empty, or has more than PNET_STEP modes                         0
  *       a fleet's record has PNET_SHIPS ships already                             0
+ *       a text in PNML has more than 64 pairs or 64 modes                         0
  *    5  a number is outside its range                                             its field; in a marking, the pair
  *    6  an arc's mode or pair is not there                                        its field in the arc
  *       a movement's mode, the mode handed over or one of a step is not there     0
@@ -98,7 +100,7 @@ enum {
  *    9  a count is above a bounded K                                              the first marking's field; in a marking, the pair
  *   10  the complement exceeds a sheet's limits                                   0
  *       K of the pair to strip is above 63, or a sheet's limit would be passed    0
- *       `room` is less than the sheet that is to be written takes                 0
+ *       `room` is less than the sheet or PNML that is to be written takes         0
  *       `room` is below PNET_TEXT_ROOM, in pnet_statement                         0
  *   11  Pre is above the count                                                    the lowest such pair
  *   12  the count and Post together are above K, by rule 1 above K and Pre        the lowest such pair
@@ -109,13 +111,16 @@ enum {
  *   16  reserved: no answer has it
  *   17  a marking or weights are not one for each pair                            0; in weights, 5
  *   18  a certificate ends at another marking than is claimed                     the lowest pair that differs
+ *   19  a K is bounded, in pnet_export_pnml                                       the first such K's field
+ *       no K is, and an I is                                                      the first such I's field, in the arcs as they stand
+ *   20  no export agrees with a text, in pnet_import_pnml                         the first byte from which none does, or the text's length
  *   21  a mode's weight change is not 0, in pnet_exclude                          the lowest such mode
  *   22  the claim has the figure of the first marking, in pnet_exclude            0
  *   23  a net of rule 1 has no sheet of version 1, in pnet_to_version_1           0
  *   24  a figure of a fleet's record would be above 10^18                         0
  *   25  a fleet's record is out of its bounds                                     0
  *
- * 19, 20 and numbers above 25 are kept for later calls; every number above 18 has thing PNET_NET.
+ * Numbers above 25 are kept for later calls; every number above 18 has thing PNET_NET.
  *
  * The amount is a number of tokens at the pair that the position names, at least 1:
  *
@@ -325,6 +330,24 @@ struct pnet_counted pnet_to_version_1(const uint8_t *net, size_t net_length, uin
  * Refuses: the net; 6 for the pair, thing PNET_ARGUMENT; 15 where its K is unbounded; 10 where K is above 63, where the net would have more
  * than 64 transitions, 256 modes or 2,048 arcs, or where `room` is less than its sheet takes. A refused call writes nothing. */
 struct pnet_counted pnet_strip(const uint8_t *net, size_t net_length, struct pnet_pair pair, uint8_t *out, size_t room);
+
+/* Writes the net as a text in PNML (ISO/IEC 15909-2), a place/transition net, from the first byte of `out` on; the value is its length. Every K
+ * and I of the net is unbounded, as in a complement. Each pair is a place (pair 7 is p007) with its first marking, each mode a transition (mode 3
+ * is t003), and each Pre or Post above 0 an arc with that weight, from p007 to t003 (i003-007) or back (o003-007). The net's places and colours, its
+ * version and its rule are not in the text. It is ASCII, its last byte ends its last line, and no byte after it is touched; PNET_LARGEST_PNML
+ * bytes are always room enough.
+ * Refuses: the net; 19 at the first bounded K, then at the first bounded I, of a locally dead mode too; 10 where `room` is less than the text
+ * takes. A refused call writes nothing. */
+struct pnet_counted pnet_export_pnml(const uint8_t *net, size_t net_length, uint8_t *out, size_t room);
+
+/* Writes the net that a text in PNML is the export of, as a sheet of version 1 from the first byte of `out` on; the value is its length. It has the
+ * pairs, modes, numbers and first marking of the net that was exported, each pair as a place of one colour and each mode as a transition of one
+ * mode. Only what pnet_export_pnml writes is read, byte for byte: another tool's text of the same net is refused, and so is a byte after the
+ * end. No byte after the sheet is touched, and PNET_LARGEST_NET bytes are always room enough.
+ * Refuses: 20 at the first byte from which no export agrees with the text, or at `text_length` where the text is the beginning of an export; 4
+ * (PNET_ARGUMENT) where it is an export of more than 64 pairs or 64 modes; 10 where `room` is less than the sheet takes. A refused call writes
+ * nothing. */
+struct pnet_counted pnet_import_pnml(const uint8_t *text, size_t text_length, uint8_t *out, size_t room);
 
 /* Sets a marking of the net beside one of its complement (which has first the net's pairs, then one for each pair of bounded K), and names the
  * lowest pair of the net at which the two are out of step: they differ on it, or its K is bounded and its count and its complement

@@ -75,10 +75,10 @@ static void weigh(struct sheet *sheet, uint32_t weight)
     close(sheet);
 }
 
-static struct sheet full, half, bare, two, weights, weightless, movements;
+static struct sheet full, half, bare, two, square, weights, weightless, movements;
 static uint32_t marking[PNET_PAIRS], both[PNET_PAIRS];
-static uint8_t input[65536], out[PNET_TEXT_ROOM];
-static size_t input_length;
+static uint8_t input[65536], text[PNET_LARGEST_PNML], out[PNET_LARGEST_PNML];
+static size_t input_length, text_length;
 static struct pnet_mode last = {255};
 static struct pnet_pair last_pair = {255};
 static struct pnet_mode step[64];
@@ -124,6 +124,8 @@ CALL(complement, pnet_complement(half.bytes, half.length, out, sizeof out).answe
 CALL(strip, pnet_strip(bare.bytes, bare.length, last_pair, out, sizeof out).answer)
 CALL(to_version_2, pnet_to_version_2(NET, out, sizeof out).answer)
 CALL(to_version_1, pnet_to_version_1(two.bytes, two.length, out, sizeof out).answer)
+CALL(export_pnml, pnet_export_pnml(NET, out, sizeof out).answer)
+CALL(import_pnml, pnet_import_pnml(text, text_length, out, sizeof out).answer)
 CALL(audit, pnet_audit(half.bytes, half.length, marking, 128, both, 256).answer)
 CALL(statement, pnet_statement(input, input_length, out, sizeof out).answer)
 
@@ -145,6 +147,7 @@ static const struct {
     {"pnet_exclude", exclude, 22, 4096},        {"pnet_to_version_2", to_version_2, 0, 4096},
     {"pnet_to_version_1", to_version_1, 0, 4096}, {"pnet_strip", strip, 0, 4096},
     {"pnet_salvage", salvage, 0, 12288},        {"pnet_fleet_add", fleet_add, 0, 12288},
+    {"pnet_export_pnml", export_pnml, 0, 4096}, {"pnet_import_pnml", import_pnml, 0, 4096},
 };
 
 /* replay's input: the three sheets one after another. */
@@ -176,7 +179,9 @@ int main(void)
     net(&full, 64, 64, 8, UNBOUNDED);
     net(&half, 32, 64, 4, 1000000);
     net(&bare, 64, 48, 10, 63); /* room for the 64 modes that strip its last pair */
+    net(&square, 16, 16, 32, UNBOUNDED); /* as many pairs, modes and arcs as can be imported */
     two.length = pnet_to_version_2(NET, two.bytes, sizeof two.bytes).value;
+    text_length = pnet_export_pnml(square.bytes, square.length, text, sizeof text).value;
     weigh(&weights, 250);
     weigh(&weightless, 0);
     for (int pair = 0; pair < PNET_PAIRS; pair++) {

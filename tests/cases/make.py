@@ -15,12 +15,12 @@ A list has, each with its lines below it, indented; `#` starts a comment, which 
                         `refused by 13, thing 3, at 0, amount 1` (a number that is not said is 0), with what it yields, `value 91`, `yes`, `no`, `mode 1 pair 1`,
                         `pair 6 excess -1`, of a run `ran 3 arcs 8`: how many were accepted and how many arcs visited, or of a salvage `length 11 kept 3 dropped 1`;
                         `salvage_stop` is the same call, and what it answers is the first refusal that it reports;
-                        `leaves 2 1`, the marking after (else it is as before); `writes NAME`, the sheet in the bytes lent, of which it has `room` (else
+                        `leaves 2 1`, the marking after (else it is as before); `writes NAME`, the sheet or text in the bytes lent, of which it has `room` (else
                         nothing is written)
     both NET, COMPLEMENT   a row is a marking, `|` and the counts of its complement pairs, a mode, and `to` the marking after, or the refusals: `13 at 0 amount 1 | 11 at 2 amount 1`.
                         Each is tested and fired, in the net and in its complement: four cases.
 
-Sheets at the limits are made by limits.py, those of both versions by versions.py, those that are stripped by stripping.py, damaged movement sheets by damaged.py, by name; `refit` is the net of examples/refit, `blasted` the same stripped of its pigs forward. A call is added in two places: a row of CALLS, and an arm with its number in crates/cases/src/calls.rt, in the
+Sheets at the limits are made by limits.py, those of both versions by versions.py, those that are stripped by stripping.py, damaged movement sheets by damaged.py, texts in PNML by texts.py, by name; `refit` is the net of examples/refit, `blasted` the same stripped of its pigs forward. A call is added in two places: a row of CALLS, and an arm with its number in crates/cases/src/calls.rt, in the
 group that tells what it tells. A call that tells something new gets a group, a function in src/told.rt and a line in answer_of.
 
 A case in stdin is the length of what follows, then eight parts, a length before each: call, number and room; name; first and second run of bytes, where the modes of
@@ -30,7 +30,7 @@ import pathlib, re, struct, sys
 here = pathlib.Path(__file__).resolve().parent
 top = here.parent.parent
 sys.path[:0] = [str(here), str(top / "examples")]
-import damaged, limits, longest_run, stripping, versions
+import damaged, limits, longest_run, stripping, texts, versions
 from sheets import UNBOUNDED, encode_movements as movements, encode_net as net, encode_weights as weights
 
 # The call's number, and the words that name its first and its second run of bytes.
@@ -49,6 +49,8 @@ CALLS = {
     "to_version_2": (20, "net", ""),
     "to_version_1": (21, "net", ""),
     "strip": (22, "net", ""),
+    "export_pnml": (23, "net", ""),
+    "import_pnml": (24, "text", ""),
     "figure": (32, "net", "weights"),
     "change": (33, "net", "weights"),
     "is_dead": (48, "net", ""),
@@ -59,7 +61,7 @@ CALLS = {
     "salvage_stop": (81, "net", "movements"),
 }
 
-sheets = dict(limits.SHEETS, **versions.SHEETS, **stripping.SHEETS, **damaged.SHEETS, **{name: (top / f"examples/refit/{file}.sheet").read_bytes() for name, file in (("refit", "net"), ("blasted", "blasted"))})
+sheets = dict(limits.SHEETS, **versions.SHEETS, **stripping.SHEETS, **damaged.SHEETS, **texts.SHEETS, **{name: (top / f"examples/refit/{file}.sheet").read_bytes() for name, file in (("refit", "net"), ("blasted", "blasted"))})
 markings = dict(limits.MARKINGS)
 cases = []
 

@@ -20,6 +20,10 @@ use Rattle.size.specs.Sizes as size
 use Rattle.complement.specs.Complemented as complement
 use Rattle.convert.specs.Converted as convert
 use Rattle.strip.specs.Stripped as strip
+use Rattle.export.specs.Exports as export
+use Rattle.import.specs.declared.Imported.{Imported}
+use Rattle.import.specs.Imports as import
+use Rattle.import.specs.Contracts as importing
 use Rattle.audit.specs.Audits as audit
 use Rattle.salvage.specs.Salvaged as salvage
 use Rattle.fleet.specs.declared.Fleet.{Fleet}
@@ -101,11 +105,18 @@ module _ (net : List ℕ) where
   abbrev pub StripAllows : Pair → List ℕ → Counted × List ℕ → Type 0
   StripAllows p out o = (o .0 ≡ counted (strip.told (strip.strippedOf net p out))) × (o .1 ≡ strip.outputOf net p out)
 
+  abbrev pub ExportPnmlAllows : List ℕ → Counted × List ℕ → Type 0
+  ExportPnmlAllows out o = (o .0 ≡ counted (export.told (export.exportOf net out))) × (o .1 ≡ export.outputOf net out)
+
   abbrev pub AuditAllows : List ℕ → List ℕ → Audited → Type 0
   AuditAllows marking beside told = told ≡ audited (audit.told (audit.auditedOf net marking beside))
 
   abbrev pub SalvageAllows : List ℕ → List ℕ → Reported × List ℕ → Type 0
   SalvageAllows damaged out o = (o .0 ≡ reported (salvage.told (salvage.salvageOf net damaged out))) × (o .1 ≡ salvage.outputOf net damaged out)
+
+-- what is told is an answer that the library's contract allows, with what is left in the slice
+abbrev pub ImportPnmlAllows : List ℕ → List ℕ → Counted × List ℕ → Type 0
+ImportPnmlAllows text out o = (answer : Imported) × (importing.ImportPnmlAllows text out (answer, o .1)) × (o .0 ≡ counted (import.told answer))
 
 abbrev pub FleetAddAllows : Fleet → List ℕ → List ℕ → List ℕ → Answered × Fleet → Type 0
 FleetAddAllows found net weights movements o =

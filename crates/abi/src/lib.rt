@@ -4,6 +4,7 @@ pub mod auditing;
 pub mod complementing;
 pub mod converting;
 pub mod dying;
+pub mod exchanging;
 pub mod excluding;
 pub mod moving;
 pub mod reading;

@@ -4,6 +4,8 @@ use complement::Complemented;
 use convert::Converted;
 use dead::Deadness;
 use dead::FirstDead;
+use export::Exported;
+use import::Imported;
 use model::Answer;
 use model::Fault;
 use model::Mode;
@@ -19,14 +21,15 @@ use told::thing_of;
 use weigh::Figured;
 ghost use mathlib.Core.Path.{_≡_};
 ghost use mathlib.Core.Option.{none};
-ghost use Rattle.model.specs.declared.Thing.the-variants.{Net};
-ghost use Rattle.model.specs.declared.Fault.the-variants.{NoRoom};
 ghost use Rattle.model.specs.declared.Answer.the-variants.{Refused};
+ghost use Rattle.model.specs.Replies.{yields, refuses};
 ghost use Rattle.audit.specs.Audits.{told as auditTold};
 ghost use Rattle.complement.specs.Complemented.{told as complementTold};
 ghost use Rattle.convert.specs.Converted.{told as convertedTold};
 ghost use Rattle.dead.specs.FirstDead.{told as firstDeadTold};
 ghost use Rattle.dead.specs.IsDead.{told as deadnessTold};
+ghost use Rattle.export.specs.Exports.{told as exportTold};
+ghost use Rattle.import.specs.Imports.{told as importTold};
 ghost use Rattle.salvage.specs.Salvaged.{told as salvageTold};
 ghost use Rattle.size.specs.Sizes.{told as measuredTold};
 ghost use Rattle.strip.specs.Stripped.{told as strippedTold};
@@ -140,18 +143,31 @@ pub fn tell(answer: Answer) -> Answered
     }
 }
 
+// How many bytes a call wrote, or why none.
+fn wrote(length: usize) -> Counted
+    ensures { λ r. ⌜ r ≡ counted (yields length) ⌝ }
+{
+    Counted {
+        answer: accepted(),
+        value: length as u64,
+    }
+}
+
+fn wrote_nothing(refusal: Refusal) -> Counted
+    ensures { λ r. ⌜ r ≡ counted (refuses refusal) ⌝ }
+{
+    Counted {
+        answer: refused(refusal),
+        value: 0,
+    }
+}
+
 pub fn tell_length(complemented: Complemented) -> Counted
     ensures { λ r. ⌜ r ≡ counted (complementTold complemented) ⌝ }
 {
     match complemented {
-        Complemented::Length(length) => Counted {
-            answer: accepted(),
-            value: length as u64,
-        },
-        Complemented::Refused(refusal) => Counted {
-            answer: refused(refusal),
-            value: 0,
-        },
+        Complemented::Length(length) => wrote(length),
+        Complemented::Refused(refusal) => wrote_nothing(refusal),
     }
 }
 
@@ -159,14 +175,8 @@ pub fn tell_converted(converted: Converted) -> Counted
     ensures { λ r. ⌜ r ≡ counted (convertedTold converted) ⌝ }
 {
     match converted {
-        Converted::Length(length) => Counted {
-            answer: accepted(),
-            value: length as u64,
-        },
-        Converted::Refused(refusal) => Counted {
-            answer: refused(refusal),
-            value: 0,
-        },
+        Converted::Length(length) => wrote(length),
+        Converted::Refused(refusal) => wrote_nothing(refusal),
     }
 }
 
@@ -174,39 +184,39 @@ pub fn tell_stripped(stripped: Stripped) -> Counted
     ensures { λ r. ⌜ r ≡ counted (strippedTold stripped) ⌝ }
 {
     match stripped {
-        Stripped::Length(length) => Counted {
-            answer: accepted(),
-            value: length as u64,
-        },
-        Stripped::Refused(refusal) => Counted {
-            answer: refused(refusal),
-            value: 0,
-        },
+        Stripped::Length(length) => wrote(length),
+        Stripped::Refused(refusal) => wrote_nothing(refusal),
+    }
+}
+
+pub fn tell_exported(exported: Exported) -> Counted
+    ensures { λ r. ⌜ r ≡ counted (exportTold exported) ⌝ }
+{
+    match exported {
+        Exported::Length(length) => wrote(length),
+        Exported::Refused(refusal) => wrote_nothing(refusal),
+    }
+}
+
+pub fn tell_imported(imported: Imported) -> Counted
+    ensures { λ r. ⌜ r ≡ counted (importTold imported) ⌝ }
+{
+    match imported {
+        Imported::Length(length) => wrote(length),
+        Imported::Refused(refusal) => wrote_nothing(refusal),
     }
 }
 
 // 10: "or the output slice is shorter than it".
-fn no_room() -> Answered
-    ensures { λ r. ⌜ r ≡ answered (Refused (record { thing = Net; fault = NoRoom })) ⌝ }
-{
-    refused(Refusal {
-        thing: Thing::Net,
-        fault: Fault::NoRoom,
-    })
-}
-
 pub fn tell_text(stated: Stated) -> Counted
     ensures { λ r. ⌜ r ≡ counted (textTold stated) ⌝ }
 {
     match stated {
-        Stated::Written(length) => Counted {
-            answer: accepted(),
-            value: length as u64,
-        },
-        Stated::NoRoom => Counted {
-            answer: no_room(),
-            value: 0,
-        },
+        Stated::Written(length) => wrote(length),
+        Stated::NoRoom => wrote_nothing(Refusal {
+            thing: Thing::Net,
+            fault: Fault::NoRoom,
+        }),
     }
 }
 

@@ -1,4 +1,4 @@
-// The calls, by the numbers that tests/cases/make.py gives them, 16 to each group that tells alike. `first` is the net or the sheet that is read, `second` the
+// The calls, by the numbers that tests/cases/make.py gives them, 16 to each group that tells alike. `first` is the net, or the sheet or text that is read, `second` the
 // weights, the movements, damaged or not, the modes of a step or the complement's marking. The last arm of a group is its last call.
 use crate::audits::audit;
 use crate::parts::count_in;
@@ -18,6 +18,8 @@ use abi::converting::pnet_to_version_1;
 use abi::converting::pnet_to_version_2;
 use abi::dying::pnet_first_dead;
 use abi::dying::pnet_is_dead;
+use abi::exchanging::pnet_export_pnml;
+use abi::exchanging::pnet_import_pnml;
 use abi::excluding::pnet_exclude;
 use abi::moving::pnet_begin;
 use abi::moving::pnet_certify;
@@ -56,7 +58,9 @@ fn count(call: u32, number: u32, first: &[u8], out: &mut [u8]) -> Counted {
         19 => pnet_complement(first, out),
         20 => pnet_to_version_2(first, out),
         21 => pnet_to_version_1(first, out),
-        _ => pnet_strip(first, Pair((number % 65536) as u16), out),
+        22 => pnet_strip(first, Pair((number % 65536) as u16), out),
+        23 => pnet_export_pnml(first, out),
+        _ => pnet_import_pnml(first, out),
     }
 }
 

@@ -1,4 +1,4 @@
 pub mod Exports
-pub mod Calls
+pub mod Contracts
 pub mod Bounds
 pub mod Promises

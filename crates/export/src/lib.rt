@@ -20,7 +20,7 @@ ghost use Rattle.sheets.specs.Decoded.{netOf};
 ghost use Rattle.opened.specs.Shape.{Open};
 ghost use Rattle.opened.specs.Starts.{StartsAre};
 ghost use Rattle.export.specs.Exports.{exportText, roomRefusal, exported, output};
-ghost use Rattle.export.specs.Calls.{ExportPnmlAllows};
+ghost use Rattle.export.specs.Contracts.{ExportPnmlAllows};
 
 // How many bytes were written, or why none.
 pub enum Exported {

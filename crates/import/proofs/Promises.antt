@@ -1,29 +1,28 @@
 -- What the contract of the import says, and that it allows one outcome.
-use Prim.Native.Nat.{ℕ, _+_, _≤_, _<_}
+use Prim.Native.Nat.{ℕ, zero, suc, _+_, _≤_, _<_}
 use mathlib.Core.Path.{_≡_, refl, sym, _∙_, ap, ap₂, subst}
-use mathlib.Core.List.{List, [], _∷_, _++_}
+use mathlib.Core.List.{List, [], _++_}
 use mathlib.Core.Logic.{_⊎_, inl, inr, ⊎-elim, _≢_}
 use mathlib.Core.Option.{Option, none, some}
-use lib.ListN.{length, drop}
+use lib.ListN.{length, drop, length-append}
 use native.Mathlib.Omega.{arith}
 use Rattle.model.specs.declared.Thing.the-variants.{Net, Argument}
 use Rattle.model.specs.declared.Fault.the-variants.{NotAnExport, CountOutside, NoRoom}
 use Rattle.model.specs.declared.Refusal.{Refusal}
 use Rattle.model.specs.declared.Version.the-variants.{One}
-use Rattle.model.specs.declared.CapacityRule.the-variants.{Strong}
-use Rattle.model.specs.WellFormed.{WellFormed}
-use Rattle.model.specs.Numbers.{∞}
-use Rattle.model.specs.Nets.{PNet, pairs, modes}
+use Rattle.model.specs.Lists.{joined}
+use Rattle.model.specs.Nets.{PNet, pairs, modes, count}
 use Rattle.model.specs.Refusals.{wrong}
 use Rattle.model.proofs.First.{below-or}
 use Rattle.written.proofs.RoundTrip.{written-then-read}
 use Rattle.pnml.specs.Agrees.{FirstNone}
-use Rattle.pnml.specs.Pnml.{opening, pnml, Refused20}
+use Rattle.pnml.specs.Pnml.{opening, closing, placeText, modeText, body, pnml, Exportable, Refused20}
 use Rattle.parts.proofs.Steps.{agrees-fewer}
+use Rattle.grammar.proofs.Generated.{total-some}
 use Rattle.import.specs.declared.Imported.{Imported}
 use Rattle.import.specs.declared.Imported.the-variants.{Length, Refused}
 use Rattle.import.specs.Imports.{singles, importedSheet, importRefusal, imported, output, importOf, outputOf, told}
-use Rattle.import.specs.Calls.{ImportPnmlAllows}
+use Rattle.import.specs.Contracts.{ImportPnmlAllows}
 use Rattle.import.specs.Promises.{RefusedExactly, Small, ImportsExactly, ImportedReads}
 use Rattle.import.proofs.Answers.{too-many, short, roomy}
 use Rattle.import.proofs.Singles.{pairs-same, modes-same, singles-well, no-bound}
@@ -114,12 +113,17 @@ imports-only text out o (inl x) n e = go (way (x .net) (length out))
     go (full p m h r) = absurd (omega (arith, ap numberOf (sym (answered (x .net) out is r) ∙ e)))
     go (whole p m h r) = (x .net, record { exportable = x .exportable; pairs = p; modes = m }, x .is, h)
 
+-- of a net's export the answer and the output are that net's
+pub of-net : (net : PNet) → Exportable net → {text : List ℕ} → text ≡ pnml net → (out : List ℕ) (o : Imported × List ℕ) → ImportPnmlAllows text out o
+    → (o .0 ≡ importOf net out) × (o .1 ≡ outputOf net out)
+of-net net e is out o (inl x) = x .each net e is
+of-net net e is out o (inr x) = absurd (x .refused .noExport net e is)
+
 imports-all : (net : PNet) → Small net → (out : List ℕ) → length (importedSheet net) ≤ length out → (o : Imported × List ℕ) → ImportPnmlAllows (pnml net) out o
     → (o .0 ≡ Length (length (importedSheet net))) × (o .1 ≡ importedSheet net ++ drop (length (importedSheet net)) out)
-imports-all net w out h o (inr x) = absurd (x .refused .noExport net (w .exportable) refl)
-imports-all net w out h o (inl x) =
+imports-all net w out h o allows =
     let r = roomy net (length out) (w .pairs) (w .modes) h in
-    let e = x .each net (w .exportable) refl in
+    let e = of-net net (w .exportable) refl out o allows in
     (answered net out (e .0) r, left net out (e .1) r)
 
 pub imports-exactly : ImportsExactly
@@ -154,41 +158,27 @@ import-kept text out o (inl x) h = go (way (x .net) (length out))
     go (full p m l r) = left (x .net) out (is .1) r
     go (whole p m l r) = absurd (h (ap numberOf (answered (x .net) out (is .0) r)))
 
--- no export is empty, and one place without a token is a net
-some-text : (net : PNet) → 0 < length (pnml net)
-unfolding pnml opening
-some-text net = omega arith
+-- an export has a line for its first place between its opening and its closing
+places-some : (n : ℕ) (start : List ℕ) → 1 ≤ n → 1 ≤ length (joined n (λ p. placeText p (count start p)))
+unfolding joined placeText
+places-some zero start h = absurd (omega arith)
+places-some (suc n) start h = rw length-append (omega arith)
+
+pub between : (net : PNet) → Exportable net → length (opening ++ closing) < length (pnml net)
+unfolding pnml body
+between net e =
+    let w = e .wellFormed in
+    let places = joined (pairs net) (λ p. placeText p (count (net .start) p)) in
+    let lines = joined (modes net) (modeText (net .arcs)) in
+    omega (
+      arith,
+      length-append opening closing,
+      length-append opening ((places ++ lines) ++ closing),
+      length-append (places ++ lines) closing,
+      length-append places lines,
+      places-some (pairs net) (net .start) (total-some (net .colours) (w .somePlace) (w .places)),
+    )
 
 pub refuses-none : (out : List ℕ) (o : Imported × List ℕ) → ImportPnmlAllows [] out o → told (o .0) .carried .number ≢ 0
 refuses-none out o (inr x) e = omega (arith, ap numberOf (x .answer))
-refuses-none out o (inl x) e = omega (arith, ap length (x .is), some-text (x .net))
-
-pub smallest : PNet
-smallest = record { rule = Strong; colours = 1 ∷ []; modesOf = []; capacity = ∞ ∷ []; start = 0 ∷ []; arcs = [] }
-
-smallest-well : WellFormed smallest
-unfolding smallest
-smallest-well =
-    record {
-      somePlace = omega arith;
-      places = record { many = omega arith; each = λ i h. let z : i ≡ 0 = omega arith in rw z (omega arith, omega arith); inTotal = omega arith };
-      transitions = record { many = omega arith; each = λ i h. absurd (omega arith); inTotal = omega arith };
-      capacities = refl;
-      capacityInRange = λ p h. let z : p ≡ 0 = omega arith in rw z tt;
-      start = record { oneEach = refl; inRange = λ p h. let z : p ≡ 0 = omega arith in rw z (omega arith); within = λ p h. let z : p ≡ 0 = omega arith in rw z tt };
-      arcCount = omega arith;
-      eachArc = λ k h. absurd (omega arith);
-      rising = λ k h. absurd (omega arith);
-    }
-
-smallest-small : Small smallest
-unfolding smallest
-smallest-small =
-    record {
-      exportable = record { wellFormed = smallest-well; capacities = λ p h. let z : p ≡ 0 = omega arith in rw z refl; inhibitors = λ k h. absurd (omega arith) };
-      pairs = omega arith;
-      modes = omega arith;
-    }
-
-pub accepts-some : (o : Imported × List ℕ) → ImportPnmlAllows (pnml smallest) (importedSheet smallest) o → told (o .0) .carried .number ≡ 0
-accepts-some o a = ap numberOf (imports-all smallest smallest-small (importedSheet smallest) (omega arith) o a .0)
+refuses-none out o (inl x) e = omega (arith, ap length (x .is), between (x .net) (x .exportable))

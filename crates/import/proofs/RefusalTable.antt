@@ -15,7 +15,7 @@ use Rattle.model.specs.RefusalTables.{Table, row, _then_, each, Silent, Gives, 
 use Rattle.pnml.specs.Pnml.{pnml, Exportable, Refused20}
 use Rattle.import.specs.declared.Imported.{Imported}
 use Rattle.import.specs.Imports.{importedSheet, importRefusal, imported, refusalOf}
-use Rattle.import.specs.Calls.{OfExport, OfNone}
+use Rattle.import.specs.Contracts.{OfExport, OfNone}
 use Rattle.import.specs.RefusalTable.{ExportOfSome, importTable, ImportTable}
 use Rattle.import.proofs.Answers.{too-many}
 use Rattle.import.proofs.Promises.{once, Way, many, full, whole, way, answered}

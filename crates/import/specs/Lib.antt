@@ -1,5 +1,5 @@
 pub mod Promises
 pub mod RefusalTable
 pub mod Imports
-pub mod Calls
+pub mod Contracts
 pub mod Parts

@@ -13,7 +13,7 @@ use Rattle.pnml.specs.Pnml.{pnml, Exportable, Refused20}
 use Rattle.import.specs.declared.Imported.{Imported}
 use Rattle.import.specs.declared.Imported.the-variants.{Length, Refused}
 use Rattle.import.specs.Imports.{singles, importedSheet}
-use Rattle.import.specs.Calls.{ImportPnmlAllows}
+use Rattle.import.specs.Contracts.{ImportPnmlAllows}
 
 -- "20 at the first byte (or the end) from which no export agrees with the text": there, and nowhere else
 pub record RefusedExactly : Type 0 where

@@ -11,7 +11,7 @@ use Rattle.model.specs.RefusalTables.{Table, row, _then_, each, Reads}
 use Rattle.pnml.specs.Pnml.{pnml, Exportable, Refused20}
 use Rattle.import.specs.declared.Imported.{Imported}
 use Rattle.import.specs.Imports.{importedSheet, refusalOf}
-use Rattle.import.specs.Calls.{ImportPnmlAllows}
+use Rattle.import.specs.Contracts.{ImportPnmlAllows}
 
 -- the text is the export of such a net
 abbrev pub ExportOfSome : List ℕ → (PNet → Type 0) → Type 0

@@ -18,7 +18,7 @@ ghost use mathlib.Core.Path.{_≡_};
 ghost use Rattle.model.specs.Refusals.{wrong};
 ghost use Rattle.import.specs.declared.Imported.the-variants.{Refused};
 ghost use Rattle.scan.specs.Kinds.{ExportOf};
-ghost use Rattle.import.specs.Calls.{ImportPnmlAllows};
+ghost use Rattle.import.specs.Contracts.{ImportPnmlAllows};
 ghost use Rattle.import.specs.Parts.{ImportedAs};
 
 // How many bytes were written, or why none.

@@ -68,8 +68,10 @@ use Rattle.convert.specs.Converted.{ofVersion, convertedSheet, lostRule, tooSho
 use Rattle.strip.specs.Strip.{boundOf, stripRefusal}
 use Rattle.strip.specs.Stripped.{strippedNet, strippedSheet, strippingRefusal}
 use Rattle.strip.specs.Stripped as stripping
+use Rattle.export.specs.Exports.{boundedCapacity, boundedInhibitor, refusal19, roomRefusal as exportRoom, exportRefusal, exportText}
+use Rattle.import.proofs.RefusalTable.{import-table}
 use Rattle.audit.specs.Audits.{auditingRefusal}
-use Rattle.promises.specs.CallTables.{bytesLeft, wholeNetTable, wholeWeightTable, wholeMovementTable, markingAfter, movesTable, certificateTable, stepTable, roomTable, convertTable, stripTable, RunReads, SalvageReads, CallTables, claimTable, addShipTable}
+use Rattle.promises.specs.CallTables.{bytesLeft, wholeNetTable, wholeWeightTable, wholeMovementTable, markingAfter, movesTable, certificateTable, stepTable, roomTable, convertTable, stripTable, exportTable, RunReads, SalvageReads, CallTables, claimTable, addShipTable}
 use Rattle.salvage.specs.Salvaged as salvaging
 use Rattle.salvage.specs.Salvaged.{freshSheet, modesIn, trial, salvageRefusal}
 
@@ -245,6 +247,15 @@ strip-reads s p room =
     (reads-either _ (past-four (boundOf (K (netOf s) (p .0))) (length (stripped .modesOf)) (modes stripped) (length (stripped .arcs)))
     (by-less room (length (strippedSheet s p)))))))
 
+-- an export: each K, then each I, then the output slice
+export-reads : (s : List ℕ) (room : ℕ) → Reads (exportTable s room) (exportRefusal s room)
+unfolding exportRefusal exportRoom refusal19 boundedCapacity boundedInhibitor
+export-reads s room =
+    reads-then (net-reads s)
+    (subst (Reads _) (sym (then-assoc _ _ _))
+    (reads-then (reads-each (pairs (netOf s)) (λ p l. reads-plain _ (by-finite _)))
+    (reads-then (reads-each (length (netOf s .arcs)) (λ k l. reads-plain _ (by-finite _))) (reads-plain _ (by-less room (length (exportText s)))))))
+
 -- an audit: where the room is the sheet's own length, complementing is never short of it
 room-refusal : (s : List ℕ) → roomRefusal s (length (complementSheet s)) ≡ complementRefusal (arcOffset s) (netOf s)
 unfolding roomRefusal
@@ -362,6 +373,8 @@ call-tables =
       toVersion2 = convert-reads One Two;
       toVersion1 = convert-reads Two One;
       strip = strip-reads;
+      exportPnml = export-reads;
+      importPnml = import-table;
       audit = λ net marking beside.
           subst (Reads _) (audit-refusal net marking beside)
           (reads-then (reads-then (net-reads net) (room-reads net (length (complementSheet net))))

@@ -52,6 +52,9 @@ use Rattle.strip.specs.Stripped.{strippedSheet, strippingRefusal, strippedOf}
 use Rattle.strip.specs.Stripped as stripping
 use Rattle.convert.proofs.Answers.{own-rule, roomy}
 use Rattle.convert.proofs.Promises.{source-only, converted-reads}
+use Rattle.export.specs.Exports.{exportRefusal}
+use Rattle.export.specs.Exports as exporting
+use Rattle.import.proofs.Promises.{refuses-none}
 use Rattle.audit.specs.Audits.{finds, auditingRefusal}
 use Rattle.audit.specs.Audits as auditing
 use Rattle.salvage.specs.Salvaged.{salvageRefusal}
@@ -158,6 +161,10 @@ convert-cut source target = some-then _ (head-cut Net _)
 strip-cut : strippingRefusal lone (pairNo 0) 0 ≡ some (cutShort Net)
 unfolding strippingRefusal
 strip-cut = whole-cut _
+
+export-cut : exportRefusal lone 0 ≡ some (cutShort Net)
+unfolding exportRefusal
+export-cut = whole-cut _
 
 audit-cut : auditingRefusal lone [] [] ≡ some (cutShort Net)
 unfolding auditingRefusal
@@ -316,6 +323,11 @@ constant-answers =
           varies _ _ (own.net, pairNo 0, slice (length (strippedSheet own.net (pairNo 0))) .0) (lone, pairNo 0, [])
           (λ o a. ap (λ o. stripping.told o .carried .number) (a .0) ∙ strips)
           (λ o a. ap (λ o. stripping.told o .carried .number) (a .0) ∙ rw strip-cut);
+      exportPnml =
+          varies _ _ (own.complementNet, replicate 887 0) (lone, []) (λ o a. ap (λ r. r .carried .number) (own-example .exportPnml o a .0))
+          (λ o a. ap (λ o. exporting.told o .carried .number) (a .0) ∙ rw export-cut);
+      importPnml =
+          accepts-and-refuses _ _ (own.text, own.room) ([], []) (λ o a. ap (λ r. r .carried .number) (own-example .importPnml o a .0)) (refuses-none []);
       audit =
           varies _ _ (own.net, 3 ∷ 1 ∷ [], 2 ∷ 1 ∷ 3 ∷ []) (lone, [], []) (λ o a. ap (λ r. r .carried .number) (own-example .audit o a))
           (λ o a. ap (λ o. auditing.told o .carried .number) a ∙ rw audit-cut);

@@ -2,11 +2,10 @@
 use Prim.Native.Nat.{ℕ, _+_, _≤_, _<_}
 use mathlib.Core.Path.{_≡_, refl, sym, _∙_, ap}
 use mathlib.Core.List.{List, [], _∷_, _++_, append-nil}
-use mathlib.Core.Option.{Option, none, some}
+use mathlib.Core.Option.{none}
 use lib.ListN.{length, take, length-append}
 use lib.Seq.{getD-take}
 use native.Mathlib.Omega.{arith}
-use Rattle.model.specs.declared.Refusal.{Refusal}
 use Rattle.model.specs.Numbers.{fin}
 use Rattle.model.specs.Nets.{PNet, pairs, K}
 use Rattle.model.specs.Complement.{newPlaces, complement}
@@ -25,12 +24,8 @@ use Rattle.nets.proofs.Valid.{counts-hold}
 use Rattle.written.proofs.RoundTrip.{written-then-read}
 use Rattle.complement.specs.Complemented.{told, complementSheet, complemented, complementingRefusal, outputOf}
 use Rattle.promises.specs.Frauds.{CopiesNet}
-use Rattle.promises.proofs.Accepting.{number-none}
+use Rattle.promises.proofs.Accepting.{unrefused}
 use Rattle.promises.proofs.DemandThree.{complementable, complement-sheet}
-
-length-refused : (o : Option Refusal) (l : ℕ) → told (complemented o l) .carried .number ≡ 0 → o ≡ none
-length-refused none l e = refl
-length-refused (some r) l e = number-none (some r) e
 
 more-places : (net : PNet) (p k : ℕ) → p < pairs net → K net p ≡ fin k → length (net .colours) < length (complement net .colours)
 unfolding complement
@@ -79,7 +74,7 @@ pub copies-net : CopiesNet
 copies-net =
     record {
       excluded = λ net out p k h e o a n same.
-          let q = length-refused (complementingRefusal net (length out)) (length (complementSheet net)) (sym (ap (λ c. told c .carried .number) (a .0)) ∙ n) in
+          let q = unrefused (λ o. told (complemented o (length (complementSheet net)))) (length (complementSheet net)) refl (λ r. refl) (complementingRefusal net (length out)) (sym (ap (λ c. told c .carried .number) (a .0)) ∙ n) in
           omega (
             arith,
             written-places net out q,

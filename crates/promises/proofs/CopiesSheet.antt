@@ -3,12 +3,10 @@ use Prim.Native.Nat.{ℕ}
 use mathlib.Core.Path.{_≡_, refl, sym, _∙_, ap}
 use mathlib.Core.List.{List}
 use mathlib.Core.Logic.{_≢_}
-use mathlib.Core.Option.{Option, none, some}
 use lib.ListN.{length, take, drop, List·getD-append}
 use lib.Seq.{getD-take}
 use native.Mathlib.Omega.{arith}
 use Rattle.model.specs.declared.Thing.the-variants.{Net}
-use Rattle.model.specs.declared.Refusal.{Refusal}
 use Rattle.model.specs.declared.Version.{Version}
 use Rattle.model.specs.declared.Version.the-variants.{One, Two}
 use Rattle.model.proofs.First.{left-none, right-none}
@@ -21,11 +19,7 @@ use Rattle.convert.specs.Converted.{ofVersion, lostRule, convertedSheet, openRe
 use Rattle.convert.proofs.Answers.{read-version}
 use Rattle.convert.proofs.Promises.{converted-reads}
 use Rattle.promises.specs.Frauds.{CopiesSheet}
-use Rattle.promises.proofs.Accepting.{number-none}
-
-length-refused : (o : Option Refusal) (l : ℕ) → told (converted o l) .carried .number ≡ 0 → o ≡ none
-length-refused none l e = refl
-length-refused (some r) l e = number-none (some r) e
+use Rattle.promises.proofs.Accepting.{unrefused}
 
 same-version : (a b : List ℕ) → byteAt a 4 ≡ byteAt b 4 → versionOf a ≡ versionOf b
 unfolding versionOf
@@ -36,7 +30,7 @@ module _ (source target : Version) (d : source ≢ target) (net out : List ℕ) 
   unfolding convertRefusal openRefusal ofVersion
   not-copied accepted copied =
       let sheet = convertedSheet target net in
-      let none-refused = length-refused (convertRefusal source target net (length out)) (length sheet) accepted in
+      let none-refused = unrefused (λ o. told (converted o (length sheet))) (length sheet) refl (λ r. refl) (convertRefusal source target net (length out)) accepted in
       let whole = left-none (ofVersion source net) _ none-refused in
       let kept = left-none (lostRule target (netOf net .rule)) _ (right-none (ofVersion source net) _ none-refused) in
       let head = head-holds Net net (left-none _ _ whole) in

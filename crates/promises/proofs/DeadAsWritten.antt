@@ -20,7 +20,6 @@ use Rattle.sheets.specs.Whole.{wholeNet}
 use Rattle.sheets.specs.Decoded.{netOf}
 use Rattle.fire.specs.Calls.{testRefusal}
 use Rattle.dead.specs.IsDead.{told, deadness, deadRefusal, deadnessOf}
-use Rattle.dead.specs.FirstDead as first
 use Rattle.complement.specs.Complemented.{complementingRefusal}
 use Rattle.promises.specs.DemandThree.{asWritten}
 use Rattle.promises.specs.DeadAsWritten.{DeadAsWritten}

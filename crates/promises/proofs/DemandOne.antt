@@ -4,7 +4,7 @@ use mathlib.Core.Path.{_≡_, refl, sym, _∙_, ap, subst}
 use mathlib.Core.Bool.{Bool, true, false, cond}
 use mathlib.Core.List.{List, [], _++_}
 use mathlib.Core.Logic.{_≢_}
-use mathlib.Core.Option.{Option, none, some}
+use mathlib.Core.Option.{Option}
 use lib.Dec.{leb, ltb}
 use lib.ListN.{length, take, drop}
 use native.Mathlib.Omega.{arith}
@@ -12,7 +12,7 @@ use Rattle.model.specs.declared.Pair.{Pair}
 use Rattle.model.specs.declared.Refusal.{Refusal}
 use Rattle.model.specs.declared.Version.{Version}
 use Rattle.model.specs.declared.Version.the-variants.{One, Two}
-use Rattle.model.specs.Refusals.{answer}
+use Rattle.model.specs.Refusals.{answer, number}
 use Rattle.model.specs.Nets.{PNet}
 use Rattle.model.specs.Promises.{Leads, stays}
 use Rattle.model.specs.Firing.{fired}
@@ -26,12 +26,15 @@ use Rattle.step.specs.Calls.{stepModes, testStepRefusal}
 use Rattle.fleet.specs.declared.Fleet.{Fleet}
 use Rattle.fleet.specs.Ships.{Ship, ship, voyageOf, withVoyage}
 use Rattle.fleet.specs.Calls.{shipRefusal, left, entered}
-use Rattle.complement.specs.Complemented.{complementSheet, complementingRefusal, told, complemented, output}
+use Rattle.complement.specs.Complemented.{complementSheet, complementingRefusal, told, complemented, output, complementOf}
+use Rattle.complement.specs.Complemented as complementing
 use Rattle.convert.specs.Converted.{convertedSheet, convertRefusal, converted, conversionOf, outputOf}
 use Rattle.convert.specs.Converted as converting
 use Rattle.strip.specs.Stripped.{strippedSheet, strippingRefusal, stripped, strippedOf}
 use Rattle.strip.specs.Stripped as stripping
-use Rattle.salvage.specs.declared.Report.{Report}
+use Rattle.export.specs.Exports.{exportText, exportRefusal, exported, exportOf}
+use Rattle.export.specs.Exports as exporting
+use Rattle.import.proofs.Promises.{import-kept}
 use Rattle.salvage.specs.Salvaged as salvaging
 use Rattle.text.specs.declared.Put.the-variants.{To, Full}
 use Rattle.text.specs.Puts.{endWithin, putTo, putInto}
@@ -39,51 +42,43 @@ use Rattle.statement.specs.declared.Stated.the-variants.{Written, NoRoom}
 use Rattle.statement.specs.Replay.{room, replayText, stated, statedIn}
 use Rattle.answers.specs.Told.{counted, textTold}
 use Rattle.promises.specs.DemandOne.{Refused, DemandOne, DemandOneForC}
+use Rattle.promises.proofs.Accepting.{left-alone}
 
 kept : (o : Option Refusal) (new found : List ℕ) → Refused (answer o) → written o new found ≡ found
-kept none new found h = absurd (h refl)
-kept (some r) new found h = refl
-
-record-kept : (o : Option Refusal) (f next : Fleet) → Refused (answer o) → left o f next ≡ f
-record-kept none f next h = absurd (h refl)
-record-kept (some r) f next h = refl
+kept o new found = left-alone (λ o. number (answer o)) (λ o. written o new found) refl (λ r. refl) o
 
 ship-kept : (f : Fleet) (s : Ship) → Refused (entered f s .answer) → entered f s .fleet ≡ f
 unfolding entered
-ship-kept f s h = record-kept (shipRefusal f s) f (withVoyage f (voyageOf s)) h
+ship-kept f s = left-alone (λ o. number (answer o)) (λ o. left o f (withVoyage f (voyageOf s))) refl (λ r. refl) (shipRefusal f s)
 
-output-kept : (o : Option Refusal) (n : ℕ) (sheet found : List ℕ) → told (complemented o n) .carried .number ≢ 0 → output o sheet found ≡ found
-output-kept none n sheet found h = absurd (h refl)
-output-kept (some r) n sheet found h = refl
+complement-kept : (net out : List ℕ) → told (complementOf net out) .carried .number ≢ 0 → complementing.outputOf net out ≡ out
+complement-kept net out =
+    let sheet = complementSheet net in
+    left-alone (λ o. told (complemented o (length sheet)) .carried .number) (λ o. output o sheet out) refl (λ r. refl) (complementingRefusal net (length out))
 
 converted-kept : (source target : Version) (net out : List ℕ) → converting.told (conversionOf source target net out) .carried .number ≢ 0
     → outputOf source target net out ≡ out
-converted-kept source target net out h = go (convertRefusal source target net (length out)) h
-  where
-    sheet : List ℕ
-    sheet = convertedSheet target net
-
-    go : (o : Option Refusal) → converting.told (converted o (length sheet)) .carried .number ≢ 0 → converting.output o sheet out ≡ out
-    go none h = absurd (h refl)
-    go (some r) h = refl
+converted-kept source target net out =
+    let sheet = convertedSheet target net in
+    left-alone (λ o. converting.told (converted o (length sheet)) .carried .number) (λ o. converting.output o sheet out) refl (λ r. refl)
+    (convertRefusal source target net (length out))
 
 stripped-kept : (net : List ℕ) (p : Pair) (out : List ℕ) → stripping.told (strippedOf net p out) .carried .number ≢ 0 → stripping.outputOf net p out ≡ out
-stripped-kept net p out h = go (strippingRefusal net p (length out)) h
-  where
-    sheet : List ℕ
-    sheet = strippedSheet net p
+stripped-kept net p out =
+    let sheet = strippedSheet net p in
+    left-alone (λ o. stripping.told (stripped o (length sheet)) .carried .number) (λ o. stripping.output o sheet out) refl (λ r. refl)
+    (strippingRefusal net p (length out))
 
-    go : (o : Option Refusal) → stripping.told (stripped o (length sheet)) .carried .number ≢ 0 → stripping.output o sheet out ≡ out
-    go none h = absurd (h refl)
-    go (some r) h = refl
+exported-kept : (net out : List ℕ) → exporting.told (exportOf net out) .carried .number ≢ 0 → exporting.outputOf net out ≡ out
+exported-kept net out =
+    let text = exportText net in
+    left-alone (λ o. exporting.told (exported o (length text)) .carried .number) (λ o. exporting.output o text out) refl (λ r. refl)
+    (exportRefusal net (length out))
 
 salvaged-kept : (net damaged out : List ℕ) → salvaging.told (salvaging.salvageOf net damaged out) .carried .number ≢ 0 → salvaging.outputOf net damaged out ≡ out
-salvaged-kept net damaged out h = go (salvaging.salvageRefusal net damaged (length out)) (salvaging.report net damaged) h
-  where
-    go : (o : Option Refusal) (report : Report) → salvaging.told (salvaging.salvaged o report) .carried .number ≢ 0
-        → salvaging.output o (salvaging.freshSheet net damaged) out ≡ out
-    go none report h = absurd (h refl)
-    go (some r) report h = refl
+salvaged-kept net damaged out =
+    left-alone (λ o. salvaging.told (salvaging.salvaged o (salvaging.report net damaged)) .carried .number) (λ o. salvaging.output o (salvaging.freshSheet net damaged) out)
+    refl (λ r. refl) (salvaging.salvageRefusal net damaged (length out))
 
 put-kept : (out : List ℕ) (at : ℕ) (bytes : List ℕ) → putTo out at bytes ≡ Full → putInto out at bytes ≡ out
 unfolding endWithin putTo putInto
@@ -120,14 +115,14 @@ demand-one =
           allows .1 ∙ kept (testStepRefusal net marking modes) (firedTogether (netOf net) (stepModes modes) marking) marking (subst Refused (allows .0) refused);
       addShip = λ found net weights movements o allows refused. allows .1 ∙ ship-kept found (ship net weights movements) (subst Refused (allows .0) refused);
       complement = λ net out o allows refused.
-          allows .1
-          ∙ output-kept (complementingRefusal net (length out)) (length (complementSheet net)) (complementSheet net) out
-          (subst (λ c. told c .carried .number ≢ 0) (allows .0) refused);
+          allows .1 ∙ complement-kept net out (subst (λ c. told c .carried .number ≢ 0) (allows .0) refused);
       toVersion2 = λ net out o allows refused.
           allows .1 ∙ converted-kept One Two net out (subst (λ c. converting.told c .carried .number ≢ 0) (allows .0) refused);
       toVersion1 = λ net out o allows refused.
           allows .1 ∙ converted-kept Two One net out (subst (λ c. converting.told c .carried .number ≢ 0) (allows .0) refused);
       strip = λ net p out o allows refused. allows .1 ∙ stripped-kept net p out (subst (λ c. stripping.told c .carried .number ≢ 0) (allows .0) refused);
+      exportPnml = λ net out o allows refused. allows .1 ∙ exported-kept net out (subst (λ c. exporting.told c .carried .number ≢ 0) (allows .0) refused);
+      importPnml = import-kept;
       salvage = λ net damaged out o allows refused.
           allows .1 ∙ salvaged-kept net damaged out (subst (λ c. salvaging.told c .carried .number ≢ 0) (allows .0) refused);
       run = λ net movements marking o allows refused. run-leads net movements marking (ap (λ ran. ran .accepted) (allows .0)) (allows .1);
@@ -149,13 +144,12 @@ demand-one-for-c =
           allows .1 ∙ kept (testStepRefusal net marking modes) (firedTogether (netOf net) (stepModes modes) marking) marking (subst (λ a. a .number ≢ 0) (allows .0) refused);
       fleetAdd = λ found net weights movements o allows refused.
           allows .1 ∙ ship-kept found (ship net weights movements) (subst (λ a. a .number ≢ 0) (allows .0) refused);
-      complement = λ net out o allows refused.
-          allows .1
-          ∙ output-kept (complementingRefusal net (length out)) (length (complementSheet net)) (complementSheet net) out
-          (subst (λ c. c .answer .number ≢ 0) (allows .0) refused);
+      complement = λ net out o allows refused. allows .1 ∙ complement-kept net out (subst (λ c. c .answer .number ≢ 0) (allows .0) refused);
       toVersion2 = λ net out o allows refused. allows .1 ∙ converted-kept One Two net out (subst (λ c. c .answer .number ≢ 0) (allows .0) refused);
       toVersion1 = λ net out o allows refused. allows .1 ∙ converted-kept Two One net out (subst (λ c. c .answer .number ≢ 0) (allows .0) refused);
       strip = λ net p out o allows refused. allows .1 ∙ stripped-kept net p out (subst (λ c. c .answer .number ≢ 0) (allows .0) refused);
+      exportPnml = λ net out o allows refused. allows .1 ∙ exported-kept net out (subst (λ c. c .answer .number ≢ 0) (allows .0) refused);
+      importPnml = λ text out o allows refused. import-kept text out (allows .0, o .1) (allows .1) (subst (λ c. c .answer .number ≢ 0) (allows .2) refused);
       salvage = λ net damaged out o allows refused. allows .1 ∙ salvaged-kept net damaged out (subst (λ c. c .answer .number ≢ 0) (allows .0) refused);
       statement = λ input out o allows refused. allows .1 ∙ text-kept input out (subst (λ c. c .answer .number ≢ 0) (allows .0) refused);
       run = λ net movements marking o allows refused. run-leads net movements marking (ap (λ c. c .accepted) (allows .0)) (allows .1);

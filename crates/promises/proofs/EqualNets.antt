@@ -1,4 +1,4 @@
--- A call's answer is the net sheet's refusal, then a function of the net that was read; the offset of 15 is all else that it takes from the sheet.
+-- A call's answer is the net sheet's refusal, then a function of the net that was read; the offsets of 15 and 19 are all else that it takes from the sheet.
 use Prim.Native.Nat.{ℕ, zero, suc, _≤_}
 use mathlib.Core.Path.{_≡_, refl, sym, _∙_, ap, ap₂, subst}
 use mathlib.Core.Bool.{Bool, true, false}
@@ -8,23 +8,23 @@ use lib.ListN.{length, take}
 use borrow.Author.Tests.{le-ltb}
 use Rattle.model.specs.declared.Pair.{Pair}
 use Rattle.model.specs.declared.Thing.the-variants.{Net}
-use Rattle.model.specs.declared.Fault.the-variants.{InhibitedUnbounded}
+use Rattle.model.specs.declared.Fault.the-variants.{InhibitedUnbounded, NotUnbounded}
 use Rattle.model.specs.declared.Refusal.{Refusal}
 use Rattle.model.specs.declared.Version.{Version}
 use Rattle.model.specs.First.{_▸_, first, onlyIf, lowest}
 use Rattle.model.specs.Nets.{PNet, arcNo, K}
-use Rattle.model.specs.Refusals.{answer, carried, wrong}
-use Rattle.model.specs.Replies.{yields}
+use Rattle.model.specs.Refusals.{answer, Carried, carried, wrong}
+use Rattle.model.specs.Replies.{Reply, yields, refuses}
 use Rattle.model.specs.WellFormed.{WellFormed}
 use Rattle.model.specs.Runs.{run}
-use Rattle.model.specs.Complement.{complement, inhibitsUnbounded, refusal15, complementRefusal}
-use Rattle.model.specs.Audit.{Finding, audited, auditRefusal}
+use Rattle.model.specs.Complement.{finite, complement, inhibitsUnbounded, refusal15, complementRefusal}
+use Rattle.model.specs.Audit.{audited, auditRefusal}
 use Rattle.model.proofs.First.{left-none, none-then, then-none}
 use Rattle.nets.specs.Nets.{netRefusal}
 use Rattle.sheets.specs.Whole.{wholeNet, rest}
 use Rattle.sheets.specs.Decoded.{netOf}
 use Rattle.sheets.proofs.Accepted.{well-formed}
-use Rattle.opened.specs.Shape.{arcOffset}
+use Rattle.opened.specs.Shape.{arcOffset, inhibitorOffset}
 use Rattle.heads.specs.Version.{versionOf}
 use Rattle.written.specs.Written.{sheetOf}
 use Rattle.written.specs.Promises.{HasSheet, ReadBack}
@@ -41,57 +41,71 @@ use Rattle.dead.specs.IsDead.{deadRefusal}
 use Rattle.complement.specs.Complemented as complementing
 use Rattle.strip.specs.Strip.{strip, boundOf, stripRefusal}
 use Rattle.strip.specs.Stripped as stripping
+use Rattle.export.specs.Exports.{boundedCapacity, boundedInhibitor}
+use Rattle.export.specs.Exports as exporting
 use Rattle.audit.specs.Audits as auditing
 use Rattle.salvage.specs.Salvaged.{damagedRefusal, modesIn, sheetOfFirst, reportOf, tooShort, salvaged, output, trial, salvageRefusal, salvageOf, outputOf}
 use Rattle.statement.specs.Replay.{unlessRefused, weightsText, sheetsText, replayText, stated, statedIn}
 use Rattle.promises.specs.DemandThree.{asWritten}
-use Rattle.promises.specs.EqualNets.{OneNet, OffsetAside, AuditsAlike, Fits, StripFits, Bytes, AlikeBefore, Alike, EqualNets}
+use Rattle.promises.specs.EqualNets.{OneNet, OffsetAside, RepliesAlike, Fits, StripFits, Bytes, AlikeBefore, Alike, EqualNets}
 use Rattle.promises.proofs.TwoRuns.{length-accepted, written}
 use Rattle.promises.proofs.StripWritten.{sheet-there, sheet-reads}
 
--- refusals that are equal, or both 15
+-- the refusals that name an offset: 15 and 19
+data Naming : Type 0 where
+  inhibited : Naming
+  notUnbounded : Naming
+
+abbrev naming : Naming → ℕ → Refusal
+naming inhibited i = wrong Net (InhibitedUnbounded i)
+naming notUnbounded i = wrong Net (NotUnbounded i)
+
+-- refusals that are equal, or the same of these
 data Aside : Option Refusal → Option Refusal → Type 0 where
   same : (o : Option Refusal) → Aside o o
-  offsets : (i j : ℕ) → Aside (some (wrong Net (InhibitedUnbounded i))) (some (wrong Net (InhibitedUnbounded j)))
+  offsets : (f : Naming) (i j : ℕ) → Aside (some (naming f i)) (some (naming f j))
 
 aside-then : {o p x y : Option Refusal} → Aside o p → Aside x y → Aside (o ▸ x) (p ▸ y)
 unfolding _▸_
 aside-then (same none) h = h
 aside-then (same (some r)) h = same (some r)
-aside-then (offsets i j) h = offsets i j
+aside-then (offsets f i j) h = offsets f i j
 
-aside-15 : (n : ℕ) (test : ℕ → Bool) (x y : ℕ → ℕ)
-    → Aside (lowest n test (λ k. wrong Net (InhibitedUnbounded (x k)))) (lowest n test (λ k. wrong Net (InhibitedUnbounded (y k))))
+aside-lowest : (f : Naming) (n : ℕ) (test : ℕ → Bool) (x y : ℕ → ℕ) → Aside (lowest n test (λ k. naming f (x k))) (lowest n test (λ k. naming f (y k)))
 unfolding first
-aside-15 zero test x y = same none
-aside-15 (suc n) test x y = aside-then (aside-15 n test x y) (at (test n))
+aside-lowest f zero test x y = same none
+aside-lowest f (suc n) test x y = aside-then (aside-lowest f n test x y) (at (test n))
   where
-    at : (t : Bool) → Aside (onlyIf t (wrong Net (InhibitedUnbounded (x n)))) (onlyIf t (wrong Net (InhibitedUnbounded (y n))))
-    at true = offsets (x n) (y n)
+    at : (t : Bool) → Aside (onlyIf t (naming f (x n))) (onlyIf t (naming f (y n)))
+    at true = offsets f (x n) (y n)
     at false = same none
 
 aside-complement : (net : PNet) (x y : ℕ → ℕ) → Aside (complementRefusal x net) (complementRefusal y net)
 unfolding complementRefusal refusal15
-aside-complement net x y = aside-then (aside-15 _ (λ k. inhibitsUnbounded net (arcNo (net .arcs) k)) x y) (same _)
+aside-complement net x y = aside-then (aside-lowest inhibited _ (λ k. inhibitsUnbounded net (arcNo (net .arcs) k)) x y) (same _)
+
+aside-bounded : (net : PNet) (x y u v : ℕ → ℕ) → Aside (boundedCapacity x net ▸ boundedInhibitor u net) (boundedCapacity y net ▸ boundedInhibitor v net)
+unfolding boundedCapacity boundedInhibitor
+aside-bounded net x y u v =
+    aside-then (aside-lowest notUnbounded _ (λ p. finite (K net p)) x y)
+    (aside-lowest notUnbounded _ (λ k. finite (arcNo (net .arcs) k .entry .inhibitor)) u v)
+
+equal-aside : (x : Carried) → OffsetAside x x
+equal-aside x = record { number = refl; thing = refl; amount = refl; position = λ h k. refl }
 
 aside-carried : {o p : Option Refusal} → Aside o p → OffsetAside (carried (answer o)) (carried (answer p))
-aside-carried (same o) = record { number = refl; thing = refl; amount = refl; position = λ h. refl }
-aside-carried (offsets i j) = record { number = refl; thing = refl; amount = refl; position = λ h. absurd (h refl) }
+aside-carried (same o) = equal-aside _
+aside-carried (offsets inhibited i j) = record { number = refl; thing = refl; amount = refl; position = λ h k. absurd (h refl) }
+aside-carried (offsets notUnbounded i j) = record { number = refl; thing = refl; amount = refl; position = λ h k. absurd (k refl) }
+
+-- a call that tells its refusal, or a value that both sheets have
+aside-told : {A : Type 0} {o p : Option Refusal} (tell : Option Refusal → Reply A) → ((r : Refusal) → tell (some r) ≡ refuses r) → Aside o p → RepliesAlike (tell o) (tell p)
+aside-told tell there (same o) = record { carried = equal-aside _; value = refl }
+aside-told tell there (offsets f i j) = rw (there (naming f i), there (naming f j)) (record { carried = aside-carried (offsets f i j); value = refl })
 
 complement-carried : (o : Option Refusal) (l : ℕ) → complementing.told (complementing.complemented o l) .carried ≡ carried (answer o)
 complement-carried none l = refl
 complement-carried (some r) l = refl
-
-audit-carried : (o : Option Refusal) (f : Option Finding) → auditing.told (auditing.finds o f) .carried ≡ carried (answer o)
-unfolding auditing.finds
-audit-carried none none = refl
-audit-carried none (some f) = refl
-audit-carried (some r) f = refl
-
-audit-value : {o p : Option Refusal} (f : Option Finding) → Aside o p → auditing.told (auditing.finds o f) .value ≡ auditing.told (auditing.finds p f) .value
-unfolding auditing.finds
-audit-value f (same o) = refl
-audit-value f (offsets i j) = refl
 
 -- an output slice that is long enough: 15, and 10 for the limits
 complement-fits : (net out : List ℕ) → wholeNet net ≡ none → Fits net out
@@ -156,12 +170,26 @@ module _ (a b : List ℕ) (one : OneNet a b) where
   audit-refusals m m′ =
       rw (one .first, one .second, one .net) (aside-then (same none) (aside-then (aside-complement (netOf b) (arcOffset a) (arcOffset b)) (same _)))
 
-  pub audits : (m m′ : List ℕ) → AuditsAlike (auditing.told (auditing.auditedOf a m m′)) (auditing.told (auditing.auditedOf b m m′))
-  audits m m′ =
-      record {
-        carried = rw (audit-carried (auditing.auditingRefusal a m m′), audit-carried) (aside-carried (audit-refusals m m′));
-        value = rw (one .net) (audit-value (audited (netOf b) m m′) (audit-refusals m m′));
-      }
+  pub audits : (m m′ : List ℕ) → RepliesAlike (auditing.told (auditing.auditedOf a m m′)) (auditing.told (auditing.auditedOf b m m′))
+  unfolding auditing.finds
+  audits m m′ = rw (one .net) (aside-told (λ o. auditing.told (auditing.finds o (audited (netOf b) m m′))) (λ r. refl) (audit-refusals m m′))
+
+  export-refusals : (room : ℕ) → Aside (exporting.exportRefusal a room) (exporting.exportRefusal b room)
+  unfolding exporting.exportRefusal exporting.roomRefusal exporting.refusal19
+  export-refusals room =
+      rw (one .first, one .second, one .net)
+      (aside-then (same none) (aside-then (aside-bounded (netOf b) (exporting.capacityOffset a) (exporting.capacityOffset b) (inhibitorOffset a) (inhibitorOffset b)) (same _)))
+
+  pub exports : (out : List ℕ) → RepliesAlike (exporting.told (exporting.exportOf a out)) (exporting.told (exporting.exportOf b out))
+  exports out =
+      rw (one .net) (aside-told (λ o. exporting.told (exporting.exported o (length (exporting.exportText b)))) (λ r. refl) (export-refusals (length out)))
+
+  pub export-outputs : (out : List ℕ) → exporting.outputOf a out ≡ exporting.outputOf b out
+  export-outputs out = rw (one .net) (left (exporting.exportText b) (export-refusals (length out)))
+    where
+      left : (text : List ℕ) {o p : Option Refusal} → Aside o p → exporting.output o text out ≡ exporting.output p text out
+      left text (same o) = refl
+      left text (offsets f i j) = refl
 
   -- a salvage takes the net's run of the damaged modes, and its refusal
   trials : (damaged : List ℕ) → trial a damaged ≡ trial b damaged
@@ -242,6 +270,7 @@ module _ (a b : List ℕ) (one : OneNet a b) where
         firstDead = λ o h. rw (whole, net) h;
         size = λ o h. rw (whole, net) h;
         salvage = λ damaged out o h. (h .0 ∙ salvages damaged out, h .1 ∙ salvage-outputs damaged out);
+        exportPnml = λ out o o′ h h′. (rw (h .0, h′ .0) (exports out), h .1 ∙ export-outputs out ∙ sym (h′ .1));
         complement = λ out out′ o o′ f f′ h h′.
             record {
               carried = rw (h .0, h′ .0) (complements out out′ f f′);

@@ -1,5 +1,5 @@
 -- A call for C tells what the library's call answers.
-use mathlib.Core.Path.{refl, _∙_, ap}
+use mathlib.Core.Path.{refl, sym, _∙_, ap}
 use mathlib.Core.Option.{Option, none, some}
 use Rattle.model.specs.Replies.{Reply}
 use Rattle.model.specs.Audit.{Finding}
@@ -13,15 +13,15 @@ use Rattle.salvage.specs.Salvaged as salvaging
 use Rattle.statement.specs.Replay.{stated, statedIn}
 use Rattle.answers.specs.declared.Answered.{Answered}
 use Rattle.answers.specs.Told.{telling, valueOr, finding, audited, reported}
-use Rattle.promises.specs.EqualNets.{OffsetAside, AuditsAlike}
+use Rattle.promises.specs.EqualNets.{OffsetAside, RepliesAlike}
 use Rattle.promises.specs.EqualNetsForC.{carriedToC, FindingsAlike, EqualNetsForC}
-use Rattle.promises.proofs.EqualNets.{whole, net, ships, complements, strips, audits, salvages, salvage-outputs, texts, reads}
+use Rattle.promises.proofs.EqualNets.{whole, net, ships, complements, strips, exports, export-outputs, audits, salvages, salvage-outputs, texts, reads}
 
 finding-alike : (x y : Answered) (f : Option Finding) → OffsetAside (carriedToC x) (carriedToC y) → FindingsAlike (finding x f) (finding y f)
 finding-alike x y none h = record { answer = h; found = refl; pair = refl; excess = refl }
 finding-alike x y (some f) h = record { answer = h; found = refl; pair = refl; excess = refl }
 
-audits-told : (r q : Reply (Option Finding)) → AuditsAlike r q → FindingsAlike (audited r) (audited q)
+audits-told : (r q : Reply (Option Finding)) → RepliesAlike r q → FindingsAlike (audited r) (audited q)
 audits-told r q h = rw (h .value) (finding-alike (telling (r .carried)) (telling (q .carried)) (valueOr none (q .value)) (h .carried))
 
 pub equal-nets-for-c : EqualNetsForC
@@ -45,6 +45,13 @@ equal-nets-for-c a b one =
       firstDead = λ o h. rw (w, n) h;
       size = λ o h. rw (w, n) h;
       salvage = λ damaged out o h. (h .0 ∙ ap (λ x. reported (salvaging.told x)) (salvages a b one damaged out), h .1 ∙ salvage-outputs a b one damaged out);
+      exportPnml = λ out o o′ h h′.
+          let told = exports a b one out in
+          record {
+            answer = rw (h .0, h′ .0) (told .carried);
+            length = rw (h .0, h′ .0) (ap (valueOr 0) (told .value));
+            text = h .1 ∙ export-outputs a b one out ∙ sym (h′ .1);
+          };
       complement = λ out out′ o o′ f f′ h h′. rw (h .0, h′ .0) (complements a b one out out′ f f′);
       strip = λ p out out′ o o′ f f′ h h′. rw (h .0, h′ .0) (ap telling (strips a b one p out out′ f f′));
       audit = λ m m′ o o′ h h′. rw (h, h′) (audits-told _ _ (audits a b one m m′));

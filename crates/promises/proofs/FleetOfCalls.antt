@@ -1,5 +1,5 @@
 -- Calls for one ship after another leave what the definition says; and an accepted ship with a movement that takes weight off raises `removed`.
-use Prim.Native.Nat.{ℕ, zero, suc, _+_, _≤_, _<_}
+use Prim.Native.Nat.{ℕ, zero, suc, _+_, _<_}
 use mathlib.Core.Path.{_≡_, refl, sym, _∙_, ap}
 use mathlib.Core.List.{List, [], _∷_, map}
 use mathlib.Core.Logic.{_≢_}
@@ -11,16 +11,16 @@ use native.Mathlib.Omega.{arith}
 use Rattle.model.specs.declared.Mode.{Mode}
 use Rattle.model.specs.declared.Refusal.{Refusal}
 use Rattle.model.specs.declared.Answer.{Answer}
-use Rattle.model.specs.Refusals.{answer, number}
+use Rattle.model.specs.Refusals.{number}
 use Rattle.model.specs.Nets.{PNet, total, modeNo}
 use Rattle.model.specs.Figures.{change}
 use Rattle.fleet.specs.declared.Fleet.{Fleet}
-use Rattle.fleet.specs.Ships.{Ship, ship, lost, removedBy, shipRemoved, voyageOf, withVoyage}
+use Rattle.fleet.specs.Ships.{Ship, lost, removedBy, shipRemoved, voyageOf, withVoyage}
 use Rattle.fleet.specs.Calls.{shipRefusal, entered}
-use Rattle.fleet.specs.Promises.{zeros, afterAll, counted as countedBy}
+use Rattle.fleet.specs.Promises.{afterAll, counted as countedBy}
 use Rattle.fleet.specs.Contracts.{AddShipAllows}
 use Rattle.fleet.proofs.Totals.{fleet-statement}
-use Rattle.promises.specs.FleetOfCalls.{Calls, none as noShip, counts, refuses, FleetStated, FleetOfCalls}
+use Rattle.promises.specs.FleetOfCalls.{Calls, none as noShip, counts, refuses, FleetOfCalls}
 use Rattle.promises.specs.Frauds.{FleetFrauds}
 use Rattle.promises.proofs.Accepting.{number-none}
 

@@ -7,6 +7,7 @@ use Rattle.promises.proofs.WritesNothing.{writes-nothing}
 use Rattle.promises.proofs.CopiesNet.{copies-net}
 use Rattle.promises.proofs.CopiesSheet.{copies-sheet}
 use Rattle.promises.proofs.StripFrauds.{strip-frauds}
+use Rattle.promises.proofs.ExchangeFrauds.{exchange-frauds}
 use Rattle.promises.proofs.RunFrauds.{run-frauds}
 use Rattle.promises.proofs.ArcsVisited.{visit-frauds}
 use Rattle.promises.proofs.StepFrauds.{first-member-alone}
@@ -25,6 +26,7 @@ frauds =
       copying = copies-net;
       converting = copies-sheet;
       stripping = strip-frauds;
+      exchanging = exchange-frauds;
       running = run-frauds;
       visiting = visit-frauds;
       stepping = first-member-alone;

@@ -12,6 +12,7 @@ pub mod StripWritten
 pub mod EqualNets
 pub mod EqualNetsForC
 pub mod Stripping
+pub mod Exchange
 pub mod OwnExample
 pub mod ConstantAnswers
 pub mod ConstantAnswersForC
@@ -21,6 +22,7 @@ pub mod WritesNothing
 pub mod CopiesNet
 pub mod CopiesSheet
 pub mod StripFrauds
+pub mod ExchangeFrauds
 pub mod RunFrauds
 pub mod SalvageFrauds
 pub mod ArcsVisited

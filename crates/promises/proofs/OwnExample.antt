@@ -1,12 +1,12 @@
 -- Document 01's own example: its sheet is read back, and the rest is computed from the net.
 use Prim.Native.Nat.{ℕ, _+_, _*_, _≤_}
-use mathlib.Core.Path.{_≡_, refl, _∙_, ap, ap₂}
+use mathlib.Core.Path.{_≡_, refl, sym, _∙_, ap, ap₂, subst}
 use mathlib.Core.Bool.{false}
-use mathlib.Core.List.{List, [], _∷_, flatMap}
+use mathlib.Core.List.{List, [], _∷_, _++_, flatMap, append-nil}
 use mathlib.Core.Logic.{inr}
 use mathlib.Core.Option.{none, some}
 use lib.IntN.{pos, negsuc}
-use lib.ListN.{length, take, drop}
+use lib.ListN.{length, take, drop, replicate}
 use lib.Seq.{take-at}
 use native.Mathlib.Omega.{arith}
 use Rattle.model.specs.declared.Mode.{Mode}
@@ -33,9 +33,11 @@ use Rattle.model.specs.Lists.{joined, table}
 use Rattle.model.specs.Firing.{stopped, ruleRefusal, rowRefusal, modeRefusal, fired}
 use Rattle.model.specs.Steps.{together, stepRefusal, firedTogether}
 use Rattle.model.specs.WellFormed.{InRange, ArcOf, WellFormed}
+use Rattle.model.specs.WorkedExamples.{ownExample}
 use Rattle.model.specs.Markings.{unequal, markingRefusal}
 use Rattle.model.proofs.First.{left-none, right-none, none-then}
 use Rattle.model.proofs.Markings.{marking-test}
+use Rattle.model.proofs.Demand3.{demand3}
 use Rattle.model.proofs.Each.{each-at, sorted-rising}
 use Rattle.heads.specs.Bytes.{u16At, u32At}
 use Rattle.heads.specs.Checks.{known, headRefusal}
@@ -45,7 +47,7 @@ use Rattle.sheets.specs.Whole.{bytesAfter, wholeWeights, wholeMovements}
 use Rattle.sheets.specs.Decoded.{weightsOf, movementsOf}
 use Rattle.opened.specs.Shape.{arcOffset}
 use Rattle.written.specs.Promises.{ReadBack}
-use Rattle.written.specs.Written.{bytes16, bytes32, versionBytes, sheetOf}
+use Rattle.written.specs.Written.{bytes16, bytes32, versionBytes, ofMode, sheetOf}
 use Rattle.written.proofs.RoundTrip.{written-then-read}
 use Rattle.written.proofs.SheetLength.{section-one, fields-length, sheet-length}
 use Rattle.fire.specs.Calls.{beginRefusal, testRefusal}
@@ -65,6 +67,19 @@ use Rattle.dead.specs.FirstDead as first
 use Rattle.size.specs.Sizes as sizing
 use Rattle.complement.specs.Complemented as complementing
 use Rattle.complement.specs.Complemented.{roomRefusal, complementingRefusal}
+use Rattle.text.specs.Decimals.{decimalWithin, decimal}
+use Rattle.pnml.specs.Pnml.{opening, closing, three, placeText, transitionText, weightText, preText, postText, arcText, modeText, body, pnml, Exportable}
+use Rattle.export.specs.declared.Exported.{Exported}
+use Rattle.export.specs.Exports as exporting
+use Rattle.export.specs.Contracts.{ExportPnmlAllows}
+use Rattle.export.proofs.Promises.{complements-exportable}
+use Rattle.import.specs.declared.Imported.{Imported}
+use Rattle.import.specs.Imports.{singles, importedSheet}
+use Rattle.import.specs.Imports as importing
+use Rattle.import.specs.Promises.{Small}
+use Rattle.import.specs.Contracts.{ImportPnmlAllows}
+use Rattle.import.proofs.Singles.{size-is}
+use Rattle.import.proofs.Promises.{imports-exactly}
 use Rattle.audit.specs.Audits as auditing
 use Rattle.audit.specs.Audits.{auditingRefusal}
 use Rattle.audit.proofs.Answers.{told-found}
@@ -78,7 +93,9 @@ use Rattle.salvage.proofs.Answers.{kept-part, first-length, roomy}
 use Rattle.salvage.proofs.Promises.{all-considered, same-modes, not-damaged}
 use Rattle.promises.specs.OwnExample.{example, RunsTo, SalvagesTo, OwnExample}
 use Rattle.promises.specs.OwnExample as own
+use Rattle.promises.specs.Exchange.{ExportAnswers}
 use Rattle.statement.specs.Example as sheets
+use Rattle.promises.proofs.Exchange.{exports}
 
 start-accepted : markingRefusal example (3 ∷ 0 ∷ []) ≡ none
 unfolding markingRefusal first _▸_
@@ -376,6 +393,42 @@ salvage-allows o a =
           ∙ take-at own.three (drop 11 own.room) 11 refl;
     }
 
+-- its complement in PNML: the text is computed from the net, whose K and I are all unbounded
+printed-is : complement example ≡ ownExample .printed
+unfolding isDead deadPair first _▸_ complement arcsOf newPlaces complementRow bounded joined entryAt
+printed-is = refl
+
+pub printed-exportable : Exportable (ownExample .printed)
+printed-exportable =
+    let c = demand3 example (record { wellFormed = well-formed; offset = λ k. 0; accepted = complement-passes (λ k. 0) }) in
+    subst Exportable printed-is (complements-exportable example (c .isNet))
+
+printed-back : ReadBack One (ownExample .printed)
+printed-back = written-then-read One (ownExample .printed) (printed-exportable .wellFormed) (λ _. refl)
+
+printed-text : pnml (ownExample .printed) ≡ own.text
+unfolding opening closing three placeText transitionText weightText preText postText arcText modeText body pnml joined ofMode flatMap decimal decimalWithin
+printed-text = refl
+
+export-allows : (o : Exported × List ℕ) → ExportPnmlAllows own.complementNet (replicate 887 0) o → (exporting.told (o .0) ≡ yields 887) × (o .1 ≡ own.text)
+unfolding opening closing
+export-allows o a =
+    let same = printed-back .same in
+    let e = subst (λ t. ExportAnswers t (replicate 887 0) o) (ap pnml same ∙ printed-text) (exports own.complementNet _ o a (printed-back .accepted) (rw same printed-exportable)) in
+    let w = e .written (omega arith) in
+    (w .0, w .1 ∙ append-nil own.text)
+
+singles-printed : singles (ownExample .printed) ≡ ownExample .printed
+singles-printed = refl
+
+import-allows : (o : Imported × List ℕ) → ImportPnmlAllows own.text own.room o → (importing.told (o .0) ≡ yields 91) × (o .1 ≡ own.complementNet)
+import-allows o a =
+    let net = ownExample .printed in
+    let small : Small net = record { exportable = printed-exportable; pairs = omega arith; modes = omega arith } in
+    let size : length (importedSheet net) ≡ 91 = omega (arith, size-is net printed-exportable (omega arith) (omega arith)) in
+    let y = imports-exactly .all net small own.room (omega (arith, size)) o (subst (λ t. ImportPnmlAllows t own.room o) (sym printed-text) a) in
+    (ap importing.told (y .0) ∙ ap yields size, y .1 ∙ ap (λ n. importedSheet net ++ drop n own.room) size ∙ append-nil (importedSheet net) ∙ ap (sheetOf One) singles-printed)
+
 pub own-example : OwnExample
 unfolding figured entered withVoyage
 own-example =
@@ -398,5 +451,7 @@ own-example =
       firstDead = λ o a. ap first.told a ∙ rw (read-back .accepted, read-back .same, none-dead);
       size = λ o a. ap sizing.told a ∙ rw (read-back .accepted, read-back .same);
       complement = λ o a. ap complementing.told (a .0) ∙ rw (complement-accepted, read-back .version, read-back .same, complement-length);
+      exportPnml = export-allows;
+      importPnml = import-allows;
       audit = λ o a. ap auditing.told a ∙ told-found _ audit-accepted ∙ rw (read-back .same) (ap yields left-aboard);
     }

@@ -31,6 +31,8 @@ use Rattle.convert.proofs.Promises.{source-only, converted-reads, there-and-bac
 use Rattle.strip.proofs.Promises.{stripped-reads}
 use Rattle.strip.proofs.Bare.{bare-after}
 use Rattle.strip.proofs.OldModes.{old-modes, no-new-dead}
+use Rattle.export.proofs.Promises.{exports-exactly, complements-exportable}
+use Rattle.import.proofs.Promises.{refused-exactly, imports-exactly, imported-reads}
 use Rattle.written.proofs.Largest.{largest-sheet, example-lengths}
 use Rattle.fire.proofs.Promises.{accepted-begin, accepted-fire, marking-stays}
 use Rattle.run.proofs.Promises.{runs-leave, runs-keep, certified}
@@ -51,6 +53,7 @@ use Rattle.promises.proofs.DeadAsWritten.{dead-as-written}
 use Rattle.promises.proofs.TwoOrders.{two-orders}
 use Rattle.promises.proofs.Audits.{audits}
 use Rattle.promises.proofs.Stripping.{stripping}
+use Rattle.promises.proofs.Exchange.{export-then-import, import-then-export, complement-then-export}
 use Rattle.promises.proofs.FigureOverRun.{figure-over-run}
 use Rattle.promises.proofs.ArcsVisited.{arcs-visited}
 use Rattle.promises.proofs.LiveModes.{live-modes}
@@ -149,6 +152,14 @@ promises =
       thereAndBack = there-and-back;
       strippedReads = stripped-reads;
       stripping = stripping;
+      exportsExactly = exports-exactly;
+      complementsExportable = complements-exportable;
+      refusedExactly = refused-exactly;
+      importsExactly = imports-exactly;
+      importedReads = imported-reads;
+      exportThenImport = export-then-import;
+      importThenExport = import-then-export;
+      complementThenExport = complement-then-export;
       listWrittenThenRead = list-written-then-read;
       listReadThenWritten = list-read-then-written;
       salvagedRuns = salvaged-runs;

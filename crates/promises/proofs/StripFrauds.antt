@@ -3,11 +3,9 @@ use Prim.Native.Nat.{ℕ, _+_}
 use mathlib.Core.Path.{_≡_, refl, sym, _∙_, ap, subst}
 use mathlib.Core.List.{List}
 use mathlib.Core.Logic.{_≢_}
-use mathlib.Core.Option.{Option, none, some}
 use lib.ListN.{length, take, drop}
 use native.Mathlib.Omega.{arith}
 use Rattle.model.specs.declared.Pair.{Pair}
-use Rattle.model.specs.declared.Refusal.{Refusal}
 use Rattle.model.specs.Nets.{K}
 use Rattle.model.specs.WellFormed.{WellFormed}
 use Rattle.model.specs.Replies.{yields}
@@ -25,14 +23,9 @@ use Rattle.strip.specs.Stripped.{strippedNet, strippedSheet, strippingRefusal, 
 use Rattle.strip.proofs.Arcs.{transitions-many}
 use Rattle.strip.proofs.Promises.{has-sheet}
 use Rattle.promises.specs.Frauds.{StripFrauds}
-use Rattle.promises.proofs.Accepting.{number-none}
+use Rattle.promises.proofs.Accepting.{unrefused}
 use Rattle.promises.proofs.CopiesNet.{same-transitions}
 use Rattle.promises.proofs.StripWritten.{whole-before, output-is, sheet-there, sheet-reads}
-
--- a call that answers number 0 answers the sheet's length
-length-yields : (o : Option Refusal) (l : ℕ) → told (stripped o l) .carried .number ≡ 0 → told (stripped o l) ≡ yields l
-length-yields none l e = refl
-length-yields (some r) l e = let z = number-none (some r) e in let y : _≡_ {A = ℕ} 0 1 = cc in absurd (omega arith)
 
 module _ (net : List ℕ) (p : Pair) (out : List ℕ) (n : ℕ) (e : told (strippedOf net p out) ≡ yields n) where
   one-more : length (strippedNet net p .modesOf) ≡ length (netOf net .modesOf) + 1
@@ -62,7 +55,8 @@ pub strip-frauds : StripFrauds
 strip-frauds =
     record {
       copied = λ net p out o allows accepted q.
-          let e = length-yields (strippingRefusal net p (length out)) (length (strippedSheet net p)) (sym (ap (λ c. told c .carried .number) (allows .0)) ∙ accepted) in
-          not-copied net p out (length (strippedSheet net p)) e (ap (take (length net)) (sym (allows .1)) ∙ q);
+          let l = length (strippedSheet net p) in
+          let e = unrefused (λ o. told (stripped o l)) l refl (λ r. refl) (strippingRefusal net p (length out)) (sym (ap (λ c. told c .carried .number) (allows .0)) ∙ accepted) in
+          not-copied net p out l (ap (λ o. told (stripped o l)) e) (ap (take (length net)) (sym (allows .1)) ∙ q);
       sameNet = λ net p out o n allows e q. another-net net p out n (sym (ap told (allows .0)) ∙ e) (ap (λ left. netOf (take n left)) (sym (allows .1)) ∙ q);
     }

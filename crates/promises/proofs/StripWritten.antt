@@ -2,11 +2,10 @@
 use Prim.Native.Nat.{ℕ}
 use mathlib.Core.Path.{_≡_, refl, sym, _∙_, ap}
 use mathlib.Core.List.{List, _++_}
-use mathlib.Core.Option.{Option, none, some, Option·none-ne-some}
+use mathlib.Core.Option.{none}
 use lib.ListN.{length, take, drop}
 use lib.Seq.{take-at, drop-at}
 use Rattle.model.specs.declared.Pair.{Pair}
-use Rattle.model.specs.declared.Refusal.{Refusal}
 use Rattle.model.specs.Replies.{yields}
 use Rattle.model.proofs.First.{left-none, right-none}
 use Rattle.sheets.specs.Whole.{wholeNet}
@@ -15,20 +14,20 @@ use Rattle.strip.specs.Strip.{stripRefusal}
 use Rattle.strip.specs.Stripped.{strippedSheet, roomRefusal, strippingRefusal, stripped, told, output, strippedOf, outputOf}
 use Rattle.strip.specs.Promises.{StripReads}
 use Rattle.strip.proofs.Promises.{stripped-reads}
-
-length-told : (o : Option Refusal) (l : ℕ) {n : ℕ} → told (stripped o l) ≡ yields n → (o ≡ none) × (n ≡ l)
-length-told none l {n} e = let v : some l ≡ some n = ap (λ r. r .value) e in (refl, cc)
-length-told (some r) l {n} e = let v : none ≡ some n = ap (λ r. r .value) e in absurd (Option·none-ne-some n v)
+use Rattle.promises.proofs.Accepting.{yielded}
 
 module _ (net : List ℕ) (p : Pair) (out : List ℕ) (n : ℕ) (e : told (strippedOf net p out) ≡ yields n) where
   abbrev sheet : List ℕ
   sheet = strippedSheet net p
 
+  told-length : (strippingRefusal net p (length out) ≡ none) × (n ≡ length sheet)
+  told-length = yielded (λ o. told (stripped o (length sheet))) (length sheet) refl (λ r. refl) (strippingRefusal net p (length out)) e
+
   none-refused : strippingRefusal net p (length out) ≡ none
-  none-refused = length-told (strippingRefusal net p (length out)) (length sheet) e .0
+  none-refused = told-length .0
 
   size : n ≡ length sheet
-  size = length-told (strippingRefusal net p (length out)) (length sheet) e .1
+  size = told-length .1
 
   pub whole-before : wholeNet net ≡ none
   unfolding strippingRefusal

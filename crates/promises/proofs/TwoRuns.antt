@@ -23,12 +23,12 @@ use Rattle.run.specs.Calls.{runOf, beforeRun}
 use Rattle.complement.specs.Complemented.{told, complemented, complementingRefusal, complementOf}
 use Rattle.promises.specs.DemandThree.{asWritten, WrittenComplement}
 use Rattle.promises.specs.TwoRuns.{RunsAgree, TwoRuns}
+use Rattle.promises.proofs.Accepting.{yielded}
 use Rattle.promises.proofs.DemandThree.{complementable, over-bytes}
 
 -- a call that answers a length was accepted
 pub length-accepted : (o : Option Refusal) (l : ℕ) {n : ℕ} → told (complemented o l) ≡ yields n → o ≡ none
-length-accepted none l e = refl
-length-accepted (some r) l {n} e = let v : none ≡ some n = ap (λ r. r .value) e in absurd (Option·none-ne-some n v)
+length-accepted o l e = yielded (λ o. told (complemented o l)) l refl (λ r. refl) o e .0
 
 -- two answers of one length
 length-is : {l n : ℕ} → yields l ≡ yields n → l ≡ n

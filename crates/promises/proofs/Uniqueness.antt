@@ -1,5 +1,11 @@
--- A contract that is an equation, or one for the answer and one for the lent slice, allows one outcome.
-use mathlib.Core.Path.{_≡_, sym, _∙_, ap₂}
+-- A contract that is an equation, or one for the answer and one for the lent slice, allows one outcome; so does that of an import, of which each case excludes the other.
+use Prim.Native.Nat.{ℕ}
+use mathlib.Core.Path.{_≡_, refl, sym, _∙_, ap, ap₂}
+use mathlib.Core.List.{List}
+use Rattle.import.specs.Imports.{told}
+use Rattle.import.proofs.Promises.{import-once}
+use Rattle.answers.specs.Told.{counted}
+use Rattle.abi.specs.Contracts as c
 use Rattle.promises.specs.Uniqueness.{Unique, UniqueForC, Uniqueness}
 
 one-answer : {A : Type 0} (given : A) → Unique (λ o. o ≡ given)
@@ -7,6 +13,12 @@ one-answer given o o′ e e′ = e ∙ sym e′
 
 answer-and-slice : {A B : Type 0} (given : A) (left : B) → Unique {A = A × B} (λ o. (o .0 ≡ given) × (o .1 ≡ left))
 answer-and-slice {A} {B} given left o o′ e e′ = ap₂ {C = A × B} (λ a b. (a, b)) (e .0 ∙ sym (e′ .0)) (e .1 ∙ sym (e′ .1))
+
+-- C is told an answer of the library's, and left its slice
+import-for-c : (text out : List ℕ) → Unique (c.ImportPnmlAllows text out)
+import-for-c text out o o′ e e′ =
+    let same = import-once text out (e .0, o .1) (e′ .0, o′ .1) (e .1) (e′ .1) in
+    answer-and-slice (counted (told (e′ .0))) (o′ .1) o o′ (e .2 ∙ ap (λ x. counted (told (x .0))) same, ap (λ x. x .1) same) (e′ .2, refl)
 
 for-c : UniqueForC
 for-c =
@@ -32,6 +44,8 @@ for-c =
       toVersion2 = λ net out. answer-and-slice _ _;
       toVersion1 = λ net out. answer-and-slice _ _;
       strip = λ net p out. answer-and-slice _ _;
+      exportPnml = λ net out. answer-and-slice _ _;
+      importPnml = import-for-c;
       audit = λ net marking beside. one-answer _;
       salvage = λ net damaged out. answer-and-slice _ _;
       statement = λ input out. answer-and-slice _ _;
@@ -67,6 +81,8 @@ uniqueness =
       toVersion2 = λ net out. answer-and-slice _ _;
       toVersion1 = λ net out. answer-and-slice _ _;
       strip = λ net p out. answer-and-slice _ _;
+      exportPnml = λ net out. answer-and-slice _ _;
+      importPnml = import-once;
       audit = λ net marking beside. one-answer _;
       salvage = λ net damaged out. answer-and-slice _ _;
       putBytes = λ out at bytes. answer-and-slice _ _;

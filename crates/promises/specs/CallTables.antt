@@ -23,7 +23,7 @@ use Rattle.heads.specs.Layout.{bodyLength, sheetEnd, version}
 use Rattle.sheets.specs.Whole.{wholeNet, wholeWeights, wholeMovements}
 use Rattle.sheets.specs.Decoded.{netOf, weightsOf, movementsOf}
 use Rattle.sheets.specs.RefusalTables.{headTable, netTable, weightTable, movementTable, SheetTables}
-use Rattle.opened.specs.Shape.{arcOffset}
+use Rattle.opened.specs.Shape.{arcOffset, inhibitorOffset}
 use Rattle.written.specs.Written.{versionNumber}
 use Rattle.fire.specs.Calls.{beginRefusal, testRefusal}
 use Rattle.run.specs.Calls.{beforeRun, runOf, certifyRefusal}
@@ -38,6 +38,8 @@ use Rattle.complement.specs.Complemented.{complementSheet, complementingRefusal
 use Rattle.convert.specs.Converted.{convertedSheet, convertRefusal}
 use Rattle.strip.specs.Strip.{boundOf}
 use Rattle.strip.specs.Stripped.{strippedNet, strippedSheet, strippingRefusal}
+use Rattle.export.specs.Exports.{capacityOffset, exportText, exportRefusal}
+use Rattle.import.specs.RefusalTable.{ImportTable}
 use Rattle.audit.specs.Audits.{auditingRefusal}
 use Rattle.salvage.specs.Salvaged.{freshSheet, modesIn, trial, salvageRefusal}
 
@@ -192,6 +194,15 @@ module _ (net : List ℕ) where
       ⊎ (room < length (strippedSheet net p)))
       (carries 10 0 0)
 
+  -- an export: "the net's, 19 at the first finite K or I, 10 for a short output"; all K first, then the I of the arcs as they stand
+  abbrev pub exportTable : ℕ → Table
+  exportTable room =
+      wholeNetTable net
+      then each (pairs (netOf net)) (λ p. row ((k : ℕ) × (K (netOf net) p ≡ fin k)) (carries 19 0 (capacityOffset net p)))
+      then each (length (netOf net .arcs)) (λ k.
+      row ((i : ℕ) × (arcNo (netOf net .arcs) k .entry .inhibitor ≡ fin i)) (carries 19 0 (inhibitorOffset net k)))
+      then row (room < length (exportText net)) (carries 10 0 0)
+
   -- an audit: what complementing refuses where there is room for its sheet, "then 17 for the marking and 17 for the complement's marking"
   abbrev pub auditTable : List ℕ → List ℕ → Table
   auditTable marking beside =
@@ -258,5 +269,8 @@ pub record CallTables : Type 0 where
   pub toVersion2 : (net : List ℕ) (room : ℕ) → Reads (convertTable net One Two room) (convertRefusal One Two net room)
   pub toVersion1 : (net : List ℕ) (room : ℕ) → Reads (convertTable net Two One room) (convertRefusal Two One net room)
   pub strip : (net : List ℕ) (p : Pair) (room : ℕ) → Reads (stripTable net p room) (strippingRefusal net p room)
+  pub exportPnml : (net : List ℕ) (room : ℕ) → Reads (exportTable net room) (exportRefusal net room)
+  -- the text is whatever an import is given: its refusal is that of any outcome that the contract allows
+  pub importPnml : ImportTable
   pub audit : (net marking beside : List ℕ) → Reads (auditTable net marking beside) (auditingRefusal net marking beside)
   pub salvage : (net damaged : List ℕ) → SalvageReads net damaged

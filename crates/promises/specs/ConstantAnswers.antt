@@ -30,6 +30,10 @@ use Rattle.convert.specs.Converted as converting
 use Rattle.convert.specs.Contracts.{ToVersion1Allows, ToVersion2Allows}
 use Rattle.strip.specs.Stripped as stripping
 use Rattle.strip.specs.Contracts.{StripAllows}
+use Rattle.export.specs.Exports as exporting
+use Rattle.export.specs.Contracts.{ExportPnmlAllows}
+use Rattle.import.specs.Imports as importing
+use Rattle.import.specs.Contracts.{ImportPnmlAllows}
 use Rattle.audit.specs.Audits as auditing
 use Rattle.audit.specs.Contracts.{AuditAllows}
 use Rattle.salvage.specs.Salvaged as salvaging
@@ -96,6 +100,8 @@ pub record ConstantAnswers : Type 0 where
   pub toVersion2 : Varies (λ (i : List ℕ × List ℕ). ToVersion2Allows (i .0) (i .1)) (λ o. converting.told (o .0) .carried .number)
   pub toVersion1 : Varies (λ (i : List ℕ × List ℕ). ToVersion1Allows (i .0) (i .1)) (λ o. converting.told (o .0) .carried .number)
   pub strip : Varies (λ (i : List ℕ × Pair × List ℕ). StripAllows (i .0) (i .1) (i .2)) (λ o. stripping.told (o .0) .carried .number)
+  pub exportPnml : Varies (λ (i : List ℕ × List ℕ). ExportPnmlAllows (i .0) (i .1)) (λ o. exporting.told (o .0) .carried .number)
+  pub importPnml : Varies (λ (i : List ℕ × List ℕ). ImportPnmlAllows (i .0) (i .1)) (λ o. importing.told (o .0) .carried .number)
   pub audit : Varies (λ (i : List ℕ × List ℕ × List ℕ). AuditAllows (i .0) (i .1) (i .2)) (λ o. auditing.told o .carried .number)
   pub salvage : Varies (λ (i : List ℕ × List ℕ × List ℕ). SalvageAllows (i .0) (i .1) (i .2)) (λ o. salvaging.told (o .0) .carried .number)
   pub putBytes : Varies (λ (i : List ℕ × ℕ × List ℕ). PutBytesAllows (i .0) (i .1) (i .2)) (λ o. full (o .0))

@@ -29,6 +29,8 @@ pub record ConstantAnswersForC : Type 0 where
   pub toVersion2 : Varies (λ (i : List ℕ × List ℕ). c.ToVersion2Allows (i .0) (i .1)) (λ o. o .0 .answer .number)
   pub toVersion1 : Varies (λ (i : List ℕ × List ℕ). c.ToVersion1Allows (i .0) (i .1)) (λ o. o .0 .answer .number)
   pub strip : Varies (λ (i : List ℕ × Pair × List ℕ). c.StripAllows (i .0) (i .1) (i .2)) (λ o. o .0 .answer .number)
+  pub exportPnml : Varies (λ (i : List ℕ × List ℕ). c.ExportPnmlAllows (i .0) (i .1)) (λ o. o .0 .answer .number)
+  pub importPnml : Varies (λ (i : List ℕ × List ℕ). c.ImportPnmlAllows (i .0) (i .1)) (λ o. o .0 .answer .number)
   pub audit : Varies (λ (i : List ℕ × List ℕ × List ℕ). c.AuditAllows (i .0) (i .1) (i .2)) (λ o. o .answer .number)
   pub salvage : Varies (λ (i : List ℕ × List ℕ × List ℕ). c.SalvageAllows (i .0) (i .1) (i .2)) (λ o. o .0 .answer .number)
   pub statement : Varies (λ (i : List ℕ × List ℕ). c.StatementAllows (i .0) (i .1)) (λ o. o .0 .answer .number)

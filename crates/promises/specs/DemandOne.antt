@@ -26,6 +26,12 @@ use Rattle.convert.specs.Contracts.{ToVersion1Allows, ToVersion2Allows}
 use Rattle.strip.specs.declared.Stripped.{Stripped}
 use Rattle.strip.specs.Stripped as stripping
 use Rattle.strip.specs.Contracts.{StripAllows}
+use Rattle.export.specs.declared.Exported.{Exported}
+use Rattle.export.specs.Exports as exporting
+use Rattle.export.specs.Contracts.{ExportPnmlAllows}
+use Rattle.import.specs.declared.Imported.{Imported}
+use Rattle.import.specs.Imports as importing
+use Rattle.import.specs.Contracts.{ImportPnmlAllows}
 use Rattle.salvage.specs.declared.Salvaged.{Salvaged}
 use Rattle.salvage.specs.Salvaged as salvaging
 use Rattle.salvage.specs.Contracts.{SalvageAllows}
@@ -55,6 +61,8 @@ pub record DemandOne : Type 0 where
   pub toVersion2 : (net out : List ℕ) (o : Converted × List ℕ) → ToVersion2Allows net out o → converting.told (o .0) .carried .number ≢ 0 → o .1 ≡ out
   pub toVersion1 : (net out : List ℕ) (o : Converted × List ℕ) → ToVersion1Allows net out o → converting.told (o .0) .carried .number ≢ 0 → o .1 ≡ out
   pub strip : (net : List ℕ) (p : Pair) (out : List ℕ) (o : Stripped × List ℕ) → StripAllows net p out o → stripping.told (o .0) .carried .number ≢ 0 → o .1 ≡ out
+  pub exportPnml : (net out : List ℕ) (o : Exported × List ℕ) → ExportPnmlAllows net out o → exporting.told (o .0) .carried .number ≢ 0 → o .1 ≡ out
+  pub importPnml : (text out : List ℕ) (o : Imported × List ℕ) → ImportPnmlAllows text out o → importing.told (o .0) .carried .number ≢ 0 → o .1 ≡ out
   pub salvage : (net damaged out : List ℕ) (o : Salvaged × List ℕ) → SalvageAllows net damaged out o → salvaging.told (o .0) .carried .number ≢ 0 → o .1 ≡ out
   -- the exception; with none accepted the marking is as it was
   pub run : (net movements marking : List ℕ) (o : Ran × List ℕ) → RunAllows net movements marking o → Refused (o .0 .answer)
@@ -75,6 +83,8 @@ pub record DemandOneForC : Type 0 where
   pub toVersion2 : (net out : List ℕ) (o : Counted × List ℕ) → forC.ToVersion2Allows net out o → o .0 .answer .number ≢ 0 → o .1 ≡ out
   pub toVersion1 : (net out : List ℕ) (o : Counted × List ℕ) → forC.ToVersion1Allows net out o → o .0 .answer .number ≢ 0 → o .1 ≡ out
   pub strip : (net : List ℕ) (p : Pair) (out : List ℕ) (o : Counted × List ℕ) → forC.StripAllows net p out o → o .0 .answer .number ≢ 0 → o .1 ≡ out
+  pub exportPnml : (net out : List ℕ) (o : Counted × List ℕ) → forC.ExportPnmlAllows net out o → o .0 .answer .number ≢ 0 → o .1 ≡ out
+  pub importPnml : (text out : List ℕ) (o : Counted × List ℕ) → forC.ImportPnmlAllows text out o → o .0 .answer .number ≢ 0 → o .1 ≡ out
   pub salvage : (net damaged out : List ℕ) (o : Reported × List ℕ) → forC.SalvageAllows net damaged out o → o .0 .answer .number ≢ 0 → o .1 ≡ out
   pub statement : (input out : List ℕ) (o : Counted × List ℕ) → forC.StatementAllows input out o → o .0 .answer .number ≢ 0 → o .1 ≡ out
   pub run : (net movements marking : List ℕ) (o : Tallied × List ℕ) → forC.RunAllows net movements marking o → o .0 .answer .number ≢ 0

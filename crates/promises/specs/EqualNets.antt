@@ -4,13 +4,12 @@ use Prim.Native.Nat.{ℕ, _≤_, _<_}
 use mathlib.Core.Path.{_≡_}
 use mathlib.Core.List.{List, _++_}
 use mathlib.Core.Logic.{_≢_}
-use mathlib.Core.Option.{Option, none}
+use mathlib.Core.Option.{none}
 use lib.ListN.{length, take}
 use Rattle.model.specs.declared.Pair.{Pair}
 use Rattle.model.specs.declared.Mode.{Mode}
 use Rattle.model.specs.Refusals.{Carried}
 use Rattle.model.specs.Replies.{Reply, yields}
-use Rattle.model.specs.Audit.{Finding}
 use Rattle.heads.specs.Bytes.{byteAt}
 use Rattle.nets.specs.Contracts.{ReadNetAllows}
 use Rattle.sheets.specs.Whole.{wholeNet}
@@ -31,6 +30,9 @@ use Rattle.complement.specs.Contracts.{ComplementAllows}
 use Rattle.strip.specs.declared.Stripped.{Stripped}
 use Rattle.strip.specs.Stripped as stripping
 use Rattle.strip.specs.Contracts.{StripAllows}
+use Rattle.export.specs.declared.Exported.{Exported}
+use Rattle.export.specs.Exports as exporting
+use Rattle.export.specs.Contracts.{ExportPnmlAllows}
 use Rattle.audit.specs.declared.Found.{Found}
 use Rattle.audit.specs.Audits as auditing
 use Rattle.audit.specs.Contracts.{AuditAllows}
@@ -47,12 +49,12 @@ pub record OneNet (a b : List ℕ) : Type 0 where
 abbrev pub Within : {A : Type 0} → (A → Type 0) → (A → Type 0) → Type 0
 Within {A} One Other = (o : A) → One o → Other o
 
--- "offsets in the net sheet": of a sheet that is accepted 15 alone names one, that of an arc
+-- "offsets in the net sheet": of a sheet that is accepted 15 names one, that of an arc, and 19 one, that of a K or an I
 pub record OffsetAside (x y : Carried) : Type 0 where
   pub number : x .number ≡ y .number
   pub thing : x .thing ≡ y .thing
   pub amount : x .amount ≡ y .amount
-  pub position : x .number ≢ 15 → x .position ≡ y .position
+  pub position : x .number ≢ 15 → x .number ≢ 19 → x .position ≡ y .position
 
 -- "refusal 10 for a short output" aside: an output slice that the complement's sheet fits into
 abbrev pub Fits : List ℕ → List ℕ → Type 0
@@ -71,8 +73,8 @@ pub record StripsAlike (o o′ : Stripped × List ℕ) : Type 0 where
   pub carried : stripping.told (o .0) .carried ≡ stripping.told (o′ .0) .carried
   pub written : (n n′ : ℕ) → stripping.told (o .0) ≡ yields n → stripping.told (o′ .0) ≡ yields n′ → OneNet (take n (o .1)) (take n′ (o′ .1))
 
--- an audit passes on what complementing refuses, and finds the same
-pub record AuditsAlike (r r′ : Reply (Option Finding)) : Type 0 where
+-- such an offset aside the same is told: an audit passes on what complementing refuses, and finds the same; an export has the same length
+pub record RepliesAlike {A : Type 0} (r r′ : Reply A) : Type 0 where
   pub carried : OffsetAside (r .carried) (r′ .carried)
   pub value : r .value ≡ r′ .value
 
@@ -105,12 +107,15 @@ pub record Alike (a b : List ℕ) : Type 0 where
   pub size : Within (SizeAllows a) (SizeAllows b)
   -- the sheet written is a movement sheet, the same to the byte
   pub salvage : (damaged out : List ℕ) → Within (SalvageAllows a damaged out) (SalvageAllows b damaged out)
+  -- a text in PNML says neither version nor rule: it is the same to the byte
+  pub exportPnml : (out : List ℕ) (o o′ : Exported × List ℕ) → ExportPnmlAllows a out o → ExportPnmlAllows b out o′
+      → RepliesAlike (exporting.told (o .0)) (exporting.told (o′ .0)) × (o .1 ≡ o′ .1)
   pub complement : (out out′ : List ℕ) (o o′ : Complemented × List ℕ) → Fits a out → Fits b out′
       → ComplementAllows a out o → ComplementAllows b out′ o′ → ComplementsAlike o o′
   pub strip : (p : Pair) (out out′ : List ℕ) (o o′ : Stripped × List ℕ) → StripFits a p out → StripFits b p out′
       → StripAllows a p out o → StripAllows b p out′ o′ → StripsAlike o o′
   pub audit : (marking beside : List ℕ) (o o′ : Found) → AuditAllows a marking beside o → AuditAllows b marking beside o′
-      → AuditsAlike (auditing.told o) (auditing.told o′)
+      → RepliesAlike (auditing.told o) (auditing.told o′)
   pub before : (more : List ℕ) → Bytes a → Bytes b → AlikeBefore a b more
 
 abbrev pub EqualNets : Type 0

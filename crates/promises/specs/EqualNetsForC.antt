@@ -23,6 +23,12 @@ pub record FindingsAlike (o o′ : Audited) : Type 0 where
   pub pair : o .pair ≡ o′ .pair
   pub excess : o .excess ≡ o′ .excess
 
+-- a text in PNML, its length and what is left of the slice
+pub record TextsAlike (o o′ : Counted × List ℕ) : Type 0 where
+  pub answer : OffsetAside (carriedToC (o .0 .answer)) (carriedToC (o′ .0 .answer))
+  pub length : o .0 .value ≡ o′ .0 .value
+  pub text : o .1 ≡ o′ .1
+
 pub record AlikeForC (a b : List ℕ) : Type 0 where
   pub begin : (marking : List ℕ) → Within (c.BeginAllows a marking) (c.BeginAllows b marking)
   pub test : (marking : List ℕ) (t : Mode) → Within (c.TestAllows a marking t) (c.TestAllows b marking t)
@@ -39,6 +45,7 @@ pub record AlikeForC (a b : List ℕ) : Type 0 where
   pub firstDead : Within (c.FirstDeadAllows a) (c.FirstDeadAllows b)
   pub size : Within (c.SizeAllows a) (c.SizeAllows b)
   pub salvage : (damaged out : List ℕ) → Within (c.SalvageAllows a damaged out) (c.SalvageAllows b damaged out)
+  pub exportPnml : (out : List ℕ) (o o′ : Counted × List ℕ) → c.ExportPnmlAllows a out o → c.ExportPnmlAllows b out o′ → TextsAlike o o′
   -- the output slice is left as the library's call leaves it
   pub complement : (out out′ : List ℕ) (o o′ : Counted × List ℕ) → Fits a out → Fits b out′
       → c.ComplementAllows a out o → c.ComplementAllows b out′ o′ → OffsetAside (carriedToC (o .0 .answer)) (carriedToC (o′ .0 .answer))

@@ -1,5 +1,5 @@
 -- The fleet statement of the calls (document 02, P13): "from a record of zeros and with each ship given the record as the one before left it".
-use Prim.Native.Nat.{ℕ, _≤_}
+use Prim.Native.Nat.{_≤_}
 use mathlib.Core.Path.{_≡_}
 use mathlib.Core.List.{List, [], _∷_}
 use mathlib.Core.Logic.{_≢_}

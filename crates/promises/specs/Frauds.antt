@@ -1,7 +1,7 @@
 -- "These frauds are shown to break it." Each is excluded by the contract that the call's source states.
 use Prim.Native.Nat.{ℕ, _+_, _≤_, _<_}
 use mathlib.Core.Path.{_≡_}
-use mathlib.Core.List.{List, [], _∷_, map}
+use mathlib.Core.List.{List, [], _∷_, _++_, map}
 use mathlib.Core.Logic.{_↔_, _≢_}
 use mathlib.Core.Option.{none}
 use lib.IntN.{negsuc}
@@ -42,6 +42,13 @@ use Rattle.convert.specs.Contracts.{ToVersion1Allows, ToVersion2Allows}
 use Rattle.strip.specs.declared.Stripped.{Stripped}
 use Rattle.strip.specs.Stripped as stripping
 use Rattle.strip.specs.Contracts.{StripAllows}
+use Rattle.pnml.specs.Pnml.{opening, closing}
+use Rattle.export.specs.declared.Exported.{Exported}
+use Rattle.export.specs.Exports as exporting
+use Rattle.export.specs.Contracts.{ExportPnmlAllows}
+use Rattle.import.specs.declared.Imported.{Imported}
+use Rattle.import.specs.Imports as importing
+use Rattle.import.specs.Contracts.{ImportPnmlAllows}
 use Rattle.audit.specs.declared.Found.{Found}
 use Rattle.audit.specs.declared.Found.the-variants.{Nothing}
 use Rattle.audit.specs.Audits as audits
@@ -82,6 +89,15 @@ pub record StripFrauds : Type 0 where
       → take (length net) (o .1) ≢ net
   pub sameNet : (net : List ℕ) (p : Pair) (out : List ℕ) (o : Stripped × List ℕ) (n : ℕ) → StripAllows net p out o → stripping.told (o .0) ≡ yields n
       → netOf (take n (o .1)) ≢ netOf net
+
+-- An export of the opening and the closing text alone; an import that answers 20 to all, though export wrote the text, or that names one position always (document 02, P5).
+pub record ExchangeFrauds : Type 0 where
+  pub emptyPage : (net out : List ℕ) (o : Exported × List ℕ) (n : ℕ) → ExportPnmlAllows net out o → exporting.told (o .0) ≡ yields n
+      → take n (o .1) ≢ opening ++ closing
+  pub noneRead : (net out : List ℕ) (o : Exported × List ℕ) (n : ℕ) → ExportPnmlAllows net out o → exporting.told (o .0) ≡ yields n
+      → (out′ : List ℕ) (o′ : Imported × List ℕ) → ImportPnmlAllows (take n (o .1)) out′ o′ → importing.told (o′ .0) .carried .number ≢ 20
+  pub onePosition : NotConstant (λ (i : List ℕ × List ℕ). ImportPnmlAllows (i .0) (i .1)) (λ o. importing.told (o .0) .carried .position)
+  pub onePositionForC : NotConstant (λ (i : List ℕ × List ℕ). c.ImportPnmlAllows (i .0) (i .1)) (λ o. o .0 .answer .position)
 
 -- what the modes of a list take from pair p in all, and what they give
 unfoldable pub taken : PNet → List Mode → ℕ → ℕ
@@ -165,6 +181,7 @@ pub record Frauds : Type 0 where
   pub copying : CopiesNet
   pub converting : CopiesSheet
   pub stripping : StripFrauds
+  pub exchanging : ExchangeFrauds
   pub running : RunFrauds
   pub visiting : VisitFrauds
   pub stepping : FirstMemberAlone

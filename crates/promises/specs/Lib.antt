@@ -15,6 +15,7 @@ pub mod Uniqueness
 pub mod EqualNets
 pub mod EqualNetsForC
 pub mod Stripping
+pub mod Exchange
 pub mod OwnExample
 pub mod ConstantAnswers
 pub mod ConstantAnswersForC

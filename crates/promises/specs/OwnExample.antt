@@ -2,7 +2,7 @@
 use Prim.Native.Nat.{ℕ}
 use mathlib.Core.Path.{_≡_}
 use mathlib.Core.Bool.{false}
-use mathlib.Core.List.{List, [], _∷_}
+use mathlib.Core.List.{List, [], _∷_, _++_}
 use mathlib.Core.Option.{none, some}
 use lib.IntN.{pos, negsuc}
 use lib.ListN.{take, replicate}
@@ -35,6 +35,13 @@ use Rattle.size.specs.Contracts.{SizeAllows}
 use Rattle.complement.specs.declared.Complemented.{Complemented}
 use Rattle.complement.specs.Complemented as complementing
 use Rattle.complement.specs.Contracts.{ComplementAllows}
+use Rattle.pnml.specs.Pnml.{opening, closing}
+use Rattle.export.specs.declared.Exported.{Exported}
+use Rattle.export.specs.Exports as exporting
+use Rattle.export.specs.Contracts.{ExportPnmlAllows}
+use Rattle.import.specs.declared.Imported.{Imported}
+use Rattle.import.specs.Imports as importing
+use Rattle.import.specs.Contracts.{ImportPnmlAllows}
 use Rattle.audit.specs.declared.Found.{Found}
 use Rattle.audit.specs.Audits as auditing
 use Rattle.audit.specs.Contracts.{AuditAllows}
@@ -43,6 +50,7 @@ use Rattle.salvage.specs.declared.Salvaged.{Salvaged}
 use Rattle.salvage.specs.Salvaged as salvaging
 use Rattle.salvage.specs.Contracts.{SalvageAllows}
 use Rattle.statement.specs.Example.{weights, movements}
+use Rattle.text.specs.Ascii.{ascii}
 
 -- "two places, aboard (one colour, K 5, first 3) and ashore (one colour, unbounded, first 0); one transition of one mode; arcs 0,0 with Pre 1, Post 0, I 4
 -- and 0,1 with Pre 0, Post 1, I unbounded"
@@ -67,6 +75,26 @@ even = 0 ∷ 0 ∷ 0 ∷ 11 ∷ 1 ∷ 0 ∷ 2 ∷ 0 ∷ 0 ∷ 0 ∷ 1 ∷ 0 ∷ 
 -- a slice with room for the complement, which "has L = 87"
 abbrev pub room : List ℕ
 room = replicate 91 0
+
+-- its complement, with "first marking 3, 0, 2, and a third arc 0,2 with Pre 1, Post 2", as a sheet and as a text in PNML
+abbrev pub complementNet : List ℕ
+complementNet = sheetOf One (ownExample .printed)
+
+abbrev pub places : List ℕ
+places =
+    ascii "      <place id=\"p000\"><initialMarking><text>3</text></initialMarking></place>\n"
+    ++ ascii "      <place id=\"p001\"><initialMarking><text>0</text></initialMarking></place>\n"
+    ++ ascii "      <place id=\"p002\"><initialMarking><text>2</text></initialMarking></place>\n"
+
+abbrev pub arcs : List ℕ
+arcs =
+    ascii "      <arc id=\"i000-000\" source=\"p000\" target=\"t000\"><inscription><text>1</text></inscription></arc>\n"
+    ++ ascii "      <arc id=\"o000-001\" source=\"t000\" target=\"p001\"><inscription><text>1</text></inscription></arc>\n"
+    ++ ascii "      <arc id=\"i000-002\" source=\"p002\" target=\"t000\"><inscription><text>1</text></inscription></arc>\n"
+    ++ ascii "      <arc id=\"o000-002\" source=\"t000\" target=\"p002\"><inscription><text>2</text></inscription></arc>\n"
+
+abbrev pub text : List ℕ
+text = opening ++ places ++ ascii "      <transition id=\"t000\"/>\n" ++ arcs ++ closing
 
 pub record RunsTo (o : Ran × List ℕ) : Type 0 where
   pub accepted : o .0 .accepted ≡ 3
@@ -110,5 +138,8 @@ pub record OwnExample : Type 0 where
   -- two places of one colour, one mode, two arcs
   pub size : (o : Measured) → SizeAllows net o → sizing.told o ≡ yields (record { pairs = 2; modes = 1; arcs = 2 })
   pub complement : (o : Complemented × List ℕ) → ComplementAllows net room o → complementing.told (o .0) ≡ yields 91
+  -- its complement to the byte in PNML, and back
+  pub exportPnml : (o : Exported × List ℕ) → ExportPnmlAllows complementNet (replicate 887 0) o → (exporting.told (o .0) ≡ yields 887) × (o .1 ≡ text)
+  pub importPnml : (o : Imported × List ℕ) → ImportPnmlAllows text room o → (importing.told (o .0) ≡ yields 91) × (o .1 ≡ complementNet)
   -- one landed, and left aboard in the net's marking: pair 0, one token too many
   pub audit : (o : Found) → AuditAllows net (3 ∷ 1 ∷ []) (2 ∷ 1 ∷ 3 ∷ []) o → auditing.told o ≡ yields (some (record { pair = pairNo 0; excess = pos 1 }))

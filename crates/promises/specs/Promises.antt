@@ -15,6 +15,8 @@ use Rattle.lists.specs.Promises.{SignedWeights}
 use Rattle.written.specs.Promises.{WrittenThenRead, ReadThenWritten, LargestSheet, ExampleLengths}
 use Rattle.convert.specs.Promises.{SourceOnly, ConvertedReads, ThereAndBack}
 use Rattle.strip.specs.Promises.{StrippedReads, BareAfter, OldModes, NoNewDead}
+use Rattle.export.specs.Promises.{ExportsExactly, ComplementsExportable}
+use Rattle.import.specs.Promises.{RefusedExactly, ImportsExactly, ImportedReads}
 use Rattle.fire.specs.Promises.{AcceptedBegin, AcceptedFire, MarkingStays}
 use Rattle.run.specs.Promises.{RunsLeave, RunsKeep, Certified}
 use Rattle.weigh.specs.Promises.{FigureIsSum, ChangeIsSum, FigureFired}
@@ -34,6 +36,7 @@ use Rattle.promises.specs.DeadAsWritten.{DeadAsWritten}
 use Rattle.promises.specs.TwoOrders.{TwoOrders}
 use Rattle.promises.specs.Audits.{Audits}
 use Rattle.promises.specs.Stripping.{Stripping}
+use Rattle.promises.specs.Exchange.{ExportThenImport, ImportThenExport, ComplementThenExport}
 use Rattle.promises.specs.FigureOverRun.{FigureOverRun}
 use Rattle.promises.specs.ArcsVisited.{ArcsVisited}
 use Rattle.promises.specs.LiveModes.{LiveModes}
@@ -133,6 +136,14 @@ pub record Promises : Type 0 where
   pub thereAndBack : ThereAndBack
   pub strippedReads : StrippedReads
   pub stripping : Stripping
+  pub exportsExactly : ExportsExactly
+  pub complementsExportable : ComplementsExportable
+  pub refusedExactly : RefusedExactly
+  pub importsExactly : ImportsExactly
+  pub importedReads : ImportedReads
+  pub exportThenImport : ExportThenImport
+  pub importThenExport : ImportThenExport
+  pub complementThenExport : ComplementThenExport
   pub listWrittenThenRead : salvage.ListWrittenThenRead
   pub listReadThenWritten : salvage.ListReadThenWritten
   pub salvagedRuns : salvage.SalvagedRuns

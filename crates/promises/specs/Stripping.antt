@@ -40,7 +40,7 @@ pub record BareCalls (net sheet : List ℕ) (p : Pair) (k : ℕ) : Type 0 where
       → (number (o .0) ≡ 0) × (count (o .1) (p .0) ≡ 0) × ((q : ℕ) → q ≢ p .0 → count (o .1) q ≡ count m q)
 
 -- "Old modes keep their numbers and behaviour.": a field for each call that is given a mode or a list of modes, and for those that are given none. A size, a
--- complement, an audit and an exclusion are of the whole net, and may differ.
+-- complement, an audit, an exclusion and an export are of the whole net, and may differ.
 pub record OldCalls (net sheet : List ℕ) : Type 0 where
   pub begin : (m : List ℕ) → Within (BeginAllows net m) (BeginAllows sheet m)
   pub test : (m : List ℕ) (t : Mode) → t .0 < modes (netOf net) → Within (TestAllows net m t) (TestAllows sheet m t)

@@ -20,6 +20,8 @@ use Rattle.size.specs.Contracts.{SizeAllows}
 use Rattle.complement.specs.Contracts.{ComplementAllows}
 use Rattle.convert.specs.Contracts.{ToVersion1Allows, ToVersion2Allows}
 use Rattle.strip.specs.Contracts.{StripAllows}
+use Rattle.export.specs.Contracts.{ExportPnmlAllows}
+use Rattle.import.specs.Contracts.{ImportPnmlAllows}
 use Rattle.audit.specs.Contracts.{AuditAllows}
 use Rattle.salvage.specs.Contracts.{SalvageAllows}
 use Rattle.text.specs.Contracts.{PutBytesAllows, PutDecimalAllows, PutSignedAllows}
@@ -53,6 +55,8 @@ pub record UniqueForC : Type 0 where
   pub toVersion2 : (net out : List ℕ) → Unique (c.ToVersion2Allows net out)
   pub toVersion1 : (net out : List ℕ) → Unique (c.ToVersion1Allows net out)
   pub strip : (net : List ℕ) (p : Pair) (out : List ℕ) → Unique (c.StripAllows net p out)
+  pub exportPnml : (net out : List ℕ) → Unique (c.ExportPnmlAllows net out)
+  pub importPnml : (text out : List ℕ) → Unique (c.ImportPnmlAllows text out)
   pub audit : (net marking beside : List ℕ) → Unique (c.AuditAllows net marking beside)
   pub salvage : (net damaged out : List ℕ) → Unique (c.SalvageAllows net damaged out)
   pub statement : (input out : List ℕ) → Unique (c.StatementAllows input out)
@@ -86,6 +90,8 @@ pub record Uniqueness : Type 0 where
   pub toVersion2 : (net out : List ℕ) → Unique (ToVersion2Allows net out)
   pub toVersion1 : (net out : List ℕ) → Unique (ToVersion1Allows net out)
   pub strip : (net : List ℕ) (p : Pair) (out : List ℕ) → Unique (StripAllows net p out)
+  pub exportPnml : (net out : List ℕ) → Unique (ExportPnmlAllows net out)
+  pub importPnml : (text out : List ℕ) → Unique (ImportPnmlAllows text out)
   pub audit : (net marking beside : List ℕ) → Unique (AuditAllows net marking beside)
   pub salvage : (net damaged out : List ℕ) → Unique (SalvageAllows net damaged out)
   pub putBytes : (out : List ℕ) (at : ℕ) (bytes : List ℕ) → Unique (PutBytesAllows out at bytes)

@@ -76,6 +76,12 @@ pub struct Inputs {
     pub strippable: Vec<u8>,
     /// `replay`'s input: the net, its weights, the movements.
     pub input: Vec<u8>,
+    /// The net without bounds that has the longest text: 256 pairs, 256 modes of 8 arcs each, every number 1,000,000.
+    pub open: Vec<u8>,
+    /// How many bytes its text has.
+    pub open_text: usize,
+    /// The longest text that can be imported: 64 pairs and modes, 32 arcs of each.
+    pub text: Vec<u8>,
 }
 
 impl Inputs {
@@ -86,6 +92,10 @@ impl Inputs {
         let bounded = plain(places / 2, transitions, 4, |_| 1_000_000);
         let mut strippable = plain(places, 48 / part, 10, |_| 1_000_000);
         *strippable.pairs.last_mut().expect("a net has pairs") = (63, 63);
+        // A part of the arcs is a part of the text; as many modes have as many arcs as there are half as many pairs.
+        let side = [64, 32, 16][part.ilog(4) as usize];
+        let text = exported(&largest(1, side, side / 2).sheet());
+        let open = largest(4, 64 / part, 8).sheet_in(version);
         let (pairs, modes) = (net.pairs.len(), 4 * transitions);
         // A walk over all modes in no simple order.
         let list: Vec<u16> = (0..8_192 / part).map(|k| (k * 167 % 251 % modes) as u16).collect();
@@ -116,6 +126,9 @@ impl Inputs {
             weights,
             movements,
             visited,
+            open_text: exported(&open).len(),
+            open,
+            text,
         }
     }
 
@@ -139,6 +152,32 @@ impl Inputs {
         ];
         files.iter().try_for_each(|(name, bytes)| fs::write(folder.join(format!("{name}-{part}")), bytes))
     }
+}
+
+/// So many places of so many colours and as many modes, so many arcs of each mode, no K and no I, and every number the largest.
+fn largest(colours: u16, places: usize, arcs: usize) -> PlainNet {
+    let all = usize::from(colours) * places;
+    let arc = |n: usize| PlainArc {
+        mode: (n / arcs) as u16,
+        pair: (n % arcs * (all / arcs)) as u16,
+        pre: 1_000_000,
+        post: 1_000_000,
+        inhibitor: OPEN,
+    };
+    PlainNet {
+        colours: vec![colours; places],
+        modes: vec![colours; places],
+        pairs: vec![(OPEN, 1_000_000); all],
+        arcs: (0..all * arcs).map(arc).collect(),
+    }
+}
+
+/// The net's text in PNML.
+fn exported(net: &[u8]) -> Vec<u8> {
+    let mut text = vec![0; pnet::LARGEST_PNML];
+    let length = swift::export_pnml(net, &mut text).expect("no bound is finite");
+    text.truncate(length);
+    text
 }
 
 /// Places and transitions of four each. A mode has its arcs at pairs all over the net, takes one to three and gives as many back on the

@@ -18,7 +18,7 @@ use std::path::Path;
 
 use inputs::{Inputs, Size};
 use reference::Version;
-use works::{Figures, OTHERS, READ, RUN, SIZED, Work};
+use works::{EXPORT, Figures, IMPORT, OF_A_SHEET, OTHERS, READ, RUN, SIZED, Work};
 
 /// Full size, and so many times smaller.
 const PARTS: [usize; 3] = [1, 4, 16];
@@ -32,9 +32,13 @@ fn main() {
     match words[..] {
         [] => {
             tables("Microseconds, the least", "µs", times);
+            texts(times);
             tables("Instructions, in thousands", "k", counts::instructions);
         }
-        ["times"] => tables("Microseconds, the least", "µs", times),
+        ["times"] => {
+            tables("Microseconds, the least", "µs", times);
+            texts(times);
+        }
         ["inputs", folder] => {
             for part in PARTS {
                 Inputs::of(Size::part(part)).write(Path::new(folder), part).expect("a folder to write to");
@@ -69,7 +73,7 @@ fn tables(title: &str, unit: &str, measure: Measure) {
     }
     println!("\nFull size, by the version of the net sheet:\n");
     head("Version", unit);
-    for work in SIZED {
+    for work in OF_A_SHEET {
         for version in Version::BOTH {
             rows(work, Size::version(version), &(version as u8).to_string(), measure);
         }
@@ -78,6 +82,22 @@ fn tables(title: &str, unit: &str, measure: Measure) {
     head("Arcs", unit);
     for arcs in [1, 2, 4, 8, 16] {
         rows(RUN, Size::arcs(arcs), &arcs.to_string(), measure);
+    }
+}
+
+/// What a byte of a text in PNML costs.
+fn texts(measure: Measure) {
+    println!("\nNanoseconds a byte of a text in PNML:\n");
+    println!("| Work | Size | bytes | engine, ns | swift, ns |");
+    println!("|---|---|---|---|---|");
+    for work in [EXPORT, IMPORT] {
+        for part in PARTS {
+            let (size, inputs) = (Size::part(part), Inputs::of(Size::part(part)));
+            let bytes = if work.name == EXPORT.name { inputs.open_text } else { inputs.text.len() };
+            let [engine, _, swift] =
+                measure(work, size).map(|figure| figure.map_or(0.0, |figure| 1e3 * figure / bytes as f64));
+            println!("| {} | {} | {bytes} | {engine:.2} | {swift:.2} |", work.name, size.name());
+        }
     }
 }
 

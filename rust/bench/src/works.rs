@@ -71,8 +71,23 @@ pub const STATEMENT: Work = beside(
     |i, _| !swift::replay(&i.input).is_empty(),
 );
 
+pub const EXPORT: Work = beside(
+    "export_pnml",
+    |i, l| pnet::export_pnml(&i.open, &mut l.output) == Ok(i.open_text),
+    |i, l| swift::export_pnml(&i.open, &mut l.output) == Ok(i.open_text),
+);
+
+pub const IMPORT: Work = beside(
+    "import_pnml",
+    |i, l| pnet::import_pnml(&i.text, &mut l.output).is_ok(),
+    |i, l| swift::import_pnml(&i.text, &mut l.output).is_ok(),
+);
+
 /// The works that are measured at every size.
-pub const SIZED: [Work; 4] = [READ, RUN, COMPLEMENT, STATEMENT];
+pub const SIZED: [Work; 6] = [READ, RUN, COMPLEMENT, STATEMENT, EXPORT, IMPORT];
+
+/// Those of them that read a net sheet.
+pub const OF_A_SHEET: [Work; 5] = [READ, RUN, COMPLEMENT, STATEMENT, EXPORT];
 
 /// The other calls, at full size; a call with a mode is given the last.
 pub const OTHERS: [Work; 20] = [
@@ -155,7 +170,7 @@ pub fn named(name: &str) -> Work {
 }
 
 fn lent(inputs: &Inputs) -> Lent {
-    Lent { marking: inputs.marking.clone(), output: vec![0; pnet::TEXT_ROOM] }
+    Lent { marking: inputs.marking.clone(), output: vec![0; pnet::LARGEST_PNML] }
 }
 
 /// The work so many times.

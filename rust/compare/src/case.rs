@@ -8,7 +8,7 @@ use crate::demand3::completed;
 use crate::generator::{self, Random, Style, total};
 use crate::guarded;
 use crate::same::Same;
-use crate::{fleet, rules, versions};
+use crate::{fleet, pnml, rules, versions};
 
 /// What every call is tried on.
 #[derive(Clone)]
@@ -75,6 +75,11 @@ impl Case {
         }
     }
 
+    /// The room of a call that writes a text: as much as it needs, but where a room was made too short.
+    fn room_or(&self, enough: usize) -> usize {
+        if self.room < pnet::LARGEST_NET { self.room } else { enough }
+    }
+
     /// Every call on this input; and on the same net in the other version, where it is accepted.
     pub fn compare(&self, same: &mut Same) {
         same.read_net(&self.net);
@@ -100,9 +105,10 @@ impl Case {
         same.strip(&self.net, self.pair, self.room);
         same.to_version_2(&self.net, self.room);
         same.to_version_1(&self.net, self.room);
+        same.export_pnml(&self.net, self.room_or(pnml::room(&self.net)));
         same.audit(&self.net, &self.marking, &self.both);
         let input = [&self.net[..], &self.weights, &self.movements].concat();
-        same.statement(&input, if self.room < pnet::LARGEST_NET { self.room } else { pnet::TEXT_ROOM });
+        same.statement(&input, self.room_or(pnet::TEXT_ROOM));
         versions::answer_equally(same, self);
         if reference::size(&self.net).is_ok() && rules::is_weak(&self.net) {
             same.hits.value("a net of rule 1, over every call");

@@ -11,7 +11,7 @@ use std::{ptr, slice};
 
 use pnet::{Fleet, Mode, OutOfStep, Pair, Ran, Refusal, Salvaged, Size};
 
-/// Whole pages; the longest slice that is lent is the room for `replay`'s text.
+/// Whole pages; the longest slice that is lent is the longest text in PNML.
 const ROOM: usize = 1 << 19;
 
 /// Whole pages on both sides, more than a number of 16 bits leads past.
@@ -270,6 +270,14 @@ pub fn to_version_2(net: &[u8], out: &mut [u8]) -> Result<usize, Refusal> {
 
 pub fn to_version_1(net: &[u8], out: &mut [u8]) -> Result<usize, Refusal> {
     writing(net, out, pnet::to_version_1)
+}
+
+pub fn export_pnml(net: &[u8], out: &mut [u8]) -> Result<usize, Refusal> {
+    writing(net, out, pnet::export_pnml)
+}
+
+pub fn import_pnml(text: &[u8], out: &mut [u8]) -> Result<usize, Refusal> {
+    writing(text, out, pnet::import_pnml)
 }
 
 pub fn audit(net: &[u8], marking: &[u32], both: &[u32]) -> Result<Option<OutOfStep>, Refusal> {

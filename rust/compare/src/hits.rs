@@ -28,13 +28,15 @@ pub enum Call {
     Strip,
     ToVersion2,
     ToVersion1,
+    ExportPnml,
+    ImportPnml,
     Audit,
     Statement,
 }
 
 use Call::*;
 
-const CALLS: [Call; 24] = [
+const CALLS: [Call; 26] = [
     ReadNet,
     ReadWeights,
     ReadMovements,
@@ -57,6 +59,8 @@ const CALLS: [Call; 24] = [
     Strip,
     ToVersion2,
     ToVersion1,
+    ExportPnml,
+    ImportPnml,
     Audit,
     Statement,
 ];
@@ -88,6 +92,10 @@ const ELSEWHERE: &[Told] = &[(18, 3)];
 const NO_ROOM: &[Told] = &[(10, 0)];
 const OF_RULE_1: &[Told] = &[(23, 0)];
 const COMPLEMENT: &[Told] = &[(15, 0), (10, 0)];
+/// Of a net that has no text.
+const BOUNDED: &[Told] = &[(19, 0)];
+/// Of a text that is no export, and of one that is too large.
+const TEXT: &[Told] = &[(20, 0), (4, 3)];
 
 const EXCLUSION: &[Told] = &[(21, 0), (22, 0)];
 
@@ -112,6 +120,8 @@ fn refusals(call: Call) -> Vec<Told> {
         Strip => [NET, MODE, COMPLEMENT].concat(),
         ToVersion2 => [NET, NO_ROOM].concat(),
         ToVersion1 => [NET, OF_RULE_1, NO_ROOM].concat(),
+        ExportPnml => [NET, BOUNDED, NO_ROOM].concat(),
+        ImportPnml => [TEXT, NO_ROOM].concat(),
         Audit => [NET, COMPLEMENT, ONE_EACH].concat(),
         Statement => NO_ROOM.to_vec(),
     }
@@ -125,7 +135,7 @@ pub struct Hits {
     runs: usize,
     whole: usize,
     longest: usize,
-    /// Values that are no numbers: yes, no, a mode named, none named; what a search for a marking found; what a text is of; by which of a net and its complement a step is accepted; that a complement refuses by more than its net; what a dead mode is there; what an audit found, and whose 17 it was; what a search for all markings in reach says of a claim; which arcs a run visits; which fault a sheet of version 2 has alone; what the two versions of a net have in common, and its two rules.
+    /// Values that are no numbers: yes, no, a mode named, none named; what a search for a marking found; what a text is of; by which of a net and its complement a step is accepted; that a complement refuses by more than its net; what a dead mode is there; what an audit found, and whose 17 it was; what a search for all markings in reach says of a claim; which arcs a run visits; which fault a sheet of version 2 has alone; what the two versions of a net have in common, and its two rules; what bound has no text, and where a text is no export.
     values: BTreeMap<&'static str, usize>,
     /// Refusals by an amount above 1, by their number.
     by_more: BTreeMap<u64, usize>,
@@ -243,6 +253,16 @@ impl Hits {
             "13 by rule 1, where rule 0 gives 12",
             "dead by rule 0 alone",
             "no K, and nothing by the rule",
+            "19 at a K",
+            "19 at an I",
+            "20 at a byte of a text",
+            "20 at the end of a text",
+            "4 for more than 64 pairs",
+            "4 for more than 64 modes",
+            "one text by every version and rule",
+            "exported, imported, and run alike",
+            "imported, and exported again",
+            "equal nets, and equal texts",
         ] {
             if self.values.get(value).copied().unwrap_or(0) < ENOUGH {
                 wants.push(format!("the value '{value}' came up too rarely"));

@@ -8,6 +8,8 @@
 
 mod case;
 mod damage;
+#[path = "../../reference/tests/support/damaged_text.rs"]
+mod damaged_text;
 mod dead;
 mod demand3;
 mod exclusion;
@@ -17,6 +19,7 @@ mod generator;
 mod guarded;
 mod hits;
 mod limits;
+mod pnml;
 mod rules;
 mod salvage;
 mod same;
@@ -52,12 +55,13 @@ fn main() -> ExitCode {
     let mut numbers = words.iter().map(|word| word.parse().expect("SEED and ROUNDS are numbers"));
     let (seed, rounds) = (numbers.next().unwrap_or(1), numbers.next().unwrap_or(40_000));
     let (mut random, mut same, start) = (Random::new(seed), Same::default(), Instant::now());
-    let mut searches = Random::new(seed + 1);
+    let (mut searches, mut texts) = (Random::new(seed + 1), Random::new(seed + 2));
     for round in 0..rounds {
         same.part = format!("seed {seed}, round {round}");
         any(&mut same, &mut random);
         if round % 16 == 0 {
             complements(&mut same, &mut random);
+            exchange(&mut same, &mut texts);
         }
         if round % 32 == 0 {
             dead::searched(&mut same, &generator::net(&mut searches, Style::Small, 2, 2, 8));
@@ -77,6 +81,9 @@ fn main() -> ExitCode {
         }
         if round % 400 == 0 {
             at_limits(&mut same, &mut random, round as usize / 400);
+            let (places, transitions, arcs) = texts.pick(&SIZES[5..]);
+            let net = generator::net(&mut texts, Style::Edges, places, transitions, arcs);
+            pnml::exchanged(&mut same, &mut texts, net);
         }
         if round % 1_600 == 0 {
             cut_everywhere(&mut same, &mut random);
@@ -92,6 +99,10 @@ fn main() -> ExitCode {
     fleet::carried(&mut same, &mut searches, 1_000);
     same.part = format!("seed {seed}, the limits of salvage");
     salvage::at_limits(&mut same, &mut searches);
+    same.part = format!("seed {seed}, the limits of a text");
+    pnml::at_limits(&mut same, &mut texts);
+    same.part = format!("seed {seed}, every byte of a text");
+    pnml::every_byte(&mut same);
     same.part = format!("seed {seed}, the limits of version 2");
     version_2::at_limits(&mut same, &mut random);
     same.part = format!("seed {seed}, the largest nets cut");
@@ -145,6 +156,15 @@ fn complements(same: &mut Same, random: &mut Random) {
         demand3::in_step(same, random, style, &net, most);
         let net = limits::with_capacities(generator::net(random, Style::Small, 5, 4, 24));
         demand3::in_step(same, random, Style::Small, &net, most);
+    }
+}
+
+/// Nets of every size but the largest, without their bounds, exported and imported.
+fn exchange(same: &mut Same, random: &mut Random) {
+    for (places, transitions, arcs) in &SIZES[..5] {
+        let style = random.pick(&STYLES);
+        let net = generator::net(random, style, *places, *transitions, *arcs);
+        pnml::exchanged(same, random, net);
     }
 }
 

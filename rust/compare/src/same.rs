@@ -6,7 +6,7 @@ use pnet::{Mode, Pair, Refusal};
 use reference::Fleet;
 
 use crate::hits::{Call, Hits};
-use crate::{guarded, salvage, version_2, visits};
+use crate::{guarded, pnml, salvage, version_2, visits};
 
 /// Number, thing, position and amount.
 pub type Plain = (u64, u64, u64, u64);
@@ -31,7 +31,7 @@ pub fn members(modes: &[u16]) -> Vec<Mode> {
     modes.iter().copied().map(Mode).collect()
 }
 
-/// A call that writes a sheet.
+/// A call that writes a sheet or a text.
 trait Writes<E>: FnOnce(&[u8], &mut [u8]) -> Result<usize, E> {}
 
 impl<E, C: FnOnce(&[u8], &mut [u8]) -> Result<usize, E>> Writes<E> for C {}
@@ -269,42 +269,60 @@ impl Same {
         self.hold(Call::Size, answer, (answer, value), reference, &[&net]);
     }
 
-    /// A call that writes a sheet into a slice of this length: what it writes, where there is anything.
+    /// A call that writes a sheet or a text into a slice of this length: its answer, and what it writes, where there is anything.
     fn write(
         &mut self,
         call: Call,
         engine: impl Writes<Refusal>,
         reference: impl Writes<reference::Answer>,
-        net: &[u8],
+        given: &[u8],
         room: usize,
-    ) -> Option<Vec<u8>> {
+    ) -> (Plain, Option<Vec<u8>>) {
         let (mut ours, mut theirs) = (vec![170; room], vec![170; room]);
-        let (engine, reference) = (engine(net, &mut ours), reference(net, &mut theirs));
+        let (engine, reference) = (engine(given, &mut ours), reference(given, &mut theirs));
         let (answer, value) = (told(&engine), engine.ok());
         let reference = (plain_of(&reference), reference.ok(), &theirs);
-        self.hold(call, answer, (answer, value, &ours), reference, &[&net, &room]);
-        value.map(|length| ours[..length].to_vec())
+        self.hold(call, answer, (answer, value, &ours), reference, &[&given, &room]);
+        (answer, value.map(|length| ours[..length].to_vec()))
     }
 
     /// The complement, where there is one.
     pub fn complement(&mut self, net: &[u8], room: usize) -> Option<Vec<u8>> {
-        self.write(Call::Complement, guarded::complement, reference::complement, net, room)
+        self.write(Call::Complement, guarded::complement, reference::complement, net, room).1
     }
 
     /// The sheet with a transition that strips a pair, where there is one.
     pub fn strip(&mut self, net: &[u8], pair: u16, room: usize) -> Option<Vec<u8>> {
         let engine = |net: &[u8], out: &mut [u8]| guarded::strip(net, Pair(pair), out);
-        self.write(Call::Strip, engine, |net, out| reference::strip(net, pair, out), net, room)
+        self.write(Call::Strip, engine, |net, out| reference::strip(net, pair, out), net, room).1
     }
 
     /// The sheet of version 2, where the net is in version 1.
     pub fn to_version_2(&mut self, net: &[u8], room: usize) -> Option<Vec<u8>> {
-        self.write(Call::ToVersion2, guarded::to_version_2, reference::to_version_2, net, room)
+        self.write(Call::ToVersion2, guarded::to_version_2, reference::to_version_2, net, room).1
     }
 
     /// The sheet of version 1, where the net is in version 2.
     pub fn to_version_1(&mut self, net: &[u8], room: usize) -> Option<Vec<u8>> {
-        self.write(Call::ToVersion1, guarded::to_version_1, reference::to_version_1, net, room)
+        self.write(Call::ToVersion1, guarded::to_version_1, reference::to_version_1, net, room).1
+    }
+
+    /// The net's text in PNML, where every K and I is unbounded.
+    pub fn export_pnml(&mut self, net: &[u8], room: usize) -> Option<Vec<u8>> {
+        let (answer, text) =
+            self.write(Call::ExportPnml, guarded::export_pnml, reference::export_pnml, net, room);
+        if answer.0 == 19 {
+            self.hits.value(pnml::bounded(net, answer.2));
+        }
+        text
+    }
+
+    /// The sheet of a text that is an export, into a slice of this length.
+    pub fn import_pnml(&mut self, text: &[u8], room: usize) -> Option<Vec<u8>> {
+        let (answer, sheet) =
+            self.write(Call::ImportPnml, guarded::import_pnml, reference::import_pnml, text, room);
+        pnml::holds(self, text, answer, sheet.as_deref());
+        sheet
     }
 
     /// The answer, and the pair out of step with its excess, where there is one.

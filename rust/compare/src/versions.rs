@@ -4,10 +4,10 @@
 use pnet::{LARGEST_NET, Mode, Pair, Refusal, TEXT_ROOM};
 
 use crate::case::Case;
-use crate::guarded;
 use crate::hits::Call;
 use crate::rules::is_weak;
 use crate::same::{Plain, Same, members, told};
+use crate::{guarded, pnml};
 
 /// Every call on the case and on the same net in the other version, where the net is accepted.
 pub fn answer_equally(same: &mut Same, case: &Case) {
@@ -16,13 +16,19 @@ pub fn answer_equally(same: &mut Same, case: &Case) {
         assert_eq!(own, others, "{}: {:?} and {other:?}", same.part, case.net);
     }
     same.hits.value("equal nets, and equal answers");
-    let complements = [&case.net, &other].map(|net| written(net, guarded::complement));
+    let room = pnml::room(&case.net);
+    let texts = [&case.net, &other].map(|net| written(net, room, guarded::export_pnml));
+    assert_eq!(texts[0], texts[1], "{}: {:?}", same.part, case.net);
+    if texts[0].is_some() {
+        same.hits.value("equal nets, and equal texts");
+    }
+    let complements = [&case.net, &other].map(|net| written(net, LARGEST_NET, guarded::complement));
     if let [Some(own), Some(others)] = complements {
         assert_eq!(in_other_version(same, &own), Some(others), "{}: {:?}", same.part, case.net);
         same.hits.value("equal nets, and equal complements");
     }
-    let stripped =
-        [&case.net, &other].map(|net| written(net, |net, out| guarded::strip(net, Pair(case.pair), out)));
+    let strip = |net: &[u8], out: &mut [u8]| guarded::strip(net, Pair(case.pair), out);
+    let stripped = [&case.net, &other].map(|net| written(net, LARGEST_NET, strip));
     if let [Some(own), Some(others)] = stripped {
         assert_eq!(in_other_version(same, &own), Some(others), "{}: {:?}", same.part, case.net);
         same.hits.value("equal nets, and equally stripped");
@@ -57,9 +63,13 @@ pub fn in_version_1(same: &mut Same, net: &[u8]) -> Vec<u8> {
     if net[4] == 1 { net } else { in_other_version(same, &net).expect("the net is accepted") }
 }
 
-/// The sheet that a call writes, where it writes one.
-fn written(net: &[u8], call: impl Fn(&[u8], &mut [u8]) -> Result<usize, Refusal>) -> Option<Vec<u8>> {
-    let mut out = vec![0; LARGEST_NET];
+/// What a call writes into a slice of this length, where it writes anything.
+fn written(
+    net: &[u8],
+    room: usize,
+    call: impl Fn(&[u8], &mut [u8]) -> Result<usize, Refusal>,
+) -> Option<Vec<u8>> {
+    let mut out = vec![0; room];
     let length = call(net, &mut out).ok()?;
     out.truncate(length);
     Some(out)
@@ -161,10 +171,11 @@ fn of_the_net(case: &Case, net: &[u8]) -> Vec<Told> {
         (Call::Size, told(&size), sizes.unwrap_or_default()),
         (Call::Complement, without_offset(told(&complement)), vec![]),
         (Call::Strip, told(&stripped), vec![]),
+        (Call::ExportPnml, without_offset(told(&guarded::export_pnml(net, &mut []))), vec![]),
     ]
 }
 
-/// 15 is at an offset in the net sheet.
+/// 15 and 19 are at an offset in the net sheet.
 fn without_offset(answer: Plain) -> Plain {
-    (answer.0, answer.1, if answer.0 == 15 { 0 } else { answer.2 }, answer.3)
+    (answer.0, answer.1, if matches!(answer.0, 15 | 19) { 0 } else { answer.2 }, answer.3)
 }

@@ -41,6 +41,14 @@ pub enum Fault {
     NotOneEach,
     /// 18: a certificate ends at another marking.
     EndsElsewhere,
+    /// 19: a K or an I is finite, of a net that is to be exported.
+    NotUnbounded,
+    /// 20: a text is no export, and no export goes on as it does.
+    NotAnExport,
+    /// 20: a text is the beginning of an export, and ends there.
+    TextCutShort,
+    /// 4: a text is the export of a net of more than 64 pairs or modes.
+    TextTooLarge,
     /// 21: a mode changes the figure, so that an exclusion's weights show nothing.
     Unbalanced,
     /// 22: an exclusion's claim has the figure of the first marking.
@@ -91,6 +99,8 @@ impl Fault {
             16 => ComplementAbove,
             17 => NotOneEach,
             18 => EndsElsewhere,
+            19 => NotUnbounded,
+            20 => NotAnExport,
             21 => Unbalanced,
             22 => EqualFigures,
             23 => WeakRule,
@@ -107,7 +117,7 @@ impl Fault {
             CutShort => 1,
             WrongVersion => 2,
             WrongLength(_) => 3,
-            CountOutside | FleetFull => 4,
+            CountOutside | FleetFull | TextTooLarge => 4,
             NumberOutside => 5,
             NotThere => 6,
             NotRising => 7,
@@ -122,6 +132,8 @@ impl Fault {
             ComplementAbove => 16,
             NotOneEach => 17,
             EndsElsewhere => 18,
+            NotUnbounded => 19,
+            NotAnExport | TextCutShort => 20,
             Unbalanced => 21,
             EqualFigures => 22,
             WeakRule => 23,
@@ -140,7 +152,7 @@ mod tests {
     fn every_fault_has_its_number_and_no_number_panics() {
         for number in (1..100).chain([u64::MAX]) {
             let fault = Fault::of(number, || Length::Nothing);
-            let named = matches!(number, 1..=18 | 21..=25);
+            let named = matches!(number, 1..=25);
             assert_eq!((fault.number(), matches!(fault, Fault::Other(_))), (number, !named));
         }
     }

@@ -20,7 +20,7 @@ pub enum Thing {
     Weights = 1,
     /// The movements, or one that a run or a certificate refuses.
     Movements = 2,
-    /// A marking, a claim, a mode, a pair, a step or a record.
+    /// A marking, a claim, a mode, a pair, a step, a record or a text in PNML.
     Argument = 3,
 }
 
@@ -29,8 +29,11 @@ impl Thing {
     pub(crate) const ALL: [Thing; 4] = [Thing::Net, Thing::Weights, Thing::Movements, Thing::Argument];
 }
 
-/// The bytes of the largest net sheet, which is of version 1: always room enough for a complement, a stripped net and a conversion.
+/// The bytes of the largest net sheet, which is of version 1: always room enough for a complement, a stripped net, a conversion and an import.
 pub const LARGEST_NET: usize = 35_083;
+
+/// The bytes of the longest text in PNML: always room enough for an export.
+pub const LARGEST_PNML: usize = 467_928;
 
 /// Room for any text of `replay`.
 pub const TEXT_ROOM: usize = 262_144;

@@ -50,6 +50,7 @@ mod fault;
 mod fleet;
 mod kinds;
 mod left_behind;
+mod pnml;
 mod raw;
 mod refusal;
 
@@ -60,6 +61,7 @@ pub use calls::{
 };
 pub use fault::{Fault, Length};
 pub use fleet::{Fleet, fleet_add};
-pub use kinds::{LARGEST_NET, Mode, Pair, TEXT_ROOM, Thing};
+pub use kinds::{LARGEST_NET, LARGEST_PNML, Mode, Pair, TEXT_ROOM, Thing};
 pub use left_behind::left_behind;
+pub use pnml::{export_pnml, import_pnml};
 pub use refusal::Refusal;

@@ -154,6 +154,8 @@ unsafe extern "C" {
     pub fn pnet_strip(net: *const u8, net_length: usize, pair: Pair, out: *mut u8, room: usize) -> With<u64>;
     pub fn pnet_to_version_2(net: *const u8, net_length: usize, out: *mut u8, room: usize) -> With<u64>;
     pub fn pnet_to_version_1(net: *const u8, net_length: usize, out: *mut u8, room: usize) -> With<u64>;
+    pub fn pnet_export_pnml(net: *const u8, net_length: usize, out: *mut u8, room: usize) -> With<u64>;
+    pub fn pnet_import_pnml(text: *const u8, text_length: usize, out: *mut u8, room: usize) -> With<u64>;
     pub fn pnet_audit(
         net: *const u8,
         net_length: usize,

@@ -39,7 +39,7 @@ impl Refusal {
         self.thing
     }
 
-    /// The position of the table: a pair's or a mode's number, the offset of a byte in its sheet, or 0.
+    /// The position of the table: a pair's or a mode's number, the offset of a byte in its sheet or text, or 0.
     pub fn position(&self) -> u64 {
         self.position
     }
@@ -66,11 +66,12 @@ impl Refusal {
         (self.fault == Fault::Unbalanced).then_some(Mode(self.position as u16))
     }
 
-    /// The offset in its sheet of the byte, field or arc at fault, where the position is one.
+    /// The offset in its sheet or text of the byte, field or arc at fault, where the position is one.
     pub fn offset(&self) -> Option<u64> {
         use Fault::*;
         let of_byte = match self.fault {
             WrongVersion | WrongLength(_) | NotRising | Blank | ComplementAbove => true,
+            NotUnbounded | NotAnExport | TextCutShort => true,
             // The pair to strip is no byte.
             InhibitedUnbounded => self.position > 0,
             CountOutside | NumberOutside | AboveCapacity | NotOneEach => self.thing != Thing::Argument,
@@ -147,6 +148,12 @@ impl fmt::Display for Refusal {
             (Fault::NotOneEach, Thing::Weights) => write!(f, "the weights are not one for each pair"),
             (Fault::NotOneEach, _) => write!(f, "the counts are not one for each pair"),
             (Fault::EndsElsewhere, _) => write!(f, "pair {at} ends at another count than is claimed"),
+            (Fault::NotUnbounded, _) => {
+                write!(f, "the capacity or inhibitor at byte {at} of the net sheet is not unbounded")
+            }
+            (Fault::NotAnExport, _) => write!(f, "no export agrees with the text from byte {at} on"),
+            (Fault::TextCutShort, _) => write!(f, "the text is cut short at byte {at}"),
+            (Fault::TextTooLarge, _) => write!(f, "the text has more than 64 pairs or modes"),
             (Fault::Unbalanced, _) => write!(f, "mode {at} changes the figure, which so excludes nothing"),
             (Fault::EqualFigures, _) => write!(f, "the claim has the figure of the first marking"),
             (Fault::FleetFull, _) => write!(f, "the record has 1,000 ships, and has no place for another"),

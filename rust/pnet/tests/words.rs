@@ -284,6 +284,55 @@ fn of_version_2_and_conversions() {
 }
 
 #[test]
+fn of_an_export() {
+    let (plain, room) = (example(), &mut [170; LARGEST_NET]);
+    let bounded = export_pnml(&plain, room);
+    says(bounded, "19: the capacity or inhibitor at byte 15 of the net sheet is not unbounded");
+    assert_eq!((bounded.unwrap_err().offset(), bounded.unwrap_err().thing()), (Some(15), Thing::Net));
+    let inhibited = net(&[(OPEN, 3)], &[arc(0, 0, 1, 0, 4)]);
+    says(
+        export_pnml(&inhibited, room),
+        "19: the capacity or inhibitor at byte 35 of the net sheet is not unbounded",
+    );
+    let open = net(&[(OPEN, 3)], &[arc(0, 0, 1, 0, OPEN)]);
+    let length = export_pnml(&open, room).unwrap();
+    let too_long = "10: what is to be written exceeds the room for it, or the limits of a sheet";
+    says(export_pnml(&open, &mut room[..length - 1]), too_long);
+    says(export_pnml(&open[1..], room), "1: the net sheet is cut short");
+    says(
+        export_pnml(&[&open[..], &[7]].concat(), room),
+        "3: the net sheet has bytes left over from byte 39 on",
+    );
+}
+
+#[test]
+fn of_an_import() {
+    let (net, text, room) =
+        (net(&[(OPEN, 3)], &[arc(0, 0, 1, 0, OPEN)]), &mut [0; LARGEST_PNML], &mut [170; 39]);
+    let length = export_pnml(&net, text).unwrap();
+    let text = &mut text[..length];
+    assert_eq!(import_pnml(text, room), Ok(39));
+    assert_eq!(room[..], net);
+    let too_long = "10: what is to be written exceeds the room for it, or the limits of a sheet";
+    says(import_pnml(text, &mut room[..38]), too_long);
+    // The place's identifier begins 204 bytes after the text does: its second digit is 4 and not 0.
+    text[207] = b'4';
+    let refused = import_pnml(text, room);
+    says(refused, "20: no export agrees with the text from byte 207 on");
+    assert_eq!((refused.unwrap_err().offset(), refused.unwrap_err().thing()), (Some(207), Thing::Net));
+    let cut = import_pnml(&text[..200], room);
+    says(cut, "20: the text is cut short at byte 200");
+    assert_eq!((cut.unwrap_err().number(), cut.unwrap_err().fault()), (20, Fault::TextCutShort));
+    says(import_pnml(&[], room), "20: the text is cut short at byte 0");
+    let many = PlainNet { colours: vec![64, 1], modes: vec![], pairs: vec![(OPEN, 0); 65], arcs: vec![] };
+    let mut text = [0; LARGEST_PNML];
+    let length = export_pnml(&many.sheet(), &mut text).unwrap();
+    let too_large = import_pnml(&text[..length], &mut []);
+    says(too_large, "4: the text has more than 64 pairs or modes");
+    assert_eq!((too_large.unwrap_err().offset(), too_large.unwrap_err().thing()), (None, Thing::Argument));
+}
+
+#[test]
 fn of_an_exclusion() {
     let plain = example();
     assert_eq!(exclude(&plain, &weights(&[1, 1]), &[3, 1]), Ok(()));
