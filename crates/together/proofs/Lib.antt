@@ -1,0 +1,6 @@
+pub mod Written
+pub mod Steps
+pub mod FigureStepped
+pub mod Beside
+pub mod NeverReached
+pub mod Together

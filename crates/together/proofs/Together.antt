@@ -1,0 +1,8 @@
+-- Every statement, with its one term.
+use Rattle.together.specs.Together.{Together}
+use Rattle.together.proofs.Beside.{in-step}
+use Rattle.together.proofs.FigureStepped.{figure-after-step}
+use Rattle.together.proofs.NeverReached.{reached-accepted, never-reached}
+
+pub together : Together
+together = record { reachedAccepted = reached-accepted; inStep = in-step; figureStepped = figure-after-step; neverReached = never-reached }

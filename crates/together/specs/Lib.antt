@@ -1,0 +1,6 @@
+pub mod Together
+pub mod Wrote
+pub mod Reached
+pub mod InStep
+pub mod FigureStepped
+pub mod NeverReached

@@ -1,0 +1,13 @@
+-- What holds of the requests of document 02 together, in one record: open this file first. What each call promises by itself is in promises/specs/Promises.antt.
+-- A field is a statement, of the file that its `use` line names; its term is in proofs/.
+use Rattle.together.specs.Reached.{ReachedAccepted}
+use Rattle.together.specs.InStep.{InStep}
+use Rattle.together.specs.FigureStepped.{FigureStepped}
+use Rattle.together.specs.NeverReached.{NeverReached}
+
+pub record Together : Type 0 where
+  -- of markings that calls leave, one after another
+  pub reachedAccepted : ReachedAccepted
+  pub inStep : InStep
+  pub figureStepped : FigureStepped
+  pub neverReached : NeverReached
