@@ -3,4 +3,5 @@ pub mod Steps
 pub mod FigureStepped
 pub mod Beside
 pub mod NeverReached
+pub mod SalvagesAlike
 pub mod Together

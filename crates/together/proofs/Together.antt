@@ -3,6 +3,14 @@ use Rattle.together.specs.Together.{Together}
 use Rattle.together.proofs.Beside.{in-step}
 use Rattle.together.proofs.FigureStepped.{figure-after-step}
 use Rattle.together.proofs.NeverReached.{reached-accepted, never-reached}
+use Rattle.together.proofs.SalvagesAlike.{salvages-alike}
 
 pub together : Together
-together = record { reachedAccepted = reached-accepted; inStep = in-step; figureStepped = figure-after-step; neverReached = never-reached }
+together =
+    record {
+      reachedAccepted = reached-accepted;
+      inStep = in-step;
+      figureStepped = figure-after-step;
+      neverReached = never-reached;
+      salvagesAlike = salvages-alike;
+    }

@@ -4,3 +4,4 @@ pub mod Reached
 pub mod InStep
 pub mod FigureStepped
 pub mod NeverReached
+pub mod SalvagesAlike
