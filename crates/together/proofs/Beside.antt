@@ -18,11 +18,12 @@ use Rattle.model.specs.Complement.{complement, complementRefusal, refusal15, Co
 use Rattle.model.specs.Audit.{audited}
 use Rattle.model.proofs.First.{left-none, none-then}
 use Rattle.model.proofs.Markings.{marking-test}
+use Rattle.model.proofs.ComplementNet.{start-corresponds}
 use Rattle.model.proofs.OutOfStep.{audit-finds}
 use Rattle.model.proofs.CorrespondingMoves.{accepts as accepted-there, accepts-back, move-corresponds}
 use Rattle.sheets.specs.Decoded.{netOf}
 use Rattle.fire.specs.Calls.{testRefusal, firedBy, beginRefusal, begun as begunBy}
-use Rattle.fire.proofs.Promises.{marking-stays}
+use Rattle.fire.proofs.Promises.{start-marks, marking-stays}
 use Rattle.run.specs.Calls.{runOf}
 use Rattle.run.proofs.Promises.{runs-keep}
 use Rattle.step.specs.Calls.{testStepRefusal, steppedBy}
@@ -82,7 +83,7 @@ module _ (net sheet : List ℕ) (w : ComplementWrote net sheet) where
     pub fire-kept : Kept net (firedBy net m t) (firedBy sheet m′ t)
     fire-kept = record { marked = marking-stays .fires net m t (k .marked); corresponds = fire-corresponds _ _ refl refl }
 
-  steps-agree : (m m′ modes : List ℕ) → Kept net m m′ → StepsAgree net sheet m m′ modes
+  pub steps-agree : (m m′ modes : List ℕ) → Kept net m m′ → StepsAgree net sheet m m′ modes
   steps-agree m m′ modes k =
       subst (λ s. StepsAgree net s m m′ modes) (is-written net sheet w) (two-steps net (w .out) (length sheet) (answers net sheet w) m m′ modes (k .marked) (k .corresponds))
 
@@ -116,6 +117,12 @@ module _ (net sheet : List ℕ) (w : ComplementWrote net sheet) where
   kept (stepped {m} {m′} b modes told told′ a a′ alike) =
       rw (a .1, a′ .1) (step-kept m m′ modes (kept b) (λ z. sym (ap number (a′ .0)) ∙ alike (ap number (a .0) ∙ z)))
   kept (ran {m} {m′} b movements told told′ a a′) = rw (a .1, a′ .1) (run-kept m m′ movements (kept b))
+
+  -- the first markings
+  pub first-beside : Beside net sheet (netOf net .start) (netOf sheet .start)
+  first-beside =
+      given {m′ = netOf sheet .start} (marking-test (netOf net) (netOf net .start) .1 (start-marks net (net-whole net sheet w)))
+      (rw (sheet-same net sheet w) (start-corresponds (netOf net) (can-complement net sheet w .wellFormed)))
 
   -- two markings that correspond to one are one
   corresponds-once : (m after m′ : List ℕ) → Corresponds (netOf net) m m′ → Corresponds (netOf net) after m′ → after ≡ m

@@ -10,14 +10,10 @@ use Rattle.model.specs.declared.Refusal.{Refusal}
 use Rattle.model.specs.Refusals.{answer}
 use Rattle.model.specs.Replies.{yields}
 use Rattle.model.specs.Runs.{run}
-use Rattle.model.specs.Markings.{markingRefusal}
-use Rattle.model.specs.Complement.{complement, Corresponds}
+use Rattle.model.specs.Complement.{complement}
 use Rattle.model.specs.DemandThree.{Agreement, becomes}
 use Rattle.model.proofs.Demand3.{demand3}
-use Rattle.model.proofs.Markings.{marking-test}
-use Rattle.model.proofs.ComplementNet.{start-corresponds}
 use Rattle.sheets.specs.Decoded.{netOf}
-use Rattle.fire.proofs.Promises.{start-marks}
 use Rattle.run.specs.declared.Ran.{Ran}
 use Rattle.run.specs.Calls.{runOf}
 use Rattle.run.specs.Contracts.{RunAllows}
@@ -30,10 +26,10 @@ use Rattle.salvage.specs.Promises.{AllBytes, Salvages}
 use Rattle.salvage.proofs.Considered.{modes-length}
 use Rattle.promises.specs.TwoRuns.{RunsAgree}
 use Rattle.together.specs.Wrote.{ComplementWrote, SalvageWrote}
-use Rattle.together.specs.Reached.{given, ran}
+use Rattle.together.specs.Reached.{ran}
 use Rattle.together.specs.SalvagesAlike.{ReportsAlike, SalvagedAlike, RunsInBoth, SalvagesAlike}
 use Rattle.together.proofs.Written.{can-complement, net-whole, sheet-whole, sheet-same, run-alike, salvages}
-use Rattle.together.proofs.Beside.{in-step}
+use Rattle.together.proofs.Beside.{first-beside, kept as kept-beside, in-step}
 
 module _ (net sheet : List ℕ) (w : ComplementWrote net sheet) (damaged : List ℕ) where
   agrees : Agreement (netOf net) (modesIn damaged)
@@ -84,18 +80,12 @@ module _ (net sheet : List ℕ) (w : ComplementWrote net sheet) (damaged : List 
             rw (← reported here (sym (ap told (a .0)) ∙ e), ← reported here (sym (ap told there) ∙ e′)) reports-alike;
       }
 
-  first-corresponds : Corresponds (netOf net) (netOf net .start) (netOf sheet .start)
-  first-corresponds = rw (sheet-same net sheet w) (start-corresponds (netOf net) (can-complement net sheet w .wellFormed))
-
-  first-accepted : markingRefusal (netOf net) (netOf net .start) ≡ none
-  first-accepted = marking-test (netOf net) (netOf net .start) .1 (start-marks net (net-whole net sheet w))
-
   module _ (fresh : List ℕ) (report : Report) (bytes : AllBytes damaged) (s : SalvageWrote net damaged fresh report) where
     is : Salvages net damaged fresh report
     is = salvages net damaged fresh report s bytes
 
     both : RunsAgree net sheet fresh (netOf net .start) (netOf sheet .start)
-    both = run-alike net sheet w .onwards fresh (netOf net .start) (netOf sheet .start) first-accepted first-corresponds
+    both = let k = kept-beside net sheet w (first-beside net sheet w) in run-alike net sheet w .onwards fresh (netOf net .start) (netOf sheet .start) (k .marked) (k .corresponds)
 
     whole-there : runOf sheet fresh (netOf sheet .start) .refusal ≡ none
     unfolding becomes
@@ -113,7 +103,7 @@ module _ (net sheet : List ℕ) (w : ComplementWrote net sheet) (damaged : List 
         record {
           whole = (rw (a .0, is .runsWhole) refl, rw (a′ .0, whole-there) refl);
           accepted = (ap (λ r. r .accepted) (a .0) ∙ all-kept, ap (λ r. r .accepted) (a′ .0) ∙ both .accepted ∙ all-kept);
-          findsNone = in-step net sheet w .always (o .1) (o′ .1) (ran (given first-accepted first-corresponds) fresh (o .0) (o′ .0) a a′);
+          findsNone = in-step net sheet w .always (o .1) (o′ .1) (ran (first-beside net sheet w) fresh (o .0) (o′ .0) a a′);
         }
 
 pub salvages-alike : SalvagesAlike

@@ -3,6 +3,7 @@ use Rattle.together.specs.Together.{Together}
 use Rattle.together.proofs.Beside.{in-step}
 use Rattle.together.proofs.FigureStepped.{figure-after-step}
 use Rattle.together.proofs.NeverReached.{reached-accepted, never-reached}
+use Rattle.together.proofs.NeverFires.{dead-never-fire}
 use Rattle.together.proofs.SalvagesAlike.{salvages-alike}
 
 pub together : Together
@@ -12,5 +13,6 @@ together =
       inStep = in-step;
       figureStepped = figure-after-step;
       neverReached = never-reached;
+      deadNeverFire = dead-never-fire;
       salvagesAlike = salvages-alike;
     }

@@ -4,4 +4,5 @@ pub mod Reached
 pub mod InStep
 pub mod FigureStepped
 pub mod NeverReached
+pub mod NeverFires
 pub mod SalvagesAlike

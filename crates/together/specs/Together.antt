@@ -4,6 +4,7 @@ use Rattle.together.specs.Reached.{ReachedAccepted}
 use Rattle.together.specs.InStep.{InStep}
 use Rattle.together.specs.FigureStepped.{FigureStepped}
 use Rattle.together.specs.NeverReached.{NeverReached}
+use Rattle.together.specs.NeverFires.{DeadNeverFire}
 use Rattle.together.specs.SalvagesAlike.{SalvagesAlike}
 
 pub record Together : Type 0 where
@@ -12,5 +13,6 @@ pub record Together : Type 0 where
   pub inStep : InStep
   pub figureStepped : FigureStepped
   pub neverReached : NeverReached
+  pub deadNeverFire : DeadNeverFire
   -- of a net and its complement, or what is written of them
   pub salvagesAlike : SalvagesAlike
