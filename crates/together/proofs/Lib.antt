@@ -5,4 +5,5 @@ pub mod Beside
 pub mod NeverReached
 pub mod NeverFires
 pub mod SalvagesAlike
+pub mod StripsThenComplements
 pub mod Together

@@ -5,6 +5,7 @@ use Rattle.together.proofs.FigureStepped.{figure-after-step}
 use Rattle.together.proofs.NeverReached.{reached-accepted, never-reached}
 use Rattle.together.proofs.NeverFires.{dead-never-fire}
 use Rattle.together.proofs.SalvagesAlike.{salvages-alike}
+use Rattle.together.proofs.StripsThenComplements.{strips-then-complements}
 
 pub together : Together
 together =
@@ -15,4 +16,5 @@ together =
       neverReached = never-reached;
       deadNeverFire = dead-never-fire;
       salvagesAlike = salvages-alike;
+      stripsThenComplements = strips-then-complements;
     }

@@ -6,3 +6,4 @@ pub mod FigureStepped
 pub mod NeverReached
 pub mod NeverFires
 pub mod SalvagesAlike
+pub mod StripsThenComplements

@@ -6,6 +6,7 @@ use Rattle.together.specs.FigureStepped.{FigureStepped}
 use Rattle.together.specs.NeverReached.{NeverReached}
 use Rattle.together.specs.NeverFires.{DeadNeverFire}
 use Rattle.together.specs.SalvagesAlike.{SalvagesAlike}
+use Rattle.together.specs.StripsThenComplements.{StripsThenComplements}
 
 pub record Together : Type 0 where
   -- of markings that calls leave, one after another
@@ -16,3 +17,4 @@ pub record Together : Type 0 where
   pub deadNeverFire : DeadNeverFire
   -- of a net and its complement, or what is written of them
   pub salvagesAlike : SalvagesAlike
+  pub stripsThenComplements : StripsThenComplements
