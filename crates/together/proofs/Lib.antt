@@ -4,6 +4,7 @@ pub mod FigureStepped
 pub mod Beside
 pub mod NeverReached
 pub mod NeverFires
+pub mod FleetOfRuns
 pub mod SalvagesAlike
 pub mod StripsThenComplements
 pub mod Together

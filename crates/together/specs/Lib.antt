@@ -5,5 +5,6 @@ pub mod InStep
 pub mod FigureStepped
 pub mod NeverReached
 pub mod NeverFires
+pub mod FleetOfRuns
 pub mod SalvagesAlike
 pub mod StripsThenComplements

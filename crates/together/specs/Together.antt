@@ -5,6 +5,7 @@ use Rattle.together.specs.InStep.{InStep}
 use Rattle.together.specs.FigureStepped.{FigureStepped}
 use Rattle.together.specs.NeverReached.{NeverReached}
 use Rattle.together.specs.NeverFires.{DeadNeverFire}
+use Rattle.together.specs.FleetOfRuns.{FleetOfRuns}
 use Rattle.together.specs.SalvagesAlike.{SalvagesAlike}
 use Rattle.together.specs.StripsThenComplements.{StripsThenComplements}
 
@@ -15,6 +16,7 @@ pub record Together : Type 0 where
   pub figureStepped : FigureStepped
   pub neverReached : NeverReached
   pub deadNeverFire : DeadNeverFire
+  pub fleetOfRuns : FleetOfRuns
   -- of a net and its complement, or what is written of them
   pub salvagesAlike : SalvagesAlike
   pub stripsThenComplements : StripsThenComplements
