@@ -7,4 +7,7 @@ pub mod NeverFires
 pub mod FleetOfRuns
 pub mod SalvagesAlike
 pub mod StripsThenComplements
+pub mod SameMoves
+pub mod SameCalls
+pub mod Exchanged
 pub mod Together

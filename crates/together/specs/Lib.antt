@@ -8,3 +8,4 @@ pub mod NeverFires
 pub mod FleetOfRuns
 pub mod SalvagesAlike
 pub mod StripsThenComplements
+pub mod Exchanged

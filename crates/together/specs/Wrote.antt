@@ -9,6 +9,10 @@ use Rattle.complement.specs.Complemented as complementing
 use Rattle.complement.specs.Contracts.{ComplementAllows}
 use Rattle.strip.specs.Stripped as stripping
 use Rattle.strip.specs.Contracts.{StripAllows}
+use Rattle.export.specs.Exports as exporting
+use Rattle.export.specs.Contracts.{ExportPnmlAllows}
+use Rattle.import.specs.Imports as importing
+use Rattle.import.specs.Contracts.{ImportPnmlAllows}
 use Rattle.salvage.specs.declared.Report.{Report}
 use Rattle.salvage.specs.declared.Salvaged.{Salvaged}
 use Rattle.salvage.specs.Salvaged as salvaging
@@ -27,6 +31,13 @@ ComplementWrote net sheet = Wrote (ComplementAllows net) complementing.told shee
 
 abbrev pub StripWrote : List ℕ → Pair → List ℕ → Type 0
 StripWrote net p sheet = Wrote (StripAllows net p) stripping.told sheet
+
+-- of a net sheet, its text in PNML; and of a text, a net sheet
+abbrev pub ExportWrote : List ℕ → List ℕ → Type 0
+ExportWrote net text = Wrote (ExportPnmlAllows net) exporting.told text
+
+abbrev pub ImportWrote : List ℕ → List ℕ → Type 0
+ImportWrote text sheet = Wrote (ImportPnmlAllows text) importing.told sheet
 
 -- of damaged bytes, a fresh movement sheet, and what is reported of it
 pub record SalvageWrote (net damaged sheet : List ℕ) (report : Report) : Type 0 where
