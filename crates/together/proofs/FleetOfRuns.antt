@@ -37,12 +37,12 @@ use Rattle.together.specs.FleetOfRuns.{Own, Says, sizes, FleetOfRuns}
 use Rattle.together.proofs.FigureStepped.{told-figure}
 
 -- a ship whose sheets are accepted
-record Sheets (s : Ship) : Type 0 where
-  net : wholeNet (s .net) ≡ none
-  weights : wholeWeights (pairs (netOf (s .net))) (s .weights) ≡ none
-  movements : wholeMovements (s .movements) ≡ none
+pub record Sheets (s : Ship) : Type 0 where
+  pub net : wholeNet (s .net) ≡ none
+  pub weights : wholeWeights (pairs (netOf (s .net))) (s .weights) ≡ none
+  pub movements : wholeMovements (s .movements) ≡ none
 
-counted-sheets : (f : Fleet) (s : Ship) (o : Answer × Fleet) → AddShipAllows f (s .net) (s .weights) (s .movements) o → number (o .0) ≡ 0 → Sheets s
+pub counted-sheets : (f : Fleet) (s : Ship) (o : Answer × Fleet) → AddShipAllows f (s .net) (s .weights) (s .movements) o → number (o .0) ≡ 0 → Sheets s
 unfolding entered shipRefusal
 counted-sheets f s o a e =
     let after = right-none _ _ (right-none _ _ (number-none (shipRefusal f s) (sym (ap number (a .0)) ∙ e))) in
@@ -76,7 +76,7 @@ module _ (s : Ship) (is : Sheets s) where
   unfolding beforeRun
   begins = none-then (is .net) (none-then (is .movements) start-accepted)
 
-  runs-as : runOf (s .net) (s .movements) start ≡ outcome s
+  pub runs-as : runOf (s .net) (s .movements) start ≡ outcome s
   unfolding runOf
   runs-as = rw begins
 

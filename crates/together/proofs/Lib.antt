@@ -5,6 +5,7 @@ pub mod Beside
 pub mod NeverReached
 pub mod NeverFires
 pub mod FleetOfRuns
+pub mod Frauds
 pub mod SalvagesAlike
 pub mod StripsThenComplements
 pub mod SameMoves

@@ -5,6 +5,7 @@ use Rattle.together.proofs.NeverReached.{reached-accepted, never-reache
 use Rattle.together.proofs.FigureStepped.{figure-after-step}
 use Rattle.together.proofs.NeverFires.{dead-never-fire}
 use Rattle.together.proofs.FleetOfRuns.{fleet-of-runs}
+use Rattle.together.proofs.Frauds.{more-frauds}
 use Rattle.together.proofs.Beside.{in-step}
 use Rattle.together.proofs.SalvagesAlike.{salvages-alike}
 use Rattle.together.proofs.StripsThenComplements.{strips-then-complements}
@@ -25,4 +26,5 @@ together =
       comesBack = comes-back;
       complementComesBack = complement-comes-back;
       equalNets = equal-nets;
+      moreFrauds = more-frauds;
     }

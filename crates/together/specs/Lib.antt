@@ -6,6 +6,7 @@ pub mod FigureStepped
 pub mod NeverReached
 pub mod NeverFires
 pub mod FleetOfRuns
+pub mod Frauds
 pub mod SalvagesAlike
 pub mod StripsThenComplements
 pub mod Exchanged

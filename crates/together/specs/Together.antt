@@ -7,6 +7,7 @@ use Rattle.together.specs.FigureStepped.{FigureStepped}
 use Rattle.together.specs.NeverReached.{NeverReached}
 use Rattle.together.specs.NeverFires.{DeadNeverFire}
 use Rattle.together.specs.FleetOfRuns.{FleetOfRuns}
+use Rattle.together.specs.Frauds.{MoreFrauds}
 use Rattle.together.specs.SalvagesAlike.{SalvagesAlike}
 use Rattle.together.specs.StripsThenComplements.{StripsThenComplements}
 use Rattle.together.specs.Exchanged.{ComplementsExport, ComesBack, ComplementComesBack}
@@ -28,3 +29,5 @@ pub record Together : Type 0 where
   pub complementComesBack : ComplementComesBack
   -- of two sheets of one net, over every call that takes a net sheet
   pub equalNets : EqualNets
+  -- of the contracts of the calls
+  pub moreFrauds : MoreFrauds
