@@ -36,7 +36,7 @@ use Rattle.promises.proofs.TwoSteps.{two-steps}
 use Rattle.promises.proofs.DemandOne.{demand-one}
 use Rattle.promises.proofs.Audits.{told-audited, told-in-step}
 use Rattle.together.specs.Wrote.{ComplementWrote}
-use Rattle.together.specs.Reached.{Beside, given, begun, fired, stepped, ran}
+use Rattle.together.specs.Reached.{ReachedBeside, given, begun, fired, stepped, ran}
 use Rattle.together.specs.InStep.{InStep}
 use Rattle.together.proofs.Written.{answers, is-written, accepts, can-complement, net-whole, sheet-whole, sheet-same, run-alike}
 use Rattle.together.proofs.Steps.{step-keeps}
@@ -108,7 +108,7 @@ module _ (net sheet : List ℕ) (w : ComplementWrote net sheet) where
   begin-kept : (m m′ : List ℕ) → beginRefusal net m ≡ none → beginRefusal sheet m′ ≡ none → Kept net (begunBy net m) (begunBy sheet m′)
   begin-kept m m′ e e′ = record { marked = marking-stays .begins net m e; corresponds = run-alike net sheet w .atStart m m′ e e′ }
 
-  pub kept : {m m′ : List ℕ} → Beside net sheet m m′ → Kept net m m′
+  pub kept : {m m′ : List ℕ} → ReachedBeside net sheet m m′ → Kept net m m′
   kept (given a c) = record { marked = a; corresponds = c }
   kept (begun m m′ told told′ a z a′ z′) =
       rw (a .1, a′ .1)
@@ -119,7 +119,7 @@ module _ (net sheet : List ℕ) (w : ComplementWrote net sheet) where
   kept (ran {m} {m′} b movements told told′ a a′) = rw (a .1, a′ .1) (run-kept m m′ movements (kept b))
 
   -- the first markings
-  pub first-beside : Beside net sheet (netOf net .start) (netOf sheet .start)
+  pub first-beside : ReachedBeside net sheet (netOf net .start) (netOf sheet .start)
   first-beside =
       given {m′ = netOf sheet .start} (marking-test (netOf net) (netOf net .start) .1 (start-marks net (net-whole net sheet w)))
       (rw (sheet-same net sheet w) (start-corresponds (netOf net) (can-complement net sheet w .wellFormed)))

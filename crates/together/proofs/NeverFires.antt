@@ -38,8 +38,8 @@ use Rattle.promises.proofs.Accepting.{number-none}
 use Rattle.promises.proofs.DemandOne.{demand-one}
 use Rattle.promises.proofs.DeadAsWritten.{dead-as-written}
 use Rattle.together.specs.Wrote.{ComplementWrote}
-use Rattle.together.specs.Reached.{Beside}
-use Rattle.together.specs.NeverFires.{Among, Silent, DeadNeverFire}
+use Rattle.together.specs.Reached.{ReachedBeside}
+use Rattle.together.specs.NeverFires.{Among, NeverFiresAt, DeadNeverFire}
 use Rattle.together.proofs.Written.{answers, is-written, run-alike, salvages}
 use Rattle.together.proofs.Beside.{test-back, steps-agree, kept, first-beside}
 use Rattle.together.proofs.Steps.{step-asked}
@@ -73,7 +73,7 @@ module _ (net : List ℕ) (t : Mode) (At : List ℕ → Type 0) (no-test : (m : 
   not-stepped : (m modes : List ℕ) → At m → Among t (stepModes modes) → (o : Answer) → o ≡ answer (testStepRefusal net m modes) → number o ≢ 0
   not-stepped m modes h among o a z = no-step m modes h among (number-none (testStepRefusal net m modes) (sym (ap number a) ∙ z))
 
-  silent : Silent net t At
+  silent : NeverFiresAt net t At
   silent =
       record {
         test = not-tested;
@@ -126,7 +126,7 @@ module _ (net : List ℕ) (t : Mode) (dead : isDead (netOf net) t ≡ true) wher
 -- in the complement
 module _ (net sheet : List ℕ) (w : ComplementWrote net sheet) (t : Mode) (dead : isDead (netOf net) t ≡ true) where
   abbrev Here : List ℕ → Type 0
-  Here m′ = (m : List ℕ) × Beside net sheet m m′
+  Here m′ = (m : List ℕ) × ReachedBeside net sheet m m′
 
   beside-test : (m′ : List ℕ) → Here m′ → testRefusal sheet m′ t ≢ none
   beside-test m′ h e = dead-test net t dead (h .0) (test-back net sheet w (h .0) m′ (kept net sheet w (h .1)) t e)
@@ -139,7 +139,7 @@ module _ (net sheet : List ℕ) (w : ComplementWrote net sheet) (t : Mode) (dead
       let k = kept net sheet w (h .1) in
       rw (run-alike net sheet w .onwards movements (h .0) m′ (k .marked) (k .corresponds) .accepted) (dead-run net t dead movements (h .0))
 
-  beside-silent : Silent sheet t Here
+  beside-silent : NeverFiresAt sheet t Here
   beside-silent = silent sheet t Here beside-test beside-step beside-run (λ _. (netOf net .start, first-beside net sheet w))
 
 -- of a mode that the call says yes of

@@ -138,7 +138,7 @@ never-reached net weights claim told a z =
     let e = number-none (excludeRefusal net weights claim) (sym (ap number a) ∙ z) in
     record {
       reached = λ m r. not-claim net weights claim e r;
-      along = λ movements o allows j h m l same. no-list-leads net weights claim e _ (rw same at l);
+      along = λ ts m l same. no-list-leads net weights claim e ts (rw same at l);
       certified = λ movements told c zero. no-sheet-certifies net weights claim e movements (number-none (certifyRefusal net movements claim) (sym (ap number c) ∙ zero));
       salvaged = λ damaged sheet report bytes w told c.
           let s = salvages net damaged sheet report w bytes in

@@ -25,7 +25,7 @@ use Rattle.promises.proofs.Accepting.{number-none}
 use Rattle.promises.proofs.StripWritten.{pair-accepted}
 use Rattle.promises.proofs.Stripping.{stripping}
 use Rattle.together.specs.Wrote.{ComplementWrote, StripWrote}
-use Rattle.together.specs.Reached.{Beside, fired}
+use Rattle.together.specs.Reached.{ReachedBeside, fired}
 use Rattle.together.specs.StripsThenComplements.{besidePair, LeftBare, BareBeside, StripsThenComplements}
 use Rattle.together.proofs.Written.{run-alike}
 use Rattle.together.proofs.Beside.{Kept, kept, test-forth, test-back, fire-kept, in-step}
@@ -58,7 +58,7 @@ module _ (net : List ℕ) (p : Pair) (bare : List ℕ) (w : StripWrote net p bar
   pair-there = leb-false _ _ (only-if-none _ _ (left-none _ _ (pair-accepted net p (w .out) (length bare) (sym (ap told (w .allowed .0)) ∙ w .answered))))
 
 module _ (net : List ℕ) (p : Pair) (bare sheet : List ℕ) (w : StripWrote net p bare) (c : ComplementWrote bare sheet) (k : ℕ) (e : K (netOf net) (p .0) ≡ fin k) (m m′ : List ℕ)
-    (b : Beside bare sheet m m′) where
+    (b : ReachedBeside bare sheet m m′) where
   before : Kept bare m m′
   before = kept bare sheet c b
 

@@ -12,7 +12,7 @@ use Rattle.audit.specs.declared.Found.{Found}
 use Rattle.audit.specs.Audits as audits
 use Rattle.audit.specs.Contracts.{AuditAllows}
 use Rattle.together.specs.Wrote.{ComplementWrote}
-use Rattle.together.specs.Reached.{Beside}
+use Rattle.together.specs.Reached.{ReachedBeside}
 
 abbrev pub FindsNone : List ℕ → List ℕ → List ℕ → Type 0
 FindsNone net m m′ = (o : Found) → AuditAllows net m m′ o → audits.told o ≡ yields none
@@ -20,9 +20,9 @@ FindsNone net m m′ = (o : Found) → AuditAllows net m m′ o → audits.told 
 module _ (net sheet : List ℕ) where
   pub record KeepsStep : Type 0 where
     -- after begin, fire, run and a step that is answered alike, in any order, from markings that correspond
-    pub always : (m m′ : List ℕ) → Beside net sheet m m′ → FindsNone net m m′
+    pub always : (m m′ : List ℕ) → ReachedBeside net sheet m m′ → FindsNone net m m′
     -- and a step that the complement alone refuses shows at once, unless it changes nothing
-    pub parted : (m m′ modes after after′ : List ℕ) (told told′ : Answer) → Beside net sheet m m′ → FireStepAllows net m modes (told, after)
+    pub parted : (m m′ modes after after′ : List ℕ) (told told′ : Answer) → ReachedBeside net sheet m m′ → FireStepAllows net m modes (told, after)
         → FireStepAllows sheet m′ modes (told′, after′) → number told′ ≢ 0 → after ≢ m → (o : Found) → AuditAllows net after after′ o → audits.told o ≢ yields none
 
 abbrev pub InStep : Type 0

@@ -23,13 +23,13 @@ use Rattle.dead.specs.Contracts.{IsDeadAllows}
 use Rattle.salvage.specs.declared.Report.{Report}
 use Rattle.salvage.specs.Promises.{AllBytes}
 use Rattle.together.specs.Wrote.{ComplementWrote, SalvageWrote}
-use Rattle.together.specs.Reached.{Beside}
+use Rattle.together.specs.Reached.{ReachedBeside}
 
 abbrev pub Among : Mode → List Mode → Type 0
 Among t ts = (i : ℕ) × (i < length ts) × (getD ts i (modeNo 0) ≡ t)
 
 -- over a net sheet, at such markings; certificates and salvage are from the first marking
-pub record Silent (net : List ℕ) (t : Mode) (At : List ℕ → Type 0) : Type 0 where
+pub record NeverFiresAt (net : List ℕ) (t : Mode) (At : List ℕ → Type 0) : Type 0 where
   pub test : (m : List ℕ) → At m → (o : Answer) → TestAllows net m t o → number o ≢ 0
   pub fire : (m : List ℕ) → At m → (o : Answer × List ℕ) → FireAllows net m t o → (number (o .0) ≢ 0) × (o .1 ≡ m)
   -- a step that it is a member of
@@ -42,10 +42,10 @@ pub record Silent (net : List ℕ) (t : Mode) (At : List ℕ → Type 0) : Type 
 
 pub record NeverFires (net : List ℕ) (t : Mode) : Type 0 where
   -- at any marking
-  pub inNet : Silent net t (λ m. Unit {0})
+  pub inNet : NeverFiresAt net t (λ m. Unit {0})
   -- at a marking beside one of the net; test answers 11
-  pub inComplement : (sheet : List ℕ) → ComplementWrote net sheet → Silent sheet t (λ m′. (m : List ℕ) × Beside net sheet m m′)
-  pub by11 : (sheet : List ℕ) → ComplementWrote net sheet → (m m′ : List ℕ) → Beside net sheet m m′ → (o : Answer) → TestAllows sheet m′ t o → number o ≡ 11
+  pub inComplement : (sheet : List ℕ) → ComplementWrote net sheet → NeverFiresAt sheet t (λ m′. (m : List ℕ) × ReachedBeside net sheet m m′)
+  pub by11 : (sheet : List ℕ) → ComplementWrote net sheet → (m m′ : List ℕ) → ReachedBeside net sheet m m′ → (o : Answer) → TestAllows sheet m′ t o → number o ≡ 11
 
 abbrev pub DeadNeverFire : Type 0
 DeadNeverFire = (net : List ℕ) (t : Mode) (o : Deadness) → IsDeadAllows net t o → told o ≡ yields true → NeverFires net t

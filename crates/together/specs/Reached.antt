@@ -23,16 +23,16 @@ pub data Reached (net : List ℕ) : List ℕ → Type 0 where
 
 -- The same calls over a net sheet and over its complement's, each with a marking of its own: from the first markings, or from any two that correspond.
 -- A step that the net accepts and its complement does not is left out ("It is false in general", document 02, P1): there the two markings part.
-pub data Beside (net sheet : List ℕ) : List ℕ → List ℕ → Type 0 where
-  given : {m m′ : List ℕ} → markingRefusal (netOf net) m ≡ none → Corresponds (netOf net) m m′ → Beside net sheet m m′
+pub data ReachedBeside (net sheet : List ℕ) : List ℕ → List ℕ → Type 0 where
+  given : {m m′ : List ℕ} → markingRefusal (netOf net) m ≡ none → Corresponds (netOf net) m m′ → ReachedBeside net sheet m m′
   begun : {after after′ : List ℕ} (m m′ : List ℕ) (told told′ : Answer) → BeginAllows net m (told, after) → number told ≡ 0
-      → BeginAllows sheet m′ (told′, after′) → number told′ ≡ 0 → Beside net sheet after after′
-  fired : {m m′ after after′ : List ℕ} → Beside net sheet m m′ → (t : Mode) (told told′ : Answer) → FireAllows net m t (told, after)
-      → FireAllows sheet m′ t (told′, after′) → Beside net sheet after after′
-  stepped : {m m′ after after′ : List ℕ} → Beside net sheet m m′ → (modes : List ℕ) (told told′ : Answer) → FireStepAllows net m modes (told, after)
-      → FireStepAllows sheet m′ modes (told′, after′) → (number told ≡ 0 → number told′ ≡ 0) → Beside net sheet after after′
-  ran : {m m′ after after′ : List ℕ} → Beside net sheet m m′ → (movements : List ℕ) (told told′ : Ran) → RunAllows net movements m (told, after)
-      → RunAllows sheet movements m′ (told′, after′) → Beside net sheet after after′
+      → BeginAllows sheet m′ (told′, after′) → number told′ ≡ 0 → ReachedBeside net sheet after after′
+  fired : {m m′ after after′ : List ℕ} → ReachedBeside net sheet m m′ → (t : Mode) (told told′ : Answer) → FireAllows net m t (told, after)
+      → FireAllows sheet m′ t (told′, after′) → ReachedBeside net sheet after after′
+  stepped : {m m′ after after′ : List ℕ} → ReachedBeside net sheet m m′ → (modes : List ℕ) (told told′ : Answer) → FireStepAllows net m modes (told, after)
+      → FireStepAllows sheet m′ modes (told′, after′) → (number told ≡ 0 → number told′ ≡ 0) → ReachedBeside net sheet after after′
+  ran : {m m′ after after′ : List ℕ} → ReachedBeside net sheet m m′ → (movements : List ℕ) (told told′ : Ran) → RunAllows net movements m (told, after)
+      → RunAllows sheet movements m′ (told′, after′) → ReachedBeside net sheet after after′
 
 -- What one call left, the next accepts as a marking.
 abbrev pub ReachedAccepted : Type 0

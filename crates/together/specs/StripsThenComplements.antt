@@ -15,7 +15,7 @@ use Rattle.fire.specs.Contracts.{TestAllows, FireAllows}
 use Rattle.strip.specs.Strip.{newMode}
 use Rattle.promises.specs.TwoRuns.{RunAlike}
 use Rattle.together.specs.Wrote.{ComplementWrote, StripWrote}
-use Rattle.together.specs.Reached.{Beside}
+use Rattle.together.specs.Reached.{ReachedBeside}
 use Rattle.together.specs.InStep.{FindsNone}
 
 -- the number of a pair's complement pair: stripping adds modes and no pair
@@ -41,7 +41,7 @@ module _ (net : List ℕ) (p : Pair) (k : ℕ) (bare sheet : List ℕ) where
   pub record StripComplement : Type 0 where
     -- demand 3, of any list, and from any markings that correspond
     pub runs : RunAlike bare sheet
-    pub bares : (m m′ : List ℕ) → Beside bare sheet m m′ → BareBeside m m′
+    pub bares : (m m′ : List ℕ) → ReachedBeside bare sheet m m′ → BareBeside m m′
 
 abbrev pub StripsThenComplements : Type 0
 StripsThenComplements = (net : List ℕ) (p : Pair) (bare sheet : List ℕ) → StripWrote net p bare → ComplementWrote bare sheet
