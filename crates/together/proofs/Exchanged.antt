@@ -17,7 +17,7 @@ use Rattle.model.specs.declared.Version.the-variants.{One}
 use Rattle.model.specs.First.{onlyIf}
 use Rattle.model.specs.Refusals.{wrong}
 use Rattle.model.specs.Replies.{yields}
-use Rattle.model.specs.Nets.{pairs, modes}
+use Rattle.model.specs.Nets.{PNet, pairs, modes}
 use Rattle.model.proofs.First.{left-none, right-none, none-then}
 use Rattle.model.proofs.Demand3.{demand3}
 use Rattle.sheets.specs.Whole.{wholeNet}
@@ -125,12 +125,18 @@ module _ (sheet text : List ℕ) (w : ExportWrote sheet text) where
           unboundedToo = λ p h. exportable .capacities p (omega (arith, s .pairs));
         })
 
+-- a text says pairs, modes, first marking and arcs
+text-same : {a b : PNet} → Same a b → pnml a ≡ pnml b
+unfolding pnml
+text-same same = rw (same .samePairs, same .sameModes, same .sameStart, same .sameArcs)
+
 pub comes-back : ComesBack
 comes-back sheet text w =
     record {
       accepted = λ p m out h o a.
           let here = subst (λ s. ImportPnmlAllows s out o) (text-is sheet text w) a in
           ap importing.told (imports-exactly .all (netOf sheet) (record { exportable = exportable sheet text w; pairs = p; modes = m }) out h o here .0);
+      again = λ back text′ i w′. text-is back text′ w′ ∙ text-same (back-same sheet text w back i) ∙ sym (text-is sheet text w);
       alike = λ back i. moves-alike back sheet (back-whole sheet text w back i) (exported-whole sheet text w) (back-same sheet text w back i);
     }
 

@@ -3,24 +3,30 @@ use Prim.Native.Nat.{ℕ, suc, _+_, _<_}
 use mathlib.Core.Path.{_≡_, refl, sym, _∙_, ap, ap₂}
 use mathlib.Core.Bool.{not}
 use mathlib.Core.List.{List, [], _∷_, map}
+use mathlib.Core.Option.{Option, Option·map}
 use lib.Dec.{eqb}
 use lib.IntN.{ℤ}
 use lib.ListN.{length, take}
+use Rattle.model.specs.declared.CapacityRule.{CapacityRule}
+use Rattle.model.specs.declared.CapacityRule.the-variants.{Strong, Weak}
 use Rattle.model.specs.declared.Mode.{Mode}
 use Rattle.model.specs.declared.Thing.{Thing}
-use Rattle.model.specs.declared.Thing.the-variants.{Movements, Argument}
-use Rattle.model.specs.declared.Fault.the-variants.{NotOneEach}
-use Rattle.model.specs.First.{_▸_, first, onlyIf}
+use Rattle.model.specs.declared.Thing.the-variants.{Net, Movements, Argument}
+use Rattle.model.specs.declared.Fault.the-variants.{NotOneEach, EqualFigures}
+use Rattle.model.specs.declared.Refusal.{Refusal}
+use Rattle.model.specs.First.{_▸_, first, onlyIf, lowest}
 use Rattle.model.specs.Refusals.{wrong}
 use Rattle.model.specs.Numbers.{∞}
 use Rattle.model.specs.Rows.{Row, Counts}
-use Rattle.model.specs.Nets.{PNet, total, pairs, modes, K, count, entryAt, row}
+use Rattle.model.specs.Nets.{PNet, total, pairs, modes, pairNo, modeNo, K, count, entryAt, row}
 use Rattle.model.specs.Markings.{unequal, countAtRefusal, markingRefusal}
 use Rattle.model.specs.Firing.{rooms, rowRefusal, modeRefusal, fired}
 use Rattle.model.specs.Runs.{Outcome, runFrom, run, elsewhere, endsAt, certificateRefusal}
 use Rattle.model.specs.Steps.{beside, together, stepRefusal, firedTogether}
 use Rattle.model.specs.Visits.{modeArcs, visited}
 use Rattle.model.specs.Figures.{figure, change}
+use Rattle.model.specs.Exclusion.{equal, unbalancedAt, sameFigure, claimRefusal}
+use Rattle.model.specs.Dead.{kills, deadPair, firstDead}
 use Rattle.model.proofs.First.{first-ext}
 use Rattle.model.proofs.Rooms.{room-unbounded}
 use Rattle.model.proofs.CorrespondingMoves.{row-ext}
@@ -99,3 +105,39 @@ module _ (a b : PNet) (same : Same a b) where
   pub change-same : (weights : List ℤ) (t : Mode) → change a weights t ≡ change b weights t
   unfolding change
   change-same weights t = rw (same .samePairs, same .sameArcs)
+
+  figures-same : (weights : List ℤ) (claim : List ℕ) → sameFigure a weights claim ≡ sameFigure b weights claim
+  unfolding sameFigure
+  figures-same weights claim =
+      ap₂ (λ (x y : ℤ). onlyIf (equal x y) (wrong Net EqualFigures)) (figure-same weights claim)
+      (figure-same weights (a .start) ∙ ap (figure b weights) (same .sameStart))
+
+  unbalanced-same : (weights : List ℤ) (t : ℕ) → unbalancedAt a weights t ≡ unbalancedAt b weights t
+  unbalanced-same weights t = rw (change-same weights (modeNo t))
+
+  pub claim-same : (weights : List ℤ) (claim : List ℕ) → claimRefusal a weights claim ≡ claimRefusal b weights claim
+  unfolding claimRefusal
+  claim-same weights claim =
+      ap₂ (λ (n : ℕ) (f : ℕ → Option Refusal). first n f ▸ sameFigure a weights claim) (same .sameModes) (λ i t. unbalanced-same weights t i)
+      ∙ ap (λ o. first (modes b) (unbalancedAt b weights) ▸ o) (figures-same weights claim)
+
+  -- where K is unbounded, both rules hold Pre to I alone
+  kills-same : (t : Mode) (p : ℕ) → p < pairs a → kills (a .rule) (row a t p) (K a p) ≡ kills (b .rule) (row b t p) (K b p)
+  kills-same t p h = rw (same .unbounded p h, same .unboundedToo p h, same .sameArcs) (free (a .rule) (b .rule))
+    where
+      free : (r q : CapacityRule) → kills r (row b t p) ∞ ≡ kills q (row b t p) ∞
+      free Strong Strong = refl
+      free Strong Weak = refl
+      free Weak Strong = refl
+      free Weak Weak = refl
+
+  pub dead-pair-same : (t : Mode) → deadPair a t ≡ deadPair b t
+  unfolding deadPair
+  dead-pair-same t =
+      first-ext (pairs a) _ _ (λ p h. ap (λ k. onlyIf k p) (kills-same t p h))
+      ∙ ap (λ n. lowest n (λ p. kills (b .rule) (row b t p) (K b p)) (λ p. p)) (same .samePairs)
+
+  pub first-dead-same : firstDead a ≡ firstDead b
+  unfolding firstDead
+  first-dead-same =
+      ap₂ (λ (n : ℕ) (f : ℕ → Option ℕ). first n (λ t. Option·map (λ p. record { mode = modeNo t; pair = pairNo p }) (f t))) (same .sameModes) (λ i t. dead-pair-same (modeNo t) i)

@@ -12,6 +12,11 @@ use Rattle.fire.specs.Contracts.{BeginAllows, TestAllows, FireAllows}
 use Rattle.run.specs.Contracts.{RunAllows, CertifyAllows}
 use Rattle.step.specs.Contracts.{TestStepAllows, FireStepAllows}
 use Rattle.weigh.specs.Contracts.{FigureAllows, ChangeAllows}
+use Rattle.fleet.specs.declared.Fleet.{Fleet}
+use Rattle.fleet.specs.Contracts.{AddShipAllows}
+use Rattle.exclude.specs.Contracts.{ExcludeAllows}
+use Rattle.dead.specs.Contracts.{IsDeadAllows, FirstDeadAllows}
+use Rattle.size.specs.Contracts.{SizeAllows}
 use Rattle.salvage.specs.Contracts.{SalvageAllows}
 use Rattle.export.specs.declared.Exported.{Exported}
 use Rattle.export.specs.Exports as exporting
@@ -32,7 +37,8 @@ pub record Exports (sheet : List ℕ) : Type 0 where
 abbrev pub ComplementsExport : Type 0
 ComplementsExport = (net sheet : List ℕ) → ComplementWrote net sheet → Exports sheet
 
--- 2. A net sheet and the one that came back of it. Its places and transitions are others, and its rule may be; all that is asked of pairs and modes stays.
+-- 2. A net sheet and the one that came back of it, whose places and transitions are others, and whose rule may be. A field for each call that asks of a net what
+-- its pairs and modes do; a contract allows one outcome (`Uniqueness`), so that each holds both ways.
 pub record MovesAlike (sheet back : List ℕ) : Type 0 where
   pub begin : (m : List ℕ) → Within (BeginAllows sheet m) (BeginAllows back m)
   pub test : (m : List ℕ) (t : Mode) → Within (TestAllows sheet m t) (TestAllows back m t)
@@ -45,12 +51,19 @@ pub record MovesAlike (sheet back : List ℕ) : Type 0 where
   pub salvage : (damaged out : List ℕ) → Within (SalvageAllows sheet damaged out) (SalvageAllows back damaged out)
   pub figure : (weights m : List ℕ) → Within (FigureAllows sheet weights m) (FigureAllows back weights m)
   pub change : (weights : List ℕ) (t : Mode) → Within (ChangeAllows sheet weights t) (ChangeAllows back weights t)
+  pub exclude : (weights claim : List ℕ) → Within (ExcludeAllows sheet weights claim) (ExcludeAllows back weights claim)
+  pub addShip : (found : Fleet) (weights movements : List ℕ) → Within (AddShipAllows found sheet weights movements) (AddShipAllows found back weights movements)
+  pub isDead : (t : Mode) → Within (IsDeadAllows sheet t) (IsDeadAllows back t)
+  pub firstDead : Within (FirstDeadAllows sheet) (FirstDeadAllows back)
+  pub size : Within (SizeAllows sheet) (SizeAllows back)
 
 pub record Returns (sheet text : List ℕ) : Type 0 where
   -- "A net of at most 64 pairs and 64 modes": import accepts its text wherever there is room
   pub accepted : pairs (netOf sheet) ≤ 64 → modes (netOf sheet) ≤ 64 → (out : List ℕ) → length (importing.importedSheet (netOf sheet)) ≤ length out
       → (o : Imported × List ℕ) → ImportPnmlAllows text out o → importing.told (o .0) ≡ yields (length (importing.importedSheet (netOf sheet)))
   pub alike : (back : List ℕ) → ImportWrote text back → MovesAlike sheet back
+  -- and its text is the same
+  pub again : (back text′ : List ℕ) → ImportWrote text back → ExportWrote back text′ → text′ ≡ text
 
 abbrev pub ComesBack : Type 0
 ComesBack = (sheet text : List ℕ) → ExportWrote sheet text → Returns sheet text
