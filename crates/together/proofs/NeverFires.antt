@@ -15,10 +15,13 @@ use Rattle.model.specs.declared.Thing.the-variants.{Movements, Argument}
 use Rattle.model.specs.declared.Answer.{Answer}
 use Rattle.model.specs.declared.Refusal.{Refusal}
 use Rattle.model.specs.Refusals.{answer, number}
-use Rattle.model.specs.Nets.{PNet, modeNo, count}
+use Rattle.model.specs.Nets.{PNet, modeNo, count, entryAt}
 use Rattle.model.specs.Markings.{Marking}
-use Rattle.model.specs.Firing.{modeRefusal}
-use Rattle.model.specs.Dead.{isDead}
+use Rattle.model.specs.First.{_▸_, first}
+use Rattle.model.specs.Lists.{joined}
+use Rattle.model.specs.Firing.{ruleRefusal, rowRefusal, modeRefusal}
+use Rattle.model.specs.Dead.{deadPair, isDead}
+use Rattle.model.specs.Complement.{bounded, complementRow, newPlaces, arcsOf, complement}
 use Rattle.model.specs.Promises.{Leads, stays, moves}
 use Rattle.model.proofs.First.{left-none, right-none, none-then}
 use Rattle.model.proofs.Firing.{accepted-passes, passes-conditions}
@@ -39,7 +42,7 @@ use Rattle.promises.proofs.DemandOne.{demand-one}
 use Rattle.promises.proofs.DeadAsWritten.{dead-as-written}
 use Rattle.together.specs.Wrote.{ComplementWrote}
 use Rattle.together.specs.Reached.{ReachedBeside}
-use Rattle.together.specs.NeverFires.{Among, NeverFiresAt, DeadNeverFire}
+use Rattle.together.specs.NeverFires.{Among, NeverFiresAt, DeadNeverFire, FiresElsewhere}
 use Rattle.together.proofs.Written.{answers, is-written, run-alike, salvages}
 use Rattle.together.proofs.Beside.{test-back, steps-agree, kept, first-beside}
 use Rattle.together.proofs.Steps.{step-asked}
@@ -160,3 +163,7 @@ dead-never-fire net t o a e =
           ap number a
           ∙ (rw (is-written net sheet w) at (dead-as-written net (w .out) (length sheet) (answers net sheet w) .refused t says m m′ (k .marked) (k .corresponds)));
     }
+
+pub fires-elsewhere : FiresElsewhere
+unfolding rowRefusal ruleRefusal modeRefusal _▸_ first deadPair isDead complement arcsOf newPlaces complementRow bounded joined entryAt
+fires-elsewhere = record { dead = refl; passes = refl }

@@ -6,7 +6,7 @@ use mathlib.Core.Logic.{_↔_, _≢_}
 use mathlib.Core.Option.{none}
 use lib.ListN.{length}
 use native.Mathlib.Omega.{arith}
-use borrow.Author.Tests.{leb-false}
+use borrow.Author.Tests.{leb-false, lt-leb}
 use Rattle.model.specs.declared.Pair.{Pair}
 use Rattle.model.specs.declared.Mode.{Mode}
 use Rattle.model.specs.Refusals.{answer, number}
@@ -14,11 +14,13 @@ use Rattle.model.specs.Numbers.{fin}
 use Rattle.model.specs.Nets.{pairs, K, count}
 use Rattle.model.specs.Markings.{markingRefusal}
 use Rattle.model.specs.Complement.{Corresponds}
+use Rattle.model.specs.First.{_▸_}
 use Rattle.model.proofs.First.{left-none, only-if-none}
+use Rattle.model.proofs.ComplementNet.{capacity-complement}
 use Rattle.sheets.specs.Decoded.{netOf}
 use Rattle.fire.specs.Calls.{testRefusal, firedBy}
 use Rattle.strip.specs.Strip.{newMode, strip, boundOf, stripRefusal}
-use Rattle.strip.specs.Stripped.{strippedNet, told}
+use Rattle.strip.specs.Stripped.{strippedNet, roomRefusal, strippingRefusal, told}
 use Rattle.strip.proofs.OldModes.{old-modes}
 use Rattle.promises.specs.Stripping.{BareCalls, StripWritten}
 use Rattle.promises.proofs.Accepting.{number-none}
@@ -26,8 +28,8 @@ use Rattle.promises.proofs.StripWritten.{pair-accepted}
 use Rattle.promises.proofs.Stripping.{stripping}
 use Rattle.together.specs.Wrote.{ComplementWrote, StripWrote}
 use Rattle.together.specs.Reached.{ReachedBeside, fired}
-use Rattle.together.specs.StripsThenComplements.{besidePair, LeftBare, BareBeside, StripsThenComplements}
-use Rattle.together.proofs.Written.{run-alike}
+use Rattle.together.specs.StripsThenComplements.{besidePair, LeftBare, BareBeside, StripsThenComplements, NoStripAfter}
+use Rattle.together.proofs.Written.{sheet-whole, sheet-same, run-alike}
 use Rattle.together.proofs.Beside.{Kept, kept, test-forth, test-back, fire-kept, in-step}
 
 -- what corresponding markings of a stripped net say, by the numbers of the net
@@ -106,3 +108,8 @@ module _ (net : List ℕ) (p : Pair) (bare sheet : List ℕ) (w : StripWrote net
 
 pub strips-then-complements : StripsThenComplements
 strips-then-complements net p bare sheet w c k e = record { runs = run-alike bare sheet c; bares = λ m m′ b. bare-beside net p bare sheet w c k e m m′ b }
+
+pub no-strip-after : NoStripAfter
+unfolding strippingRefusal roomRefusal stripRefusal _▸_
+no-strip-after net sheet w p h out o a =
+    rw (a .0, sheet-whole net sheet w, lt-leb (pairs (netOf sheet)) (p .0) h, ap (λ n. K n (p .0)) (sheet-same net sheet w) ∙ capacity-complement (netOf net) (p .0)) refl

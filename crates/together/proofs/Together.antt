@@ -3,12 +3,12 @@ use Rattle.promises.proofs.EqualNets.{equal-nets}
 use Rattle.together.specs.Together.{Together}
 use Rattle.together.proofs.NeverReached.{reached-accepted, never-reached}
 use Rattle.together.proofs.FigureStepped.{figure-after-step}
-use Rattle.together.proofs.NeverFires.{dead-never-fire}
+use Rattle.together.proofs.NeverFires.{dead-never-fire, fires-elsewhere}
 use Rattle.together.proofs.FleetOfRuns.{fleet-of-runs}
 use Rattle.together.proofs.Frauds.{more-frauds}
 use Rattle.together.proofs.Beside.{in-step}
 use Rattle.together.proofs.SalvagesAlike.{salvages-alike}
-use Rattle.together.proofs.StripsThenComplements.{strips-then-complements}
+use Rattle.together.proofs.StripsThenComplements.{strips-then-complements, no-strip-after}
 use Rattle.together.proofs.Exchanged.{complements-export, comes-back, complement-comes-back}
 
 pub together : Together
@@ -21,7 +21,9 @@ together =
       fleetOfRuns = fleet-of-runs;
       inStep = in-step;
       salvagesAlike = salvages-alike;
+      firesElsewhere = fires-elsewhere;
       stripsThenComplements = strips-then-complements;
+      noStripAfter = no-strip-after;
       complementsExport = complements-export;
       comesBack = comes-back;
       complementComesBack = complement-comes-back;

@@ -21,7 +21,7 @@ module _ (net sheet : List ℕ) where
   pub record KeepsStep : Type 0 where
     -- after begin, fire, run and a step that is answered alike, in any order, from markings that correspond
     pub always : (m m′ : List ℕ) → ReachedBeside net sheet m m′ → FindsNone net m m′
-    -- and a step that the complement alone refuses shows at once, unless it changes nothing
+    -- and a step that the complement alone refuses (`StepExamples` has some) shows at once, unless it changes nothing
     pub parted : (m m′ modes after after′ : List ℕ) (told told′ : Answer) → ReachedBeside net sheet m m′ → FireStepAllows net m modes (told, after)
         → FireStepAllows sheet m′ modes (told′, after′) → number told′ ≢ 0 → after ≢ m → (o : Found) → AuditAllows net after after′ o → audits.told o ≢ yields none
 

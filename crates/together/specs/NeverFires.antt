@@ -3,14 +3,21 @@
 use Prim.Native.Nat.{ℕ, _<_}
 use mathlib.Core.Path.{_≡_}
 use mathlib.Core.Bool.{true}
-use mathlib.Core.List.{List}
+use mathlib.Core.List.{List, [], _∷_}
 use mathlib.Core.Logic.{_≢_}
+use mathlib.Core.Option.{none}
 use lib.ListN.{length, take, getD}
 use Rattle.model.specs.declared.Mode.{Mode}
+use Rattle.model.specs.declared.Thing.the-variants.{Argument}
 use Rattle.model.specs.declared.Answer.{Answer}
 use Rattle.model.specs.Refusals.{number}
 use Rattle.model.specs.Replies.{yields}
+use Rattle.model.specs.Numbers.{∞}
 use Rattle.model.specs.Nets.{modeNo}
+use Rattle.model.specs.Firing.{modeRefusal}
+use Rattle.model.specs.Dead.{isDead}
+use Rattle.model.specs.Complement.{complement}
+use Rattle.model.specs.Edges.{edgeNet}
 use Rattle.sheets.specs.Decoded.{movementsOf}
 use Rattle.fire.specs.Contracts.{TestAllows, FireAllows}
 use Rattle.run.specs.declared.Ran.{Ran}
@@ -49,3 +56,8 @@ pub record NeverFires (net : List ℕ) (t : Mode) : Type 0 where
 
 abbrev pub DeadNeverFire : Type 0
 DeadNeverFire = (net : List ℕ) (t : Mode) (o : Deadness) → IsDeadAllows net t o → told o ≡ yields true → NeverFires net t
+
+-- Beside no marking of the net it may: Post 6 at K 5 is dead, and the complement lets it pass where 6 stand at the complement pair, one more than K.
+pub record FiresElsewhere : Type 0 where
+  pub dead : isDead (edgeNet 5 ∞ 0 6) (modeNo 0) ≡ true
+  pub passes : modeRefusal Argument (complement (edgeNet 5 ∞ 0 6)) (modeNo 0) (0 ∷ 6 ∷ []) ≡ none

@@ -6,13 +6,16 @@ use mathlib.Core.List.{List}
 use mathlib.Core.Logic.{_↔_, _≢_}
 use Rattle.model.specs.declared.Pair.{Pair}
 use Rattle.model.specs.declared.Answer.{Answer}
-use Rattle.model.specs.Refusals.{number}
+use Rattle.model.specs.Refusals.{number, carries}
 use Rattle.model.specs.Numbers.{fin}
 use Rattle.model.specs.Nets.{pairs, K, count}
 use Rattle.model.specs.Complement.{complementPair}
 use Rattle.sheets.specs.Decoded.{netOf}
 use Rattle.fire.specs.Contracts.{TestAllows, FireAllows}
+use Rattle.strip.specs.declared.Stripped.{Stripped}
 use Rattle.strip.specs.Strip.{newMode}
+use Rattle.strip.specs.Stripped.{told}
+use Rattle.strip.specs.Contracts.{StripAllows}
 use Rattle.promises.specs.TwoRuns.{RunAlike}
 use Rattle.together.specs.Wrote.{ComplementWrote, StripWrote}
 use Rattle.together.specs.Reached.{ReachedBeside}
@@ -46,3 +49,8 @@ module _ (net : List ℕ) (p : Pair) (k : ℕ) (bare sheet : List ℕ) where
 abbrev pub StripsThenComplements : Type 0
 StripsThenComplements = (net : List ℕ) (p : Pair) (bare sheet : List ℕ) → StripWrote net p bare → ComplementWrote bare sheet
     → (k : ℕ) → K (netOf net) (p .0) ≡ fin k → StripComplement net p k bare sheet
+
+-- The other way round there is nothing to strip: every K of a complement is unbounded, and the answer is 15.
+abbrev pub NoStripAfter : Type 0
+NoStripAfter = (net sheet : List ℕ) → ComplementWrote net sheet → (p : Pair) → p .0 < pairs (netOf sheet) → (out : List ℕ) (o : Stripped × List ℕ) → StripAllows sheet p out o
+    → told (o .0) .carried ≡ carries 15 0 0

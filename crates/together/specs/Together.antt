@@ -5,11 +5,11 @@ use Rattle.together.specs.Reached.{ReachedAccepted}
 use Rattle.together.specs.InStep.{InStep}
 use Rattle.together.specs.FigureStepped.{FigureStepped}
 use Rattle.together.specs.NeverReached.{NeverReached}
-use Rattle.together.specs.NeverFires.{DeadNeverFire}
+use Rattle.together.specs.NeverFires.{DeadNeverFire, FiresElsewhere}
 use Rattle.together.specs.FleetOfRuns.{FleetOfRuns}
 use Rattle.together.specs.Frauds.{MoreFrauds}
 use Rattle.together.specs.SalvagesAlike.{SalvagesAlike}
-use Rattle.together.specs.StripsThenComplements.{StripsThenComplements}
+use Rattle.together.specs.StripsThenComplements.{StripsThenComplements, NoStripAfter}
 use Rattle.together.specs.Exchanged.{ComplementsExport, ComesBack, ComplementComesBack}
 
 pub record Together : Type 0 where
@@ -22,7 +22,9 @@ pub record Together : Type 0 where
   -- of a net and its complement
   pub inStep : InStep
   pub salvagesAlike : SalvagesAlike
+  pub firesElsewhere : FiresElsewhere
   pub stripsThenComplements : StripsThenComplements
+  pub noStripAfter : NoStripAfter
   -- of a net and what comes back of its text
   pub complementsExport : ComplementsExport
   pub comesBack : ComesBack
