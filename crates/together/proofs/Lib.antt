@@ -1,0 +1,14 @@
+pub mod Written
+pub mod Steps
+pub mod FigureStepped
+pub mod Beside
+pub mod NeverReached
+pub mod NeverFires
+pub mod FleetOfRuns
+pub mod Frauds
+pub mod SalvagesAlike
+pub mod StripsThenComplements
+pub mod SameMoves
+pub mod SameCalls
+pub mod Exchanged
+pub mod Together

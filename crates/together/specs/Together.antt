@@ -1,0 +1,35 @@
+-- What holds of the requests of document 02 together, in one record: open this file first. What each call promises by itself is in promises/specs/Promises.antt.
+-- A field is a statement, of the file that its `use` line names; its term is in proofs/.
+use Rattle.promises.specs.EqualNets.{EqualNets}
+use Rattle.together.specs.Reached.{ReachedAccepted}
+use Rattle.together.specs.InStep.{InStep}
+use Rattle.together.specs.FigureStepped.{FigureStepped}
+use Rattle.together.specs.NeverReached.{NeverReached}
+use Rattle.together.specs.NeverFires.{DeadNeverFire, FiresElsewhere}
+use Rattle.together.specs.FleetOfRuns.{FleetOfRuns}
+use Rattle.together.specs.Frauds.{MoreFrauds}
+use Rattle.together.specs.SalvagesAlike.{SalvagesAlike}
+use Rattle.together.specs.StripsThenComplements.{StripsThenComplements, NoStripAfter}
+use Rattle.together.specs.Exchanged.{ComplementsExport, ComesBack, ComplementComesBack}
+
+pub record Together : Type 0 where
+  -- of one net: markings that calls leave, one after another; weights, dead modes and ships
+  pub reachedAccepted : ReachedAccepted
+  pub figureStepped : FigureStepped
+  pub neverReached : NeverReached
+  pub deadNeverFire : DeadNeverFire
+  pub fleetOfRuns : FleetOfRuns
+  -- of a net and its complement
+  pub inStep : InStep
+  pub salvagesAlike : SalvagesAlike
+  pub firesElsewhere : FiresElsewhere
+  pub stripsThenComplements : StripsThenComplements
+  pub noStripAfter : NoStripAfter
+  -- of a net and what comes back of its text
+  pub complementsExport : ComplementsExport
+  pub comesBack : ComesBack
+  pub complementComesBack : ComplementComesBack
+  -- of two sheets of one net, over every call that takes a net sheet
+  pub equalNets : EqualNets
+  -- of the contracts of the calls
+  pub moreFrauds : MoreFrauds
