@@ -214,6 +214,7 @@ stripping net p out o n allows e =
     record {
       untouched = ap (λ left. drop n left) (allows .1) ∙ rest-there net p out n told;
       version = rw is (r .version);
+      rule = rw is (r .rule);
       accepted = rw is (r .accepted);
       same = rw is (r .same);
       bareCalls = rw is (bare-calls net sheet p k w (r .accepted) (r .same) well well′ (pair .1) (versionOf net) (has-sheet net p) refl (pair .0));

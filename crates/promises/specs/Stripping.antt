@@ -61,7 +61,9 @@ pub record OldCalls (net sheet : List ℕ) : Type 0 where
 -- the sheet as written, the first n bytes of the output slice, and what is left after it
 pub record StripWritten (net : List ℕ) (p : Pair) (out left : List ℕ) (n : ℕ) : Type 0 where
   pub untouched : drop n left ≡ drop n out
+  -- "writes the version and rule it was given" (document 02, P9)
   pub version : versionOf (take n left) ≡ versionOf net
+  pub rule : netOf (take n left) .rule ≡ netOf net .rule
   pub accepted : wholeNet (take n left) ≡ none
   pub same : netOf (take n left) ≡ strippedNet net p
   pub bareCalls : BareCalls net (take n left) p (boundOf (K (netOf net) (p .0)))
