@@ -1,10 +1,11 @@
 -- Demand 3 over bytes: demand 3 of the nets that the sheets mean, and both directions of a sheet.
 use Prim.Native.Nat.{ℕ}
-use mathlib.Core.Path.{_≡_}
+use mathlib.Core.Path.{_≡_, refl}
 use mathlib.Core.List.{List}
 use mathlib.Core.Option.{none}
 use lib.ListN.{length, take}
 use lib.Seq.{take-append-seam, drop-append-seam}
+use Rattle.model.specs.Nets.{PNet}
 use Rattle.model.specs.Complement.{complement}
 use Rattle.model.specs.DemandThree.{Complementable}
 use Rattle.model.proofs.First.{left-none, right-none}
@@ -34,6 +35,10 @@ pub complement-sheet : (net : List ℕ) → HasSheet (versionOf net) (complement
 unfolding complement
 complement-sheet net = own-sheet net
 
+rule-stays : (net : PNet) → complement net .rule ≡ net .rule
+unfolding complement
+rule-stays net = refl
+
 pub over-bytes : OverBytes
 over-bytes net out e =
     let three = demand3 (netOf net) (complementable net (length out) e) in
@@ -41,5 +46,13 @@ over-bytes net out e =
     let sheet = complementSheet net in
     let taken : take (length sheet) (outputOf net out) ≡ sheet = rw e (take-append-seam sheet _) in (
       length sheet,
-      record { answered = rw e; untouched = rw e (drop-append-seam sheet _); readsBack = rw taken (back .accepted); same = rw taken (back .same); runs = three .runs },
+      record {
+        answered = rw e;
+        untouched = rw e (drop-append-seam sheet _);
+        readsBack = rw taken (back .accepted);
+        same = rw taken (back .same);
+        version = rw taken (back .version);
+        rule = rw (taken, back .same) (rule-stays (netOf net));
+        runs = three .runs;
+      },
     )

@@ -152,6 +152,18 @@ module _ (a : List ℕ) (bytes : Bytes a) (w : wholeNet a ≡ none) (more : List
   text-before h =
       ap (λ s. replayText (s ++ more)) is-sheet ∙ text-written (versionOf a) (netOf a) well (own-sheet a) more (subst (λ s. length (s ++ more) ≤ 65536) is-sheet h)
 
+-- a salvage takes of a net sheet its refusal, and the net's run of the damaged modes
+module _ (a b damaged : List ℕ) (whole : wholeNet a ≡ wholeNet b) (runs : trial a damaged ≡ trial b damaged) where
+  salvage-refusals : (room : ℕ) → salvageRefusal a damaged room ≡ salvageRefusal b damaged room
+  unfolding salvageRefusal
+  salvage-refusals room = ap₂ (λ w o. w ▸ damagedRefusal damaged ▸ tooShort damaged (o .accepted) room) whole runs
+
+  pub salvage-told : (out : List ℕ) → salvageOf a damaged out ≡ salvageOf b damaged out
+  salvage-told out = ap₂ (λ r o. salvaged r (reportOf damaged (o .accepted) (answer (o .refusal)))) (salvage-refusals (length out)) runs
+
+  pub salvage-left : (out : List ℕ) → outputOf a damaged out ≡ outputOf b damaged out
+  salvage-left out = ap₂ (λ r o. output r (sheetOfFirst damaged (o .accepted)) out) (salvage-refusals (length out)) runs
+
 module _ (a b : List ℕ) (one : OneNet a b) where
   pub whole : wholeNet b ≡ wholeNet a
   whole = one .second ∙ sym (one .first)
@@ -191,23 +203,15 @@ module _ (a b : List ℕ) (one : OneNet a b) where
       left text (same o) = refl
       left text (offsets f i j) = refl
 
-  -- a salvage takes the net's run of the damaged modes, and its refusal
   trials : (damaged : List ℕ) → trial a damaged ≡ trial b damaged
   unfolding trial
   trials damaged = ap (λ n. run n (modesIn damaged) (n .start)) (one .net)
 
-  salvage-refusals : (damaged : List ℕ) (room : ℕ) → salvageRefusal a damaged room ≡ salvageRefusal b damaged room
-  unfolding salvageRefusal
-  salvage-refusals damaged room =
-      ap₂ (λ w o. w ▸ damagedRefusal damaged ▸ tooShort damaged (o .accepted) room) (sym whole) (trials damaged)
-
   pub salvages : (damaged out : List ℕ) → salvageOf a damaged out ≡ salvageOf b damaged out
-  salvages damaged out =
-      ap₂ (λ r o. salvaged r (reportOf damaged (o .accepted) (answer (o .refusal)))) (salvage-refusals damaged (length out)) (trials damaged)
+  salvages damaged out = salvage-told a b damaged (sym whole) (trials damaged) out
 
   pub salvage-outputs : (damaged out : List ℕ) → outputOf a damaged out ≡ outputOf b damaged out
-  salvage-outputs damaged out =
-      ap₂ (λ r o. output r (sheetOfFirst damaged (o .accepted)) out) (salvage-refusals damaged (length out)) (trials damaged)
+  salvage-outputs damaged out = salvage-left a b damaged (sym whole) (trials damaged) out
 
   one-again : (out out′ : List ℕ) (n n′ : ℕ) → complementing.told (complementing.complementOf a out) ≡ yields n
       → complementing.told (complementing.complementOf b out′) ≡ yields n′ → OneNet (asWritten a out n) (asWritten b out′ n′)

@@ -11,6 +11,7 @@ pub mod Uniqueness
 pub mod StripWritten
 pub mod EqualNets
 pub mod EqualNetsForC
+pub mod Positions
 pub mod Stripping
 pub mod Exchange
 pub mod OwnExample

@@ -52,6 +52,7 @@ use Rattle.promises.proofs.TwoSteps.{two-steps}
 use Rattle.promises.proofs.DeadAsWritten.{dead-as-written}
 use Rattle.promises.proofs.TwoOrders.{two-orders}
 use Rattle.promises.proofs.Audits.{audits}
+use Rattle.promises.proofs.Positions.{positions}
 use Rattle.promises.proofs.Stripping.{stripping}
 use Rattle.promises.proofs.Exchange.{export-then-import, import-then-export, complement-then-export}
 use Rattle.promises.proofs.FigureOverRun.{figure-over-run}
@@ -123,6 +124,7 @@ promises =
       signedWeights = signed-weights;
       writtenThenRead = written-then-read;
       readThenWritten = read-then-written;
+      positions = positions;
       largestSheet = largest-sheet;
       exampleLengths = example-lengths;
       acceptedBegin = accepted-begin;

@@ -15,12 +15,13 @@ use Rattle.model.specs.declared.Version.{Version}
 use Rattle.model.specs.declared.Answer.{Answer}
 use Rattle.model.specs.declared.Thing.the-variants.{Movements, Argument}
 use Rattle.model.specs.Numbers.{ℕ∞, fin, ∞}
-use Rattle.model.specs.Nets.{PNet, pairs, modes, K, count}
+use Rattle.model.specs.Nets.{PNet, total, pairs, modes, K, count}
 use Rattle.model.specs.Complement.{finite}
 use Rattle.model.specs.Refusals.{answer, number}
 use Rattle.model.specs.Markings.{markingRefusal}
 use Rattle.model.specs.WellFormed.{WellFormed}
 use Rattle.model.specs.Firing.{absent, modeRefusal, fired}
+use Rattle.model.specs.Runs.{run}
 use Rattle.model.specs.Dead.{found, isDead}
 use Rattle.model.proofs.First.{left-none, right-none, none-then, only-if-none}
 use Rattle.model.proofs.Firing.{mode-there}
@@ -38,19 +39,23 @@ use Rattle.fire.specs.Contracts.{FireAllows}
 use Rattle.run.specs.Calls.{beforeRun, runOf, visitedBy, certifyRefusal}
 use Rattle.step.specs.Calls.{stepModes, testStepRefusal}
 use Rattle.weigh.specs.Calls.{figureRefusal, changeRefusal}
+use Rattle.salvage.specs.Salvaged.{modesIn, trial}
+use Rattle.fleet.specs.declared.Fleet.{Fleet}
+use Rattle.fleet.specs.Ships.{gained, lost, addedBy, removedBy, ship, voyageOf}
+use Rattle.fleet.specs.Calls.{figureRefusal as shipFigures, shipRefusal, entered}
 use Rattle.dead.specs.IsDead.{deadRefusal}
 use Rattle.statement.specs.Replay.{linesFrom, runText, movementsText, weightsText, replayText, stated, statedIn}
 use Rattle.strip.specs.Strip.{newMode, strip, boundOf, stripRefusal}
 use Rattle.strip.specs.Stripped.{strippedSheet, told as answered}
 use Rattle.strip.specs.Promises.{Old, OldModesStay, StripsBare}
 use Rattle.strip.proofs.Arcs.{modes-many}
-use Rattle.strip.proofs.OldModes.{old-modes, no-new-dead}
+use Rattle.strip.proofs.OldModes.{each-old, old-modes, no-new-dead}
 use Rattle.strip.proofs.Bare.{bare-after}
 use Rattle.strip.proofs.Promises.{has-sheet}
 use Rattle.promises.specs.EqualNets.{Bytes}
 use Rattle.promises.specs.Stripping.{BareCalls, OldCalls, Stripping}
 use Rattle.promises.proofs.Accepting.{number-none}
-use Rattle.promises.proofs.EqualNets.{text-written, text-before}
+use Rattle.promises.proofs.EqualNets.{text-written, text-before, salvage-told, salvage-left}
 use Rattle.promises.proofs.StripWritten.{whole-before, pair-accepted, sheet-there, rest-there, sheet-reads}
 
 -- the text of `replay` along a list of old modes
@@ -78,6 +83,15 @@ module _ (net : PNet) (p : Pair) (k : ℕ) where
       → weightsText (strip net p k) more ≡ weightsText net more
   unfolding weightsText
   weights-text-same more old = rw (stays .pairs, movements-text-same (weightsOf more) (rest (answer (weightsRefusal (pairs net) more)) more) old)
+
+  -- what a ship adds and removes along the first of a list of old modes
+  added-same : (weights : List ℤ) (n : ℕ) (ts : List Mode) → Old net ts → addedBy (strip net p k) weights (take n ts) ≡ addedBy net weights (take n ts)
+  unfolding addedBy
+  added-same weights n ts old = ap total (each-old net _ _ (λ t h. ap gained (stays .changes weights t h)) n ts old)
+
+  removed-same : (weights : List ℤ) (n : ℕ) (ts : List Mode) → Old net ts → removedBy (strip net p k) weights (take n ts) ≡ removedBy net weights (take n ts)
+  unfolding removedBy
+  removed-same weights n ts old = ap total (each-old net _ _ (λ t h. ap lost (stays .changes weights t h)) n ts old)
 
 -- a net sheet, and a sheet that is read as its net with the transition appended
 module _ (net sheet : List ℕ) (p : Pair) (k : ℕ) (w : wholeNet net ≡ none) (w′ : wholeNet sheet ≡ none) (same : netOf sheet ≡ strip (netOf net) p k) where
@@ -111,6 +125,27 @@ module _ (net sheet : List ℕ) (p : Pair) (k : ℕ) (w : wholeNet net ≡ none)
   certify-same : (movements claim : List ℕ) → Old (netOf net) (movementsOf movements) → certifyRefusal sheet movements claim ≡ certifyRefusal net movements claim
   unfolding certifyRefusal
   certify-same movements claim old = rw (w, w′, same, kept .certificates (movementsOf movements) claim old)
+
+  -- a run of old modes from the first marking
+  outcome-same : (ts : List Mode) → Old (netOf net) ts → run (netOf sheet) ts (netOf sheet .start) ≡ run (netOf net) ts (netOf net .start)
+  outcome-same ts old =
+      ap (λ n. run n ts (n .start)) same ∙ ap (run (strip (netOf net) p k) ts) (kept .start) ∙ kept .runs ts (netOf net .start) old
+
+  trial-same : (damaged : List ℕ) → Old (netOf net) (modesIn damaged) → trial net damaged ≡ trial sheet damaged
+  unfolding trial
+  trial-same damaged old = sym (outcome-same (modesIn damaged) old)
+
+  voyage-same : (weights movements : List ℕ) → Old (netOf net) (movementsOf movements) → voyageOf (ship sheet weights movements) ≡ voyageOf (ship net weights movements)
+  unfolding voyageOf
+  voyage-same weights movements old =
+      let ts = movementsOf movements in
+      let n = run (netOf net) ts (netOf net .start) .accepted in
+      rw (outcome-same ts old, same, added-same (netOf net) p k (weightsOf weights) n ts old, removed-same (netOf net) p k (weightsOf weights) n ts old)
+
+  ship-same : (found : Fleet) (weights movements : List ℕ) → Old (netOf net) (movementsOf movements)
+      → entered found (ship sheet weights movements) ≡ entered found (ship net weights movements)
+  unfolding entered shipRefusal shipFigures
+  ship-same found weights movements old = rw (w, w′, same, kept .pairs, voyage-same weights movements old)
 
   figure-same : (weights m : List ℕ) → figureRefusal sheet weights m ≡ figureRefusal net weights m
   unfolding figureRefusal
@@ -152,8 +187,13 @@ module _ (net sheet : List ℕ) (p : Pair) (k : ℕ) (w : wholeNet net ≡ none)
           fireStep = λ m ts old o h. rw (step-same m ts old, same, kept .afterSteps (stepModes ts) m old) h;
           run = λ movements m old o h. rw (run-same movements m old, visits-same movements m old) h;
           certify = λ movements claim old o h. rw (certify-same movements claim old) h;
+          salvage = λ damaged out old o h. (
+            h .0 ∙ salvage-told net sheet damaged (w ∙ sym w′) (trial-same damaged old) out,
+            h .1 ∙ salvage-left net sheet damaged (w ∙ sym w′) (trial-same damaged old) out,
+          );
           figure = λ weights m o h. rw (figure-same weights m, same, kept .figures (weightsOf weights) m) h;
           change = λ weights t l o h. rw (change-same weights t l, same, kept .changes (weightsOf weights) t l) h;
+          addShip = λ found weights movements old o h. rw (ship-same found weights movements old) h;
           isDead = λ t l o h. rw (dead-refusal-same t l, dead-same t l) h;
           firstDead = λ o h. rw (w′, same, no-new-dead (netOf net) p k well bounded, ← w) h;
           statement = λ more out bytes l l′ old o h. rw (texts-same more bytes l l′ old) h;
@@ -214,6 +254,7 @@ stripping net p out o n allows e =
     record {
       untouched = ap (λ left. drop n left) (allows .1) ∙ rest-there net p out n told;
       version = rw is (r .version);
+      rule = rw is (r .rule);
       accepted = rw is (r .accepted);
       same = rw is (r .same);
       bareCalls = rw is (bare-calls net sheet p k w (r .accepted) (r .same) well well′ (pair .1) (versionOf net) (has-sheet net p) refl (pair .0));

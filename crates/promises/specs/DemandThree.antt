@@ -10,6 +10,7 @@ use Rattle.model.specs.declared.Mode.{Mode}
 use Rattle.model.specs.Replies.{yields}
 use Rattle.model.specs.Complement.{complement}
 use Rattle.model.specs.DemandThree.{Agreement}
+use Rattle.heads.specs.Version.{versionOf}
 use Rattle.sheets.specs.Whole.{wholeNet}
 use Rattle.sheets.specs.Decoded.{netOf}
 use Rattle.complement.specs.Complemented.{told, complementingRefusal, complementOf, outputOf}
@@ -26,6 +27,9 @@ module _ (net out : List ℕ) (n : ℕ) where
     -- "the complement as written reads back as a net", the complement of the one that was read
     pub readsBack : wholeNet asWritten ≡ none
     pub same : netOf asWritten ≡ complement (netOf net)
+    -- "writes the version and rule it was given" (document 02, P9)
+    pub version : versionOf asWritten ≡ versionOf net
+    pub rule : netOf asWritten .rule ≡ netOf net .rule
     -- the two nets along any list, missing modes included: what each accepts, where it stops and by what refusal, and the markings at the start and after
     -- each accepted movement
     pub runs : (ts : List Mode) → Agreement (netOf net) ts

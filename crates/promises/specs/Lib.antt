@@ -14,6 +14,7 @@ pub mod FleetOfCalls
 pub mod Uniqueness
 pub mod EqualNets
 pub mod EqualNetsForC
+pub mod Positions
 pub mod Stripping
 pub mod Exchange
 pub mod OwnExample

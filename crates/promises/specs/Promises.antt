@@ -35,6 +35,7 @@ use Rattle.promises.specs.TwoSteps.{TwoSteps}
 use Rattle.promises.specs.DeadAsWritten.{DeadAsWritten}
 use Rattle.promises.specs.TwoOrders.{TwoOrders}
 use Rattle.promises.specs.Audits.{Audits}
+use Rattle.promises.specs.Positions.{Positions}
 use Rattle.promises.specs.Stripping.{Stripping}
 use Rattle.promises.specs.Exchange.{ExportThenImport, ImportThenExport, ComplementThenExport}
 use Rattle.promises.specs.FigureOverRun.{FigureOverRun}
@@ -106,6 +107,7 @@ pub record Promises : Type 0 where
   pub signedWeights : SignedWeights
   pub writtenThenRead : WrittenThenRead
   pub readThenWritten : ReadThenWritten
+  pub positions : Positions
   pub largestSheet : LargestSheet
   pub exampleLengths : ExampleLengths
   -- of the calls, over the bytes that they are given

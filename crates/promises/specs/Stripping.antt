@@ -18,9 +18,13 @@ use Rattle.sheets.specs.Whole.{wholeNet, rest}
 use Rattle.sheets.specs.Decoded.{netOf, movementsOf}
 use Rattle.fire.specs.Contracts.{BeginAllows, TestAllows, FireAllows}
 use Rattle.run.specs.Contracts.{RunAllows, CertifyAllows}
+use Rattle.salvage.specs.Salvaged.{modesIn}
+use Rattle.salvage.specs.Contracts.{SalvageAllows}
 use Rattle.step.specs.Calls.{stepModes}
 use Rattle.step.specs.Contracts.{TestStepAllows, FireStepAllows}
 use Rattle.weigh.specs.Contracts.{FigureAllows, ChangeAllows}
+use Rattle.fleet.specs.declared.Fleet.{Fleet}
+use Rattle.fleet.specs.Contracts.{AddShipAllows}
 use Rattle.dead.specs.Contracts.{IsDeadAllows, FirstDeadAllows}
 use Rattle.statement.specs.Contracts.{StatementAllows}
 use Rattle.strip.specs.declared.Stripped.{Stripped}
@@ -39,8 +43,8 @@ pub record BareCalls (net sheet : List ℕ) (p : Pair) (k : ℕ) : Type 0 where
       → (o : Answer × List ℕ) → FireAllows sheet m (newMode (netOf net) (count m (p .0))) o
       → (number (o .0) ≡ 0) × (count (o .1) (p .0) ≡ 0) × ((q : ℕ) → q ≢ p .0 → count (o .1) q ≡ count m q)
 
--- "Old modes keep their numbers and behaviour.": a field for each call that is given a mode or a list of modes, and for those that are given none. A size, a
--- complement, an audit, an exclusion and an export are of the whole net, and may differ.
+-- "Old modes keep their numbers and behaviour.": a field for each call that is given a mode or a list of modes, and for begin, figure and first dead, which are
+-- given none. The others are of the whole net, and may differ: a size, an exclusion, an audit, and what a sheet or a text is written of.
 pub record OldCalls (net sheet : List ℕ) : Type 0 where
   pub begin : (m : List ℕ) → Within (BeginAllows net m) (BeginAllows sheet m)
   pub test : (m : List ℕ) (t : Mode) → t .0 < modes (netOf net) → Within (TestAllows net m t) (TestAllows sheet m t)
@@ -49,8 +53,12 @@ pub record OldCalls (net sheet : List ℕ) : Type 0 where
   pub fireStep : (m ts : List ℕ) → Old (netOf net) (stepModes ts) → Within (FireStepAllows net m ts) (FireStepAllows sheet m ts)
   pub run : (movements m : List ℕ) → Old (netOf net) (movementsOf movements) → Within (RunAllows net movements m) (RunAllows sheet movements m)
   pub certify : (movements claim : List ℕ) → Old (netOf net) (movementsOf movements) → Within (CertifyAllows net movements claim) (CertifyAllows sheet movements claim)
+  -- of the damaged bytes the modes that are considered
+  pub salvage : (damaged out : List ℕ) → Old (netOf net) (modesIn damaged) → Within (SalvageAllows net damaged out) (SalvageAllows sheet damaged out)
   pub figure : (weights m : List ℕ) → Within (FigureAllows net weights m) (FigureAllows sheet weights m)
   pub change : (weights : List ℕ) (t : Mode) → t .0 < modes (netOf net) → Within (ChangeAllows net weights t) (ChangeAllows sheet weights t)
+  pub addShip : (found : Fleet) (weights movements : List ℕ) → Old (netOf net) (movementsOf movements)
+      → Within (AddShipAllows found net weights movements) (AddShipAllows found sheet weights movements)
   pub isDead : (t : Mode) → t .0 < modes (netOf net) → Within (IsDeadAllows net t) (IsDeadAllows sheet t)
   pub firstDead : Within (FirstDeadAllows net) (FirstDeadAllows sheet)
   -- `replay`, where the third sheet lists old modes and neither input is long
@@ -61,7 +69,9 @@ pub record OldCalls (net sheet : List ℕ) : Type 0 where
 -- the sheet as written, the first n bytes of the output slice, and what is left after it
 pub record StripWritten (net : List ℕ) (p : Pair) (out left : List ℕ) (n : ℕ) : Type 0 where
   pub untouched : drop n left ≡ drop n out
+  -- "writes the version and rule it was given" (document 02, P9)
   pub version : versionOf (take n left) ≡ versionOf net
+  pub rule : netOf (take n left) .rule ≡ netOf net .rule
   pub accepted : wholeNet (take n left) ≡ none
   pub same : netOf (take n left) ≡ strippedNet net p
   pub bareCalls : BareCalls net (take n left) p (boundOf (K (netOf net) (p .0)))

@@ -63,6 +63,13 @@ strip-lives rule n k h =
     within Strong = omega arith
     within Weak = h
 
+-- what each old mode keeps, the first of a list of them keep
+pub each-old : {A : Type 0} (net : PNet) (f g : Mode → A) → ((t : Mode) → t .0 < modes net → f t ≡ g t)
+    → (n : ℕ) (ts : List Mode) → Old net ts → map f (take n ts) ≡ map g (take n ts)
+each-old net f g same zero ts old = refl
+each-old net f g same (suc n) [] old = refl
+each-old net f g same (suc n) (t ∷ ts) old = rw (same t (old 0 (omega arith)), each-old net f g same n ts (λ i l. old (suc i) (omega arith)))
+
 module _ (net : PNet) (p : Pair) (k : ℕ) where
   there-still : (t : Mode) → t .0 < modes net → t .0 < modes (strip net p k)
   there-still t h = omega (arith, modes-many net p k)
@@ -124,12 +131,7 @@ module _ (net : PNet) (p : Pair) (k : ℕ) where
   unfolding visited
   old-visits ts m old =
       ap (λ o. total (map (modeArcs (strip net p k)) (take (suc (o .accepted)) ts))) (old-run 0 ts m old)
-      ∙ ap total (each (suc (run net ts m .accepted)) ts old)
-    where
-      each : (n : ℕ) (ts : List Mode) → Old net ts → map (modeArcs (strip net p k)) (take n ts) ≡ map (modeArcs net) (take n ts)
-      each zero ts old = refl
-      each (suc n) [] old = refl
-      each (suc n) (t ∷ ts) old = rw (old-arcs t (old 0 (omega arith)), each n ts (λ i l. old (suc i) (omega arith)))
+      ∙ ap total (each-old net (modeArcs (strip net p k)) (modeArcs net) old-arcs (suc (run net ts m .accepted)) ts old)
 
   -- weight changes and deadness
   old-change : (weights : List ℤ) (t : Mode) → t .0 < modes net → change (strip net p k) weights t ≡ change net weights t
