@@ -1,7 +1,5 @@
 // A list of movements: mode by mode, up to the first that is refused.
 use crate::Ran;
-use crate::numbers::fire_within;
-use crate::numbers::write_numbers;
 use fire::advance::mode_answer;
 use firing::mode::find_refusal;
 use firing::mode::fire_free;
@@ -9,6 +7,8 @@ use lists::movements::movement_count;
 use model::Answer;
 use model::Mode;
 use model::Thing;
+use numbers::fire_within;
+use numbers::write_numbers;
 use opened::listed::mode_at;
 use opened::listed::movements_at;
 use opened::shape::NetShape;

@@ -23,7 +23,7 @@ ghost use Rattle.sheets.specs.Decoded.{netOf, netArc};
 ghost use Rattle.opened.specs.Shape.{Open};
 ghost use Rattle.opened.specs.Starts.{StartsAre, ModeArcs, OwnArc};
 ghost use Rattle.firing.specs.AtMode.{Free, AtMode, OfMode, Decides, Fires};
-ghost use Rattle.run.specs.Parts.{numberOf, NumbersBelow, NumbersAre};
+ghost use Rattle.numbers.specs.Numbers.{numberOf, NumbersBelow, NumbersAre};
 
 // The counts below this number, from Pre on, are those that pass all four tests.
 fn pass_below(arc: Arc, capacity: u32) -> u32
@@ -115,7 +115,7 @@ fn arcs_within(s: &[u8], net: NetShape, numbers: &[u32], arcs: Segment, marking:
 }
 
 // Tested by the numbers first, then written: whether the mode has fired.
-pub(crate) fn fire_within(
+pub fn fire_within(
     s: &[u8],
     net: NetShape,
     numbers: &[u32],

@@ -2,8 +2,8 @@
 use borrow.Author.Needs.{needs}
 use borrow.Author.Tests.{not-true, not-false}
 use Rattle.firing.proofs.ByMode.{fires-not, fires-so}
-use Rattle.run.proofs.numbers.fire_within.Statement.{statement}
-use Rattle.run.proofs.numbers.fire_within.Tie as tie
+use Rattle.numbers.proofs.fire_within.Statement.{statement}
+use Rattle.numbers.proofs.fire_within.Tie as tie
 
 returns : tie.Need-returns
 returns c = λ t own. fires-not (c .before .arcs-within .ensures t own) (not-true _ (c .if1 .taken))

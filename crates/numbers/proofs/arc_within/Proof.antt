@@ -2,9 +2,9 @@
 use borrow.Author.Needs.{needs}
 use native.Mathlib.Omega.{arith}
 use Rattle.opened.proofs.Shapes.{sizes}
-use Rattle.run.proofs.ByNumbers.{below-pre, below-number}
-use Rattle.run.proofs.numbers.arc_within.Statement.{statement}
-use Rattle.run.proofs.numbers.arc_within.Tie as tie
+use Rattle.numbers.proofs.ByNumbers.{below-pre, below-number}
+use Rattle.numbers.proofs.arc_within.Statement.{statement}
+use Rattle.numbers.proofs.arc_within.Tie as tie
 
 returns : tie.Need-returns
 returns c = below-pre (c .before .before .meet .ensures) (c .if1 .taken)

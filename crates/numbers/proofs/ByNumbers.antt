@@ -25,7 +25,7 @@ use Rattle.opened.specs.Starts.{ModeArcs}
 use Rattle.rule.specs.declared.AtPair.{AtPair}
 use Rattle.rule.specs.AtPair.{Unstopped}
 use Rattle.firing.specs.AtMode.{Meets, Free}
-use Rattle.run.specs.Parts.{numberOf, NumbersBelow, NumbersAre}
+use Rattle.numbers.specs.Numbers.{numberOf, NumbersBelow, NumbersAre}
 use Rattle.rule.proofs.FourTests.{clash}
 use Rattle.firing.proofs.Meets.{meets-as}
 

@@ -7,8 +7,8 @@ use native.Mathlib.Omega.{arith}
 use Rattle.sheets.specs.Decoded.{netOf}
 use Rattle.firing.specs.AtMode.{Free}
 use Rattle.firing.proofs.ByMode.{one-not-free, all-free}
-use Rattle.run.proofs.numbers.arcs_within.Statement.{statement}
-use Rattle.run.proofs.numbers.arcs_within.Tie as tie
+use Rattle.numbers.proofs.arcs_within.Statement.{statement}
+use Rattle.numbers.proofs.arcs_within.Tie as tie
 
 abbrev Inv-loop : tie.InvT-loop
 Inv-loop s net numbers arcs marking count i₀ i = (i ≤ count) × ((j : ℕ) → j < i → Free (netOf s) marking (arcs .start + j))
