@@ -1,16 +1,14 @@
 -- One number for an arc decides what the four tests decide.
 use Prim.Native.Nat.{ℕ, _+_, _-_, _≤_, _<_}
-use mathlib.Core.Path.{_≡_, sym, _∙_, subst}
-use mathlib.Core.Bool.{true, false}
+use mathlib.Core.Path.{_≡_, _∙_, subst}
 use mathlib.Core.List.{List}
 use mathlib.Core.Logic.{_↔_, ⊎-elim}
-use lib.Dec.{ltb}
 use lib.ListN.{length, getD, set, length-set}
 use lib.Seq.{getD-set-same, getD-set-other}
 use native.Mathlib.Omega.{arith}
-use borrow.Author.Tests.{ltb-true, lt-ltb}
 use Rattle.model.specs.declared.Arc.{Arc}
-use Rattle.model.specs.Nets.{NetArc, PNet, modes, arcNo}
+use Rattle.model.specs.Numbers.{limit}
+use Rattle.model.specs.Nets.{NetArc, PNet, modes, count, arcNo}
 use Rattle.model.specs.Firing.{roomAt}
 use Rattle.model.proofs.First.{below-or}
 use Rattle.model.proofs.PassBelow.{pass-is}
@@ -22,12 +20,9 @@ use Rattle.sheets.specs.Decoded.{netOf, netArc}
 use Rattle.opened.specs.Shape.{ArcIs}
 use Rattle.opened.specs.declared.starts.Segment.{Segment}
 use Rattle.opened.specs.Starts.{ModeArcs}
-use Rattle.rule.specs.declared.AtPair.{AtPair}
 use Rattle.rule.specs.AtPair.{Unstopped}
-use Rattle.firing.specs.AtMode.{Meets, Free}
+use Rattle.firing.specs.AtMode.{Free}
 use Rattle.numbers.specs.Numbers.{numberOf, NumbersBelow, NumbersAre}
-use Rattle.rule.proofs.FourTests.{clash}
-use Rattle.firing.proofs.Meets.{meets-as}
 
 -- the number of an arc that was read is that of the arc of the net
 pub number-is : {s : List ℕ} {net : NetShape} {k : ℕ} {a : Arc} (x : ℕ) {r : ℕ} → ArcIs s net k a → bound x ≡ roomAt (netOf s) (netArc a)
@@ -84,18 +79,10 @@ module _ (net : PNet) (numbers : List ℕ) where
   numbers-all well t h few below =
       record { long = omega (arith, below .long); each = λ k l. below .each k l (omega (arith, well .eachArc k l .mode)) }
 
-module _ {net : PNet} {m : List ℕ} {k : ℕ} {at : AtPair} (h : Meets net m k at) where
-  decides : Free net m k ↔ ((at .arc .pre ≤ at .count) × (at .count < numberOf net k))
-  unfolding Free numberOf
-  decides =
-      meets-as h (λ e k m. Unstopped e k m ↔ ((at .arc .pre ≤ at .count) × (at .count < passBelow e k)))
-      (pass-is (netArc (at .arc) .entry) (bound (at .capacity)) (at .count) (h .post))
-
-  pub below-pre : at .count < at .arc .pre → (false ≡ true) ↔ Free net m k
-  below-pre l = (λ z. clash (sym z), λ free. absurd (omega (arith, decides .0 free)))
-
-  pub below-number : (n : ℕ) → n ≡ numberOf net k → at .arc .pre ≤ at .count → (ltb (at .count) n ≡ true) ↔ Free net m k
-  below-number n e l = (
-    λ t. decides .1 (l, rw (← e) (ltb-true (at .count) n t)),
-    λ free. lt-ltb (at .count) n (rw e (decides .0 free .1)),
-  )
+-- nothing stops a mode where an arc of it stands exactly when the count there is at least Pre and below the arc's number
+pub free-is : (net : PNet) (m : List ℕ) (k : ℕ) (a : Arc) → netArc a ≡ arcNo (net .arcs) k → a .post ≤ limit
+    → Free net m k ↔ ((a .pre ≤ count m (a .pair .0)) × (count m (a .pair .0) < numberOf net k))
+unfolding Free numberOf
+free-is net m k a is h =
+    subst (λ (x : NetArc). Unstopped (x .entry) (roomAt net x) (count m (x .pair .0)) ↔ ((a .pre ≤ count m (a .pair .0)) × (count m (a .pair .0) < passBelow (x .entry) (roomAt net x))))
+    is (pass-is (netArc a .entry) (roomAt net (netArc a)) (count m (a .pair .0)) h)

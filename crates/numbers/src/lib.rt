@@ -1,8 +1,6 @@
 // One number for each arc of a net, made once for a run by the net's rule: a count passes all four tests when it is at least Pre and below that number.
 use fields::numbers::least;
-use firing::arcs::meet;
 use firing::arcs::room_at;
-use firing::mode::write_arcs;
 use model::Arc;
 use model::Mode;
 use opened::arcs::arc;
@@ -11,19 +9,18 @@ use opened::shape::NetShape;
 use opened::starts::Segment;
 use opened::starts::arcs_of;
 ghost use mathlib.Core.Path.{_≡_};
-ghost use mathlib.Core.Bool.{true};
-ghost use mathlib.Core.Logic.{_↔_};
-ghost use Prim.Native.Nat.{_+_, _≤_};
+ghost use mathlib.Core.List.{List};
+ghost use Prim.Native.Nat.{ℕ, _+_, _≤_};
 ghost use lib.ListN.{length};
 ghost use Rattle.model.specs.Numbers.{limit};
-ghost use Rattle.model.specs.Markings.{Marking};
 ghost use Rattle.model.specs.PassBelow.{passBelow};
 ghost use Rattle.fields.specs.Numbers.{bound};
 ghost use Rattle.sheets.specs.Decoded.{netOf, netArc};
 ghost use Rattle.opened.specs.Shape.{Open};
 ghost use Rattle.opened.specs.Starts.{StartsAre, ModeArcs, OwnArc};
-ghost use Rattle.firing.specs.AtMode.{Free, AtMode, OfMode, Decides, Fires};
+ghost use Rattle.firing.specs.AtMode.{Writable, AtMode, OfMode, Fires};
 ghost use Rattle.numbers.specs.Numbers.{numberOf, NumbersBelow, NumbersAre};
+ghost use Rattle.numbers.specs.OnePass.{Passes, Wrote, Through};
 
 // The counts below this number, from Pre on, are those that pass all four tests.
 fn pass_below(arc: Arc, capacity: u32) -> u32
@@ -76,45 +73,74 @@ pub fn write_numbers(s: &[u8], net: NetShape, starts: &[u16; 257], numbers: &mut
     }
 }
 
-fn arc_within(
+// Tests the arc by its number and, where it lets its mode pass, writes its pair at once.
+fn fire_arc(
     s: &[u8],
     net: NetShape,
     numbers: &[u32],
     arcs: Segment,
     i: usize,
-    marking: &[u32],
+    marking: &mut [u32],
 ) -> bool
     requires { ⌜ Open (now s) net ⌝ }
     requires { ⌜ NumbersAre (netOf (now s)) (now numbers) ⌝ }
-    requires { ⌜ Marking (netOf (now s)) (now marking) ⌝ }
     requires { ⌜ OwnArc (netOf (now s) .arcs) arcs i ⌝ }
-    ensures { λ r. ⌜ (r ≡ true) ↔ Free (netOf (now (s .entry))) (now (marking .entry)) (arcs .start + i) ⌝ }
+    requires { ⌜ Writable (netOf (now s)) (now marking) (arcs .start + i) ⌝ }
+    ensures { λ r. ⌜ Passes r (netOf (now (s .entry))) (now (marking .entry)) (arcs .start + i) (now (marking .exit)) ⌝ }
 {
-    let at = meet(s, net, arcs, i, marking);
-    if at.count < at.arc.pre {
+    let arc = arc(s, net, arcs, i);
+    let p = arc.pair.0 as usize;
+    let count = marking[p];
+    if count < arc.pre {
         return false;
     }
-    at.count < numbers[slot(s, net, arcs, i)]
+    if numbers[slot(s, net, arcs, i)] <= count {
+        return false;
+    }
+    marking[p] = count - arc.pre + arc.post;
+    true
 }
 
-// One pass over the arcs of a mode, each tested by its number.
-fn arcs_within(s: &[u8], net: NetShape, numbers: &[u32], arcs: Segment, marking: &[u32]) -> bool
+// One pass over the arcs of a mode, up to the first that does not let it pass: how many have written.
+fn fire_through(
+    s: &[u8],
+    net: NetShape,
+    numbers: &[u32],
+    arcs: Segment,
+    marking: &mut [u32],
+) -> usize
     requires { ⌜ NumbersAre (netOf (now s)) (now numbers) ⌝ }
     requires { ⌜ AtMode (now s) net arcs (now marking) ⌝ }
-    ensures { λ r. ⌜ OfMode (now (s .entry)) arcs (λ t. Decides r (netOf (now (s .entry))) (now (marking .entry)) t) ⌝ }
+    ensures { λ r. ⌜ Through (netOf (now (s .entry))) arcs r (now (marking .entry)) (now (marking .exit)) ⌝ }
 {
     let count = arcs.count;
     let mut i = 0;
     while i < count {
-        if !arc_within(s, net, numbers, arcs, i, marking) {
-            return false;
+        if !fire_arc(s, net, numbers, arcs, i, marking) {
+            return i;
         }
         i += 1;
     }
-    true
+    i
 }
 
-// Tested by the numbers first, then written: whether the mode has fired.
+// Takes back what the first `written` arcs of a mode have written, the last first: whatever marking they let the mode pass at is there again.
+fn take_back(s: &[u8], net: NetShape, arcs: Segment, written: usize, marking: &mut [u32])
+    requires { ⌜ Open (now s) net ⌝ }
+    requires { ⌜ ModeArcs (netOf (now s) .arcs) (arcs .mode) (arcs .start) (arcs .count) ⌝ }
+    requires { ⌜ ((m : List ℕ) × Wrote (netOf (now s)) arcs written m (now marking)) ⌝ }
+    ensures { λ r. ⌜ ((m : List ℕ) → Wrote (netOf (now (s .entry))) arcs written m (now (marking .entry)) → now (marking .exit) ≡ m) ⌝ }
+{
+    let mut i = written;
+    while 0 < i {
+        i -= 1;
+        let arc = arc(s, net, arcs, i);
+        let p = arc.pair.0 as usize;
+        marking[p] = marking[p] - arc.post + arc.pre;
+    }
+}
+
+// One pass tests and writes; where an arc does not let the mode pass, those before it are taken back. Whether the mode has fired.
 pub fn fire_within(
     s: &[u8],
     net: NetShape,
@@ -126,9 +152,10 @@ pub fn fire_within(
     requires { ⌜ AtMode (now s) net arcs (now marking) ⌝ }
     ensures { λ r. ⌜ OfMode (now (s .entry)) arcs (λ t. Fires r (netOf (now (s .entry))) (now (marking .entry)) t (now (marking .exit))) ⌝ }
 {
-    if !arcs_within(s, net, numbers, arcs, marking) {
+    let written = fire_through(s, net, numbers, arcs, marking);
+    if written < arcs.count {
+        take_back(s, net, arcs, written, marking);
         return false;
     }
-    write_arcs(s, net, arcs, marking);
     true
 }
