@@ -1,14 +1,17 @@
 -- One number for an arc decides what the four tests decide.
 use Prim.Native.Nat.{ℕ, _+_, _-_, _≤_, _<_}
-use mathlib.Core.Path.{_≡_, _∙_, subst}
+use mathlib.Core.Path.{_≡_, sym, _∙_, subst}
+use mathlib.Core.Bool.{true, false}
 use mathlib.Core.List.{List}
 use mathlib.Core.Logic.{_↔_, ⊎-elim}
+use lib.Dec.{ltb}
 use lib.ListN.{length, getD, set, length-set}
 use lib.Seq.{getD-set-same, getD-set-other}
 use native.Mathlib.Omega.{arith}
+use borrow.Author.Tests.{ltb-true, lt-ltb}
 use Rattle.model.specs.declared.Arc.{Arc}
 use Rattle.model.specs.Numbers.{limit}
-use Rattle.model.specs.Nets.{NetArc, PNet, modes, count, arcNo}
+use Rattle.model.specs.Nets.{NetArc, PNet, modes, arcNo}
 use Rattle.model.specs.Firing.{roomAt}
 use Rattle.model.proofs.First.{below-or}
 use Rattle.model.proofs.PassBelow.{pass-is}
@@ -21,7 +24,7 @@ use Rattle.opened.specs.Shape.{ArcIs}
 use Rattle.opened.specs.declared.starts.Segment.{Segment}
 use Rattle.opened.specs.Starts.{ModeArcs}
 use Rattle.rule.specs.AtPair.{Unstopped}
-use Rattle.firing.specs.AtMode.{Free}
+use Rattle.rule.proofs.FourTests.{clash}
 use Rattle.numbers.specs.Numbers.{numberOf, NumbersBelow, NumbersAre}
 
 -- the number of an arc that was read is that of the arc of the net
@@ -79,10 +82,22 @@ module _ (net : PNet) (numbers : List ℕ) where
   numbers-all well t h few below =
       record { long = omega (arith, below .long); each = λ k l. below .each k l (omega (arith, well .eachArc k l .mode)) }
 
--- nothing stops a mode where an arc of it stands exactly when the count there is at least Pre and below the arc's number
-pub free-is : (net : PNet) (m : List ℕ) (k : ℕ) (a : Arc) → netArc a ≡ arcNo (net .arcs) k → a .post ≤ limit
-    → Free net m k ↔ ((a .pre ≤ count m (a .pair .0)) × (count m (a .pair .0) < numberOf net k))
-unfolding Free numberOf
-free-is net m k a is h =
-    subst (λ (x : NetArc). Unstopped (x .entry) (roomAt net x) (count m (x .pair .0)) ↔ ((a .pre ≤ count m (a .pair .0)) × (count m (a .pair .0) < passBelow (x .entry) (roomAt net x))))
-    is (pass-is (netArc a .entry) (roomAt net (netArc a)) (count m (a .pair .0)) h)
+-- an arc that was read, at a count: nothing stops its mode there exactly when the count is at least Pre and below the arc's number
+module _ (net : PNet) (k : ℕ) (a : Arc) (is : netArc a ≡ arcNo (net .arcs) k) (post : a .post ≤ limit) (c : ℕ) where
+  abbrev Lets : Type 0
+  Lets = Unstopped (netArc a .entry) (roomAt net (netArc a)) c
+
+  decides : Lets ↔ ((a .pre ≤ c) × (c < numberOf net k))
+  unfolding numberOf
+  decides =
+      subst (λ (x : NetArc). Lets ↔ ((a .pre ≤ c) × (c < passBelow (x .entry) (roomAt net x)))) is
+      (pass-is (netArc a .entry) (roomAt net (netArc a)) c post)
+
+  pub below-pre : c < a .pre → (false ≡ true) ↔ Lets
+  below-pre l = (λ z. clash (sym z), λ free. absurd (omega (arith, decides .0 free)))
+
+  pub below-number : (n : ℕ) → n ≡ numberOf net k → a .pre ≤ c → (ltb c n ≡ true) ↔ Lets
+  below-number n e l = (
+    λ t. decides .1 (l, rw (← e) (ltb-true c n t)),
+    λ free. lt-ltb c n (rw e (decides .0 free .1)),
+  )

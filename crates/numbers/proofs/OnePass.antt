@@ -1,6 +1,6 @@
 -- A mode fired in one pass over its arcs, or taken back where one does not let it pass.
 use Prim.Native.Nat.{ℕ, zero, suc, _+_, _-_, _≤_, _<_}
-use mathlib.Core.Path.{_≡_, refl, sym, _∙_, ap, subst⁻¹}
+use mathlib.Core.Path.{_≡_, refl, sym, _∙_, ap, subst, subst⁻¹}
 use mathlib.Core.Bool.{Bool, true, false, cond}
 use mathlib.Core.List.{List}
 use mathlib.Core.Logic.{_↔_}
@@ -11,9 +11,11 @@ use native.Mathlib.Numerals.{add-one}
 use native.Mathlib.Omega.{arith}
 use Rattle.model.specs.declared.Mode.{Mode}
 use Rattle.model.specs.declared.Arc.{Arc}
-use Rattle.model.specs.Numbers.{limit}
+use Rattle.model.specs.declared.Why.the-variants.{Lacking}
+use Rattle.model.specs.Numbers.{fin, limit}
 use Rattle.model.specs.Nets.{NetArc, PNet, count, arcNo}
-use Rattle.model.specs.Firing.{after}
+use Rattle.model.specs.Firing.{after, roomAt}
+use Rattle.model.proofs.Numbers.{above-false}
 use Rattle.model.proofs.ByArcs.{writeArcs, write-length, write-keeps}
 use Rattle.opened.specs.declared.shape.NetShape.{NetShape}
 use Rattle.opened.specs.declared.starts.Segment.{Segment}
@@ -21,22 +23,36 @@ use Rattle.sheets.specs.Decoded.{netOf, netArc}
 use Rattle.opened.specs.Shape.{Open, ArcIs}
 use Rattle.opened.specs.Starts.{ModeArcs}
 use Rattle.opened.proofs.Shapes.{sizes}
-use Rattle.firing.specs.AtMode.{Free, Writable, writtenAt, AtMode, Fires}
+use Rattle.rule.specs.AtPair.{Unstopped}
+use Rattle.firing.specs.AtMode.{Free, Writable, writtenAt, AtMode}
 use Rattle.rule.proofs.FourTests.{clash}
 use Rattle.firing.proofs.Meets.{written-is}
-use Rattle.firing.proofs.ByMode.{listing, one-not-free, all-free, writable, fires, fires-not, fires-so}
-use Rattle.numbers.specs.Numbers.{numberOf}
-use Rattle.numbers.specs.OnePass.{Passes, writtenTo, Wrote, Through}
-use Rattle.numbers.proofs.ByNumbers.{free-is}
+use Rattle.firing.proofs.Leaving.{makes-not, makes-so}
+use Rattle.firing.proofs.ByMode.{listing, one-not-free, all-free, writable, fires}
+use Rattle.numbers.specs.OnePass.{Passes, writtenTo, Wrote, Through, Fires}
 
--- one arc, by its number
-module _ (net : PNet) (m : List ℕ) (k : ℕ) (a : Arc) (is : netArc a ≡ arcNo (net .arcs) k) (post : a .post ≤ limit) where
-  pub passes-not : ¬ ((a .pre ≤ count m (a .pair .0)) × (count m (a .pair .0) < numberOf net k)) → Passes false net m k m
-  passes-not out = record { decides = (λ z. clash (sym z), λ f. absurd (out (free-is net m k a is post .0 f))); leaves = refl }
+-- an arc that was read, where a count is tested
+module _ (net : PNet) (m : List ℕ) (k : ℕ) (a : Arc) (is : netArc a ≡ arcNo (net .arcs) k) where
+  abbrev Lets : Type 0
+  Lets = Unstopped (netArc a .entry) (roomAt net (netArc a)) (count m (a .pair .0))
 
-  pub passes-so : a .pre ≤ count m (a .pair .0) → count m (a .pair .0) < numberOf net k → {x : ℕ} → x ≡ after (netArc a .entry) (count m (a .pair .0))
-      → Passes true net m k (set m (a .pair .0) x)
-  passes-so l b e = record { decides = (λ _. free-is net m k a is post .1 (l, b), λ _. refl); leaves = written-is a net m k is e }
+  free-is : Free net m k ↔ Lets
+  unfolding Free
+  free-is =
+      subst (λ (x : NetArc). Unstopped (x .entry) (roomAt net x) (count m (x .pair .0)) ↔ Lets) is (λ f. f, λ f. f)
+
+  pub free-enough : Free net m k → a .pre ≤ count m (a .pair .0)
+  free-enough f = above-false (a .pre) (fin (count m (a .pair .0))) (free-is .0 f Lacking)
+
+  module _ {passed : Bool} (lets : (passed ≡ true) ↔ Lets) where
+    pub passes-not : passed ≡ false → Passes false net m k m
+    passes-not e = record { decides = (λ z. clash (sym z), λ f. clash (sym (lets .1 (free-is .0 f)) ∙ e)); leaves = refl }
+
+    pub passes-enough : passed ≡ true → a .pre ≤ count m (a .pair .0)
+    passes-enough e = free-enough (free-is .1 (lets .0 e))
+
+    pub passes-so : passed ≡ true → {x : ℕ} → x ≡ after (netArc a .entry) (count m (a .pair .0)) → Passes true net m k (set m (a .pair .0) x)
+    passes-so e q = record { decides = (λ _. free-is .1 (lets .0 e), λ _. refl); leaves = written-is a net m k is q }
 
 -- an arc's pair in a marking that it has written, and the marking before
 pub record Back (a : Arc) (l before : List ℕ) : Type 0 where
@@ -120,11 +136,13 @@ module _ {s : List ℕ} {net : NetShape} {arcs : Segment} {m : List ℕ} (h : At
   module _ {n : ℕ} {left : List ℕ} (through : Through (netOf s) arcs n m left) (t : Mode) (own : ModeArcs (netOf s .arcs) t (arcs .start) (arcs .count)) where
     pub fires-through : arcs .count ≤ n → Fires true (netOf s) m t left
     fires-through e =
-        fires-so (all-free h t own (λ j l. through .wrote .free j (omega arith))) refl
-        (through .wrote .leaves ∙ to-is n ∙ fires h t own n (through .wrote .few) e)
+        let all = all-free h t own (λ j l. through .wrote .free j (omega arith)) in
+        record { each = λ thing. makes-so _ (all .each thing .0 refl) (through .wrote .leaves ∙ to-is n ∙ fires h t own n (through .wrote .few) e) }
 
     pub fires-back : {back : List ℕ} → n < arcs .count → back ≡ m → Fires false (netOf s) m t back
-    fires-back l e = rw e (fires-not (one-not-free h t own n l (λ z. clash (sym z), λ f. absurd (through .stops l f)) refl) refl)
+    fires-back l e =
+        let stops = one-not-free h t own n l (λ z. clash (sym z), λ f. absurd (through .stops l f)) refl in
+        rw e (record { each = λ thing. makes-not _ (λ none. clash (sym (stops .each thing .1 none))) })
 
   module _ (i : ℕ) (there : i < arcs .count) where
     last-count : count (to (i + 1)) (pair i) ≡ after (arc i .entry) (count m (pair i))
@@ -150,7 +168,7 @@ module _ {s : List ℕ} {net : NetShape} {arcs : Segment} {m : List ℕ} (h : At
       let there : i - 1 < arcs .count = omega (arith, wrote .few) in
       let now : count (to i) (a .pair .0) ≡ after (netArc a .entry) (count m (a .pair .0)) =
       subst⁻¹ (λ (x : NetArc). count (to i) (x .pair .0) ≡ after (x .entry) (count m (x .pair .0))) (read .is) (rw before at (last-count (i - 1) there)) in
-      let enough = free-is (netOf s) m (arcs .start + (i - 1)) a (read .is) (read .post) .0 (wrote .free (i - 1) (omega arith)) .0 in
+      let enough = free-enough (netOf s) m (arcs .start + (i - 1)) a (read .is) (wrote .free (i - 1) (omega arith)) in
       let inside : a .pair .0 < length m = omega (arith, read .pair, sizes (h .opened) .pairs, h .marking .oneEach) in
       let found : count (to i) (a .pair .0) - a .post + a .pre ≡ count m (a .pair .0) = omega arith in
       rw e

@@ -5,10 +5,14 @@ use mathlib.Core.Path.{_≡_}
 use mathlib.Core.Bool.{Bool, true, cond}
 use mathlib.Core.Logic.{_↔_}
 use mathlib.Core.List.{List}
+use Rattle.model.specs.declared.Mode.{Mode}
+use Rattle.model.specs.declared.Thing.{Thing}
 use Rattle.model.specs.Nets.{PNet}
 use Rattle.model.specs.Markings.{Marking}
+use Rattle.model.specs.Firing.{fired}
 use Rattle.opened.specs.declared.starts.Segment.{Segment}
-use Rattle.firing.specs.AtMode.{Free, writtenAt}
+use Rattle.firing.specs.AtMode.{Free, writtenAt, refusalOf}
+use Rattle.firing.specs.Leaving.{Makes}
 
 -- where the k-th arc of a net stands: whether it lets its mode pass, and what is left of a marking
 pub record Passes (passed : Bool) (net : PNet) (m : List ℕ) (k : ℕ) (left : List ℕ) : Type 0 where
@@ -31,3 +35,7 @@ pub record Wrote (net : PNet) (arcs : Segment) (n : ℕ) (m left : List ℕ) : T
 pub record Through (net : PNet) (arcs : Segment) (n : ℕ) (m left : List ℕ) : Type 0 where
   pub wrote : Wrote net arcs n m left
   pub stops : n < arcs .count → ¬ Free net m (arcs .start + n)
+
+-- a mode that is fired exactly when none of 11 to 14 is found
+pub record Fires (made : Bool) (net : PNet) (m : List ℕ) (t : Mode) (left : List ℕ) : Type 0 where
+  pub each : (thing : Thing) → Makes (refusalOf thing net m t) (fired net t m) m made left

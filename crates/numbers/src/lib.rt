@@ -8,19 +8,25 @@ use opened::arcs::slot;
 use opened::shape::NetShape;
 use opened::starts::Segment;
 use opened::starts::arcs_of;
+use rule::AtPair;
+use rule::is_free;
 ghost use mathlib.Core.Path.{_≡_};
+ghost use mathlib.Core.Bool.{true};
 ghost use mathlib.Core.List.{List};
+ghost use mathlib.Core.Logic.{_↔_};
 ghost use Prim.Native.Nat.{ℕ, _+_, _≤_};
 ghost use lib.ListN.{length};
 ghost use Rattle.model.specs.Numbers.{limit};
+ghost use Rattle.model.specs.Firing.{roomAt};
 ghost use Rattle.model.specs.PassBelow.{passBelow};
 ghost use Rattle.fields.specs.Numbers.{bound};
 ghost use Rattle.sheets.specs.Decoded.{netOf, netArc};
-ghost use Rattle.opened.specs.Shape.{Open};
+ghost use Rattle.opened.specs.Shape.{Open, ArcIs};
 ghost use Rattle.opened.specs.Starts.{StartsAre, ModeArcs, OwnArc};
-ghost use Rattle.firing.specs.AtMode.{Writable, AtMode, OfMode, Fires};
-ghost use Rattle.numbers.specs.Numbers.{numberOf, NumbersBelow, NumbersAre};
-ghost use Rattle.numbers.specs.OnePass.{Passes, Wrote, Through};
+ghost use Rattle.rule.specs.AtPair.{Unstopped};
+ghost use Rattle.firing.specs.AtMode.{Writable, AtMode, OfMode};
+ghost use Rattle.numbers.specs.Numbers.{numberOf, NumbersBelow, NumbersAre, Numbered};
+ghost use Rattle.numbers.specs.OnePass.{Passes, Wrote, Through, Fires};
 
 // The counts below this number, from Pre on, are those that pass all four tests.
 fn pass_below(arc: Arc, capacity: u32) -> u32
@@ -73,7 +79,36 @@ pub fn write_numbers(s: &[u8], net: NetShape, starts: &[u16; 257], numbers: &mut
     }
 }
 
-// Tests the arc by its number and, where it lets its mode pass, writes its pair at once.
+// Whether an arc lets its mode pass at a count: by its number, or by all four tests where the table is empty, since only a run may hold it on the stack.
+fn lets_pass(
+    s: &[u8],
+    net: NetShape,
+    numbers: &[u32],
+    arcs: Segment,
+    i: usize,
+    arc: Arc,
+    count: u32,
+) -> bool
+    requires { ⌜ Numbered (now s) net (now numbers) ⌝ }
+    requires { ⌜ OwnArc (netOf (now s) .arcs) arcs i ⌝ }
+    requires { ⌜ ArcIs (now s) net (arcs .start + i) arc ⌝ }
+    requires { ⌜ count ≤ limit ⌝ }
+    ensures { λ r. ⌜ (r ≡ true) ↔ Unstopped (netArc arc .entry) (roomAt (netOf (now (s .entry))) (netArc arc)) count ⌝ }
+{
+    if numbers.len() == 0 {
+        return is_free(AtPair {
+            arc,
+            capacity: room_at(s, net, arc),
+            count,
+        });
+    }
+    if count < arc.pre {
+        return false;
+    }
+    count < numbers[slot(s, net, arcs, i)]
+}
+
+// Tests an arc and, where it lets its mode pass, writes its pair at once.
 fn fire_arc(
     s: &[u8],
     net: NetShape,
@@ -82,8 +117,7 @@ fn fire_arc(
     i: usize,
     marking: &mut [u32],
 ) -> bool
-    requires { ⌜ Open (now s) net ⌝ }
-    requires { ⌜ NumbersAre (netOf (now s)) (now numbers) ⌝ }
+    requires { ⌜ Numbered (now s) net (now numbers) ⌝ }
     requires { ⌜ OwnArc (netOf (now s) .arcs) arcs i ⌝ }
     requires { ⌜ Writable (netOf (now s)) (now marking) (arcs .start + i) ⌝ }
     ensures { λ r. ⌜ Passes r (netOf (now (s .entry))) (now (marking .entry)) (arcs .start + i) (now (marking .exit)) ⌝ }
@@ -91,10 +125,7 @@ fn fire_arc(
     let arc = arc(s, net, arcs, i);
     let p = arc.pair.0 as usize;
     let count = marking[p];
-    if count < arc.pre {
-        return false;
-    }
-    if numbers[slot(s, net, arcs, i)] <= count {
+    if !lets_pass(s, net, numbers, arcs, i, arc, count) {
         return false;
     }
     marking[p] = count - arc.pre + arc.post;
@@ -109,7 +140,7 @@ fn fire_through(
     arcs: Segment,
     marking: &mut [u32],
 ) -> usize
-    requires { ⌜ NumbersAre (netOf (now s)) (now numbers) ⌝ }
+    requires { ⌜ Numbered (now s) net (now numbers) ⌝ }
     requires { ⌜ AtMode (now s) net arcs (now marking) ⌝ }
     ensures { λ r. ⌜ Through (netOf (now (s .entry))) arcs r (now (marking .entry)) (now (marking .exit)) ⌝ }
 {
@@ -148,7 +179,7 @@ pub fn fire_within(
     arcs: Segment,
     marking: &mut [u32],
 ) -> bool
-    requires { ⌜ NumbersAre (netOf (now s)) (now numbers) ⌝ }
+    requires { ⌜ Numbered (now s) net (now numbers) ⌝ }
     requires { ⌜ AtMode (now s) net arcs (now marking) ⌝ }
     ensures { λ r. ⌜ OfMode (now (s .entry)) arcs (λ t. Fires r (netOf (now (s .entry))) (now (marking .entry)) t (now (marking .exit))) ⌝ }
 {

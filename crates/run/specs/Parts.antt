@@ -4,7 +4,6 @@ use Prim.Native.Nat.{ℕ, _≤_, _<_}
 use mathlib.Core.Path.{_≡_}
 use mathlib.Core.List.{List}
 use mathlib.Core.Option.{Option}
-use lib.ListN.{length}
 use Rattle.model.specs.declared.Mode.{Mode}
 use Rattle.model.specs.declared.Refusal.{Refusal}
 use Rattle.model.specs.declared.Answer.{Answer}
@@ -14,19 +13,14 @@ use Rattle.model.specs.Runs.{Outcome, goOn, run}
 use Rattle.model.specs.Visits.{modeArcs, visited}
 use Rattle.opened.specs.declared.shape.NetShape.{NetShape}
 use Rattle.sheets.specs.Decoded.{netOf}
-use Rattle.opened.specs.Shape.{Open}
 use Rattle.opened.specs.declared.starts.Segment.{Segment}
 use Rattle.opened.specs.Starts.{StartsAre, ModeArcs}
-use Rattle.numbers.specs.Numbers.{NumbersAre}
+use Rattle.numbers.specs.Numbers.{Numbered}
 use Rattle.run.specs.declared.Ran.{Ran}
 use Rattle.run.specs.declared.movements.Progress.{Progress}
 use Rattle.run.specs.Calls.{unlessRefused, ranOf}
 
--- an open net with the table of numbers, empty where there is none; and with both tables of a run
-pub record Numbered (s : List ℕ) (net : NetShape) (numbers : List ℕ) : Type 0 where
-  pub opened : Open s net
-  pub numbersAre : 0 < length numbers → NumbersAre (netOf s) numbers
-
+-- an open net with both tables of a run
 pub record Tables (s : List ℕ) (net : NetShape) (starts numbers : List ℕ) : Type 0 where
   pub numbered : Numbered s net numbers
   pub startsAre : StartsAre (netOf s .arcs) starts

@@ -1,61 +1,55 @@
--- Below Pre, not below the arc's number, or written.
+-- The arc does not let its mode pass; or M - Pre + Post is stored at its pair.
 use borrow.Author.Needs.{needs}
-use Prim.Native.Nat.{ℕ, _+_, _≤_}
-use mathlib.Core.Path.{_≡_, refl, ap}
-use lib.ListN.{getD}
+use borrow.Author.Tests.{not-true, not-false}
+use Prim.Native.Nat.{_≤_, _<_}
+use mathlib.Core.Path.{refl, ap}
+use lib.ListN.{length}
 use native.Mathlib.Omega.{arith}
 use Rattle.model.specs.Numbers.{limit}
 use Rattle.model.specs.Nets.{NetArc, count}
 use Rattle.sheets.specs.Decoded.{netOf}
 use Rattle.opened.proofs.Shapes.{sizes}
-use Rattle.opened.proofs.Segments.{own-there}
-use Rattle.numbers.specs.Numbers.{numberOf}
-use Rattle.numbers.proofs.OnePass.{passes-not, passes-so}
+use Rattle.numbers.proofs.OnePass.{passes-not, passes-enough, passes-so}
 use Rattle.numbers.proofs.fire_arc.Statement.{statement}
 use Rattle.numbers.proofs.fire_arc.Tie as tie
 
--- the number that is read is the arc's
-number : (c : tie.Start) {k : ℕ} → k ≡ c .args .arcs .start + c .args .i → getD (c .args .numbers .now) k 0 ≡ numberOf (netOf (c .args .s .now)) (c .args .arcs .start + c .args .i)
-number c e = rw e (c .pre .1 .0 .each _ (own-there (c .pre .1 .1 .0)))
+-- the pair that was read has a count, which is in range
+inside : (c : tie.After-arc) → c .arc .result .pair .0 < length (c .before .before .before .before .args .marking .now)
+inside c =
+    let pre = c .before .before .before .before .pre in
+    omega (arith, c .arc .ensures .pair, sizes (pre .0 .opened) .pairs, pre .1 .1 .oneEach)
 
-slice-read-count : tie.Need-slice-read-count
-slice-read-count c =
-    let start = c .before .before .before .before .before .before in
-    omega (arith, c .before .before .arc .ensures .pair, sizes (start .pre .0) .pairs, start .pre .1 .1 .1 .oneEach)
+in-range : (c : tie.After-arc) → count (c .before .before .before .before .args .marking .now) (c .arc .result .pair .0) ≤ limit
+in-range c = rw (← ap (λ (a : NetArc). a .pair .0) (c .arc .ensures .is)) at (c .before .before .before .before .pre .1 .1 .inRange)
+
+lets-pass-requires : tie.Need-lets-pass-requires
+lets-pass-requires c κs =
+    let read = c .before .before in
+    let pre = read .before .before .before .before .pre in
+    (pre .0, (pre .1 .0, (read .arc .ensures, in-range read)))
 
 returns : tie.Need-returns
 returns c =
-    let read = c .before .before .before .before .arc .ensures in
-    passes-not _ _ _ _ (read .is) (read .post) (λ l. omega (arith, c .if1 .taken))
+    let read = c .before .before .before .before in
+    passes-not _ _ _ _ (read .arc .ensures .is) (c .before .lets-pass .ensures) (not-true _ (c .if1 .taken))
 
-returns-2 : tie.Need-returns-2
-returns-2 c =
-    let slot = c .before .before in
-    let read = slot .before .before .before .before .before .arc .ensures in
-    let start = slot .before .before .before .before .before .before .before .before .before in
-    passes-not _ _ _ _ (read .is) (read .post) (λ l. omega (arith, c .if2 .taken, number start (slot .slot .ensures .0)))
+sub-marking : tie.Need-sub-marking
+sub-marking c =
+    let test = c .before in
+    let read = test .before .before .before .before in
+    let args = read .before .before .before .before .args in
+    passes-enough (netOf (args .s .now)) (args .marking .now) _ _ (read .arc .ensures .is) (test .before .lets-pass .ensures) (not-false _ (test .if1 .left))
 
 add-marking : tie.Need-add-marking
 add-marking c =
-    let read = c .before .before .before .before .before .before .before .before .before in
-    let start = read .before .before .before .before in
-    let range : count (start .args .marking .now) (read .arc .result .pair .0) ≤ limit =
-    rw (← ap (λ (a : NetArc). a .pair .0) (read .arc .ensures .is)) at (start .pre .1 .1 .1 .inRange) in
-    omega (arith, read .arc .ensures .post)
+    let read = c .before .before .before .before .before .before in
+    omega (arith, in-range read, read .arc .ensures .post)
 
-slice-write-marking : tie.Need-slice-write-marking
-slice-write-marking c =
-    let read = c .before .before .before .before .before .before .before .before .before in
-    let start = read .before .before .before .before in
-    omega (arith, read .arc .ensures .pair, sizes (start .pre .0) .pairs, start .pre .1 .1 .1 .oneEach)
-
-returns-3 : tie.Need-returns-3
-returns-3 c =
+returns-2 : tie.Need-returns-2
+returns-2 c =
     let test = c .before .before in
-    let slot = test .before .before in
-    let read = slot .before .before .before .before .before .arc .ensures in
-    let start = slot .before .before .before .before .before .before .before .before .before in
-    passes-so _ _ _ _ (read .is) (read .post) (slot .before .if1 .left) (omega (arith, test .if2 .left, number start (slot .slot .ensures .0))) refl
+    let read = test .before .before .before .before in
+    passes-so _ _ _ _ (read .arc .ensures .is) (test .before .lets-pass .ensures) (not-false _ (test .if1 .left)) refl
 
 pub fire-arc-spec : {M : Type 1} → statement M
 fire-arc-spec =
@@ -64,14 +58,12 @@ fire-arc-spec =
     (λ c κs. search needs)
     (λ c. search needs)
     (λ c. search needs)
-    slice-read-count
+    (λ c. inside (c .before .before))
+    lets-pass-requires
     returns
-    (λ c κs. search needs)
-    (λ c. search needs)
-    (λ c. search needs)
-    returns-2
+    sub-marking
     add-marking
     (λ c. search needs)
-    slice-write-marking
+    (λ c. inside (c .before .before .before .before .before .before))
     (λ c. search needs)
-    returns-3)
+    returns-2)

@@ -23,7 +23,7 @@ fire-arc-requires : tie.Need-fire-arc-requires Inv-loop μ-loop
 fire-arc-requires c κs =
     let l = c .before .before .loop in
     let pre = c .before .before .before .before .before .before .pre in
-    (pre .1 .opened, (pre .0, (record { own = pre .1 .own; there = c .before .loop-test .taken }, rw (l .inv .1 .leaves) (to-writable (pre .1) (l .i) (c .before .loop-test .taken)))))
+    (pre .0, (record { own = pre .1 .own; there = c .before .loop-test .taken }, rw (l .inv .1 .leaves) (to-writable (pre .1) (l .i) (c .before .loop-test .taken))))
 
 returns : tie.Need-returns Inv-loop μ-loop
 returns c =
