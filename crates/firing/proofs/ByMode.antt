@@ -30,10 +30,10 @@ use Rattle.opened.specs.Shape.{Open}
 use Rattle.opened.specs.Starts.{ModeArcs, SegmentOf}
 use Rattle.opened.proofs.Shapes.{sizes}
 use Rattle.opened.proofs.Segments.{mode-lists}
-use Rattle.firing.specs.AtMode.{Free, Writable, writtenAt, AtMode, stopAt, stopOf, refusalOf, Decides, Fires}
+use Rattle.firing.specs.AtMode.{Free, Writable, writtenAt, AtMode, stopAt, stopOf, refusalOf, Decides}
 use Rattle.firing.specs.Leaving.{Leaves}
 use Rattle.rule.proofs.FourTests.{clash}
-use Rattle.firing.proofs.Leaving.{leaves-some, leaves-written, makes-not, makes-so}
+use Rattle.firing.proofs.Leaving.{leaves-some, leaves-written}
 
 module _ {s : List ℕ} {net : NetShape} {arcs : Segment} {m : List ℕ} (h : AtMode s net arcs m) (t : Mode)
     (own : ModeArcs (netOf s .arcs) t (arcs .start) (arcs .count)) where
@@ -109,11 +109,3 @@ module _ {test : Bool} {net : PNet} {m : List ℕ} {t : Mode} (decides : Decides
 
   pub decides-so : {left : List ℕ} → test ≡ true → left ≡ new → Leaves (refusalOf thing net m t) new m Accepted left
   decides-so f q = leaves-written _ (ap answer (sym (decides .each thing .0 f))) refl q
-
--- the same where only "yes" or "no" is said
-module _ {test : Bool} {net : PNet} {m : List ℕ} {t : Mode} (decides : Decides test net m t) where
-  pub fires-not : test ≡ false → Fires false net m t m
-  fires-not f = record { each = λ thing. makes-not _ (λ none. clash (sym (decides .each thing .1 none) ∙ f)) }
-
-  pub fires-so : {left : List ℕ} → test ≡ true → left ≡ fired net t m → Fires true net m t left
-  fires-so f q = record { each = λ thing. makes-so _ (decides .each thing .0 f) q }

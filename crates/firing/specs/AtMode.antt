@@ -15,7 +15,7 @@ use Rattle.model.specs.First.{onlyIf}
 use Rattle.model.specs.Numbers.{limit}
 use Rattle.model.specs.Nets.{PNet, pairs, count, arcNo, row}
 use Rattle.model.specs.Markings.{Marking}
-use Rattle.model.specs.Firing.{after, stops, stoppedBy, stopped, lowestStop, rowRefusal, rooms, roomAt, fired}
+use Rattle.model.specs.Firing.{after, stops, stoppedBy, stopped, lowestStop, rowRefusal, rooms, roomAt}
 use Rattle.opened.specs.declared.shape.NetShape.{NetShape}
 use Rattle.opened.specs.declared.starts.Segment.{Segment}
 use Rattle.fields.specs.Numbers.{bound}
@@ -24,7 +24,6 @@ use Rattle.opened.specs.Shape.{Open}
 use Rattle.opened.specs.Starts.{ModeArcs}
 use Rattle.rule.specs.declared.AtPair.{AtPair}
 use Rattle.rule.specs.AtPair.{Unstopped}
-use Rattle.firing.specs.Leaving.{Makes}
 
 -- what the k-th arc of a net meets at a marking
 pub record Meets (net : PNet) (m : List ℕ) (k : ℕ) (at : AtPair) : Type 0 where
@@ -75,7 +74,3 @@ refusalOf thing net m t = rowRefusal thing (pairs net) (rooms net (row net t)) (
 -- a test that passes exactly when none of 11 to 14 is found
 pub record Decides (test : Bool) (net : PNet) (m : List ℕ) (t : Mode) : Type 0 where
   pub each : (thing : Thing) → (test ≡ true) ↔ (refusalOf thing net m t ≡ none)
-
--- a mode that is fired exactly when none of 11 to 14 is found
-pub record Fires (made : Bool) (net : PNet) (m : List ℕ) (t : Mode) (left : List ℕ) : Type 0 where
-  pub each : (thing : Thing) → Makes (refusalOf thing net m t) (fired net t m) m made left

@@ -28,7 +28,7 @@ pub fn room_at(s: &[u8], net: NetShape, arc: Arc) -> u32
     room(rule, capacity(s, net, pair), arc.pre)
 }
 
-pub fn meet(s: &[u8], net: NetShape, arcs: Segment, i: usize, marking: &[u32]) -> AtPair
+pub(crate) fn meet(s: &[u8], net: NetShape, arcs: Segment, i: usize, marking: &[u32]) -> AtPair
     requires { ⌜ Open (now s) net ⌝ }
     requires { ⌜ Marking (netOf (now s)) (now marking) ⌝ }
     requires { ⌜ OwnArc (netOf (now s) .arcs) arcs i ⌝ }

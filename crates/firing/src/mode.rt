@@ -22,7 +22,7 @@ ghost use Rattle.model.specs.Firing.{fired};
 ghost use Rattle.sheets.specs.Decoded.{netOf};
 ghost use Rattle.opened.specs.Shape.{Open};
 ghost use Rattle.opened.specs.Starts.{OwnArc};
-ghost use Rattle.firing.specs.AtMode.{Free, Writable, writtenAt, AtMode, OfMode, stopAt, stopOf, refusalOf, Decides, Fires};
+ghost use Rattle.firing.specs.AtMode.{Free, Writable, writtenAt, AtMode, OfMode, stopAt, stopOf, refusalOf, Decides};
 ghost use Rattle.firing.specs.Leaving.{Leaves};
 
 fn arc_stop(
@@ -129,7 +129,7 @@ fn write_arc(s: &[u8], net: NetShape, arcs: Segment, i: usize, marking: &mut [u3
 }
 
 // Fires the mode: only the pairs that its arcs name are written.
-pub fn write_arcs(s: &[u8], net: NetShape, arcs: Segment, marking: &mut [u32])
+fn write_arcs(s: &[u8], net: NetShape, arcs: Segment, marking: &mut [u32])
     requires { ⌜ AtMode (now s) net arcs (now marking) ⌝ }
     ensures { λ r. ⌜ OfMode (now (s .entry)) arcs (λ t. now (marking .exit) ≡ fired (netOf (now (s .entry))) t (now (marking .entry))) ⌝ }
 {
@@ -168,16 +168,4 @@ pub fn fire_arcs(
     }
     write_arcs(s, net, arcs, marking);
     Answer::Accepted
-}
-
-// The same where a caller asks only whether the mode has fired.
-pub fn fire_free(s: &[u8], net: NetShape, arcs: Segment, marking: &mut [u32]) -> bool
-    requires { ⌜ AtMode (now s) net arcs (now marking) ⌝ }
-    ensures { λ r. ⌜ OfMode (now (s .entry)) arcs (λ t. Fires r (netOf (now (s .entry))) (now (marking .entry)) t (now (marking .exit))) ⌝ }
-{
-    if !arcs_free(s, net, arcs, marking) {
-        return false;
-    }
-    write_arcs(s, net, arcs, marking);
-    true
 }

@@ -1,12 +1,12 @@
 // One ship's run from its first marking, and the kilograms that its accepted movements add and remove.
 use fire::start::write_start;
 use model::Answer;
+use numbers::write_numbers;
 use opened::listed::movement;
 use opened::shape::NetShape;
 use opened::starts::starts;
 use run::Ran;
 use run::movements::run_listed;
-use run::numbers::write_numbers;
 use weigh::changes::write_changes;
 ghost use mathlib.Core.Path.{_≡_};
 ghost use mathlib.Core.Option.{none};

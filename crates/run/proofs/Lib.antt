@@ -1,5 +1,3 @@
-pub mod Bounds
-pub mod ByNumbers
 pub mod Certifying
 pub mod Promises
 pub mod Reporting

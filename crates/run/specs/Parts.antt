@@ -4,42 +4,23 @@ use Prim.Native.Nat.{ℕ, _≤_, _<_}
 use mathlib.Core.Path.{_≡_}
 use mathlib.Core.List.{List}
 use mathlib.Core.Option.{Option}
-use lib.ListN.{length, getD}
 use Rattle.model.specs.declared.Mode.{Mode}
 use Rattle.model.specs.declared.Refusal.{Refusal}
 use Rattle.model.specs.declared.Answer.{Answer}
 use Rattle.model.specs.Refusals.{answer}
-use Rattle.model.specs.Nets.{PNet, modes, arcNo}
-use Rattle.model.specs.Firing.{roomAt}
+use Rattle.model.specs.Nets.{PNet, modes}
 use Rattle.model.specs.Runs.{Outcome, goOn, run}
 use Rattle.model.specs.Visits.{modeArcs, visited}
-use Rattle.model.specs.PassBelow.{passBelow}
 use Rattle.opened.specs.declared.shape.NetShape.{NetShape}
 use Rattle.sheets.specs.Decoded.{netOf}
-use Rattle.opened.specs.Shape.{Open}
 use Rattle.opened.specs.declared.starts.Segment.{Segment}
 use Rattle.opened.specs.Starts.{StartsAre, ModeArcs}
+use Rattle.numbers.specs.Numbers.{Numbered}
 use Rattle.run.specs.declared.Ran.{Ran}
 use Rattle.run.specs.declared.movements.Progress.{Progress}
 use Rattle.run.specs.Calls.{unlessRefused, ranOf}
 
--- the number of the k-th arc of a net, below which its counts pass; a table of 2048 with those of the arcs whose mode is below t, and one with all
-unfoldable pub numberOf : PNet → ℕ → ℕ
-numberOf net k = let a = arcNo (net .arcs) k in passBelow (a .entry) (roomAt net a)
-
-pub record NumbersBelow (net : PNet) (numbers : List ℕ) (t : ℕ) : Type 0 where
-  pub long : length numbers ≡ 2048
-  pub each : (k : ℕ) → k < length (net .arcs) → arcNo (net .arcs) k .mode .0 < t → getD numbers k 0 ≡ numberOf net k
-
-pub record NumbersAre (net : PNet) (numbers : List ℕ) : Type 0 where
-  pub long : length (net .arcs) ≤ length numbers
-  pub each : (k : ℕ) → k < length (net .arcs) → getD numbers k 0 ≡ numberOf net k
-
--- an open net with the table of numbers, empty where there is none; and with both tables of a run
-pub record Numbered (s : List ℕ) (net : NetShape) (numbers : List ℕ) : Type 0 where
-  pub opened : Open s net
-  pub numbersAre : 0 < length numbers → NumbersAre (netOf s) numbers
-
+-- an open net with both tables of a run
 pub record Tables (s : List ℕ) (net : NetShape) (starts numbers : List ℕ) : Type 0 where
   pub numbered : Numbered s net numbers
   pub startsAre : StartsAre (netOf s .arcs) starts

@@ -22,7 +22,6 @@ ghost use Rattle.run.specs.Contracts.{RunAllows, CertifyAllows};
 
 mod certificate;
 pub mod movements;
-pub mod numbers;
 
 // How many movements of a run were accepted, how many arcs it visited, and the answer to the first movement that was not accepted.
 pub struct Ran {

@@ -1,14 +1,13 @@
 // A list of movements: mode by mode, up to the first that is refused.
 use crate::Ran;
-use crate::numbers::fire_within;
-use crate::numbers::write_numbers;
 use fire::advance::mode_answer;
 use firing::mode::find_refusal;
-use firing::mode::fire_free;
 use lists::movements::movement_count;
 use model::Answer;
 use model::Mode;
 use model::Thing;
+use numbers::fire_within;
+use numbers::write_numbers;
 use opened::listed::mode_at;
 use opened::listed::movements_at;
 use opened::shape::NetShape;
@@ -30,7 +29,8 @@ ghost use Rattle.opened.specs.Shape.{Open};
 ghost use Rattle.opened.specs.Starts.{StartsAre};
 ghost use Rattle.sheets.specs.Listed.{modesFrom, ModesStand};
 ghost use Rattle.firing.specs.Leaving.{Makes};
-ghost use Rattle.run.specs.Parts.{Numbered, Tables, Tries, Accepts, Reports};
+ghost use Rattle.numbers.specs.Numbers.{Numbered};
+ghost use Rattle.run.specs.Parts.{Tables, Tries, Accepts, Reports};
 
 // The arcs of a movement's mode, which it visits: none where the mode is not there.
 fn tried_arcs(s: &[u8], net: NetShape, starts: &[u16; 257], mode: Mode) -> Segment
@@ -48,7 +48,7 @@ fn tried_arcs(s: &[u8], net: NetShape, starts: &[u16; 257], mode: Mode) -> Segme
     arcs_of(s, net, starts, mode)
 }
 
-// One movement: whether it was accepted. Tested by the numbers of its mode's arcs; by all four tests where that table is empty, since only a run may hold it on the stack.
+// One movement: whether it was accepted.
 fn step(s: &[u8], net: NetShape, numbers: &[u32], arcs: Segment, marking: &mut [u32]) -> bool
     requires { ⌜ Numbered (now s) net (now numbers) ⌝ }
     requires { ⌜ Tries (netOf (now s)) (arcs .mode) arcs ⌝ }
@@ -57,9 +57,6 @@ fn step(s: &[u8], net: NetShape, numbers: &[u32], arcs: Segment, marking: &mut [
 {
     if net.modes <= arcs.mode.0 as usize {
         return false;
-    }
-    if numbers.len() == 0 {
-        return fire_free(s, net, arcs, marking);
     }
     fire_within(s, net, numbers, arcs, marking)
 }

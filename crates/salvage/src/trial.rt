@@ -1,11 +1,11 @@
 // The modes considered, run from the net's first marking in counts of the call's own.
 use fire::start::write_start;
+use numbers::write_numbers;
 use opened::listed::movements_at;
 use opened::shape::NetShape;
 use opened::starts::starts;
 use run::Ran;
 use run::movements::run_modes;
-use run::numbers::write_numbers;
 ghost use mathlib.Core.Path.{_≡_};
 ghost use lib.ListN.{length};
 ghost use Rattle.opened.specs.Shape.{Open};

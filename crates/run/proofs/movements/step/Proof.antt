@@ -1,6 +1,5 @@
 -- Not there; or what firing the mode's arcs gives.
 use borrow.Author.Needs.{needs}
-use native.Mathlib.Omega.{arith}
 use Rattle.run.proofs.Running.{absent-makes, there-makes}
 use Rattle.run.proofs.Visiting.{tries-at}
 use Rattle.run.proofs.movements.step.Statement.{statement}
@@ -9,30 +8,16 @@ use Rattle.run.proofs.movements.step.Tie as tie
 returns : tie.Need-returns
 returns c = absent-makes (c .before .before .before .before .before .before .pre .0 .opened) _ (c .if1 .taken)
 
-fire-free-requires : tie.Need-fire-free-requires
-fire-free-requires c κs =
-    let test = c .before .before in
+fire-within-requires : tie.Need-fire-within-requires
+fire-within-requires c κs =
+    let test = c .before in
     let start = test .before .before .before .before .before .before in
-    tries-at (start .pre .0 .opened) (start .pre .1 .0) (start .pre .1 .1) (test .if1 .left)
+    (start .pre .0, tries-at (start .pre .0 .opened) (start .pre .1 .0) (start .pre .1 .1) (test .if1 .left))
 
 returns-2 : tie.Need-returns-2
 returns-2 c =
     let fired = c .before .before in
-    let test = fired .before .before .before in
-    let start = test .before .before .before .before .before .before in
-    there-makes (start .pre .0 .opened) _ (test .if1 .left)
-    (fired .fire-free .ensures _ (tries-at (start .pre .0 .opened) (start .pre .1 .0) (start .pre .1 .1) (test .if1 .left) .own) .each _)
-
-fire-within-requires : tie.Need-fire-within-requires
-fire-within-requires c κs =
-    let test = c .before .before in
-    let start = test .before .before .before .before .before .before in
-    (start .pre .0 .numbersAre (omega arith), tries-at (start .pre .0 .opened) (start .pre .1 .0) (start .pre .1 .1) (test .if1 .left))
-
-returns-3 : tie.Need-returns-3
-returns-3 c =
-    let fired = c .before .before in
-    let test = fired .before .before .before in
+    let test = fired .before .before in
     let start = test .before .before .before .before .before .before in
     there-makes (start .pre .0 .opened) _ (test .if1 .left)
     (fired .fire-within .ensures _ (tries-at (start .pre .0 .opened) (start .pre .1 .0) (start .pre .1 .1) (test .if1 .left) .own) .each _)
@@ -43,9 +28,6 @@ step-spec =
     (tie.spec
     (λ c. search needs)
     returns
-    fire-free-requires
-    (λ c. search needs)
-    returns-2
     fire-within-requires
     (λ c. search needs)
-    returns-3)
+    returns-2)

@@ -5,10 +5,10 @@ use mathlib.Core.Path.{sym, _∙_}
 use native.Mathlib.Omega.{arith}
 use Rattle.sheets.specs.Decoded.{netOf}
 use Rattle.opened.proofs.Shapes.{sizes}
-use Rattle.run.specs.Parts.{NumbersBelow}
-use Rattle.run.proofs.ByNumbers.{numbers-none, numbers-all}
-use Rattle.run.proofs.numbers.write_numbers.Statement.{statement}
-use Rattle.run.proofs.numbers.write_numbers.Tie as tie
+use Rattle.numbers.specs.Numbers.{NumbersBelow}
+use Rattle.numbers.proofs.ByNumbers.{numbers-none, numbers-all}
+use Rattle.numbers.proofs.write_numbers.Statement.{statement}
+use Rattle.numbers.proofs.write_numbers.Tie as tie
 
 abbrev Inv-loop : tie.InvT-loop
 Inv-loop s net starts numbers₀ modes t₀ numbers t = (t ≤ modes) × NumbersBelow (netOf s) numbers t

@@ -5,9 +5,9 @@ use mathlib.Core.Path.{_≡_, sym, _∙_}
 use native.Mathlib.Omega.{arith}
 use Rattle.sheets.specs.Decoded.{netOf}
 use Rattle.opened.proofs.Shapes.{sizes}
-use Rattle.run.proofs.ByNumbers.{NumbersWith, with-none, with-more, with-all}
-use Rattle.run.proofs.numbers.write_mode.Statement.{statement}
-use Rattle.run.proofs.numbers.write_mode.Tie as tie
+use Rattle.numbers.proofs.ByNumbers.{NumbersWith, with-none, with-more, with-all}
+use Rattle.numbers.proofs.write_mode.Statement.{statement}
+use Rattle.numbers.proofs.write_mode.Tie as tie
 
 abbrev Inv-loop : tie.InvT-loop
 Inv-loop s net arcs numbers₀ count i₀ numbers i = (i ≤ count) × NumbersWith (netOf s) numbers arcs i

@@ -1,9 +1,9 @@
 -- The least of the three highest counts, and one more; or never.
 use borrow.Author.Needs.{needs}
 use mathlib.Core.Path.{sym}
-use Rattle.run.proofs.Bounds.{never-passes, passes-below}
-use Rattle.run.proofs.numbers.pass_below.Statement.{statement}
-use Rattle.run.proofs.numbers.pass_below.Tie as tie
+use Rattle.numbers.proofs.Bounds.{never-passes, passes-below}
+use Rattle.numbers.proofs.pass_below.Statement.{statement}
+use Rattle.numbers.proofs.pass_below.Tie as tie
 
 returns : tie.Need-returns
 returns c = sym (never-passes (c .before .before .args .arc) _ (c .before .before .pre) (c .if1 .taken))

@@ -10,6 +10,7 @@ use lib.Seq.{getD-set-same, getD-set-other}
 use native.Mathlib.Omega.{arith}
 use borrow.Author.Tests.{ltb-true, lt-ltb}
 use Rattle.model.specs.declared.Arc.{Arc}
+use Rattle.model.specs.Numbers.{limit}
 use Rattle.model.specs.Nets.{NetArc, PNet, modes, arcNo}
 use Rattle.model.specs.Firing.{roomAt}
 use Rattle.model.proofs.First.{below-or}
@@ -22,12 +23,9 @@ use Rattle.sheets.specs.Decoded.{netOf, netArc}
 use Rattle.opened.specs.Shape.{ArcIs}
 use Rattle.opened.specs.declared.starts.Segment.{Segment}
 use Rattle.opened.specs.Starts.{ModeArcs}
-use Rattle.rule.specs.declared.AtPair.{AtPair}
 use Rattle.rule.specs.AtPair.{Unstopped}
-use Rattle.firing.specs.AtMode.{Meets, Free}
-use Rattle.run.specs.Parts.{numberOf, NumbersBelow, NumbersAre}
 use Rattle.rule.proofs.FourTests.{clash}
-use Rattle.firing.proofs.Meets.{meets-as}
+use Rattle.numbers.specs.Numbers.{numberOf, NumbersBelow, NumbersAre}
 
 -- the number of an arc that was read is that of the arc of the net
 pub number-is : {s : List ℕ} {net : NetShape} {k : ℕ} {a : Arc} (x : ℕ) {r : ℕ} → ArcIs s net k a → bound x ≡ roomAt (netOf s) (netArc a)
@@ -84,18 +82,22 @@ module _ (net : PNet) (numbers : List ℕ) where
   numbers-all well t h few below =
       record { long = omega (arith, below .long); each = λ k l. below .each k l (omega (arith, well .eachArc k l .mode)) }
 
-module _ {net : PNet} {m : List ℕ} {k : ℕ} {at : AtPair} (h : Meets net m k at) where
-  decides : Free net m k ↔ ((at .arc .pre ≤ at .count) × (at .count < numberOf net k))
-  unfolding Free numberOf
-  decides =
-      meets-as h (λ e k m. Unstopped e k m ↔ ((at .arc .pre ≤ at .count) × (at .count < passBelow e k)))
-      (pass-is (netArc (at .arc) .entry) (bound (at .capacity)) (at .count) (h .post))
+-- an arc that was read, at a count: nothing stops its mode there exactly when the count is at least Pre and below the arc's number
+module _ (net : PNet) (k : ℕ) (a : Arc) (is : netArc a ≡ arcNo (net .arcs) k) (post : a .post ≤ limit) (c : ℕ) where
+  abbrev Lets : Type 0
+  Lets = Unstopped (netArc a .entry) (roomAt net (netArc a)) c
 
-  pub below-pre : at .count < at .arc .pre → (false ≡ true) ↔ Free net m k
+  decides : Lets ↔ ((a .pre ≤ c) × (c < numberOf net k))
+  unfolding numberOf
+  decides =
+      subst (λ (x : NetArc). Lets ↔ ((a .pre ≤ c) × (c < passBelow (x .entry) (roomAt net x)))) is
+      (pass-is (netArc a .entry) (roomAt net (netArc a)) c post)
+
+  pub below-pre : c < a .pre → (false ≡ true) ↔ Lets
   below-pre l = (λ z. clash (sym z), λ free. absurd (omega (arith, decides .0 free)))
 
-  pub below-number : (n : ℕ) → n ≡ numberOf net k → at .arc .pre ≤ at .count → (ltb (at .count) n ≡ true) ↔ Free net m k
+  pub below-number : (n : ℕ) → n ≡ numberOf net k → a .pre ≤ c → (ltb c n ≡ true) ↔ Lets
   below-number n e l = (
-    λ t. decides .1 (l, rw (← e) (ltb-true (at .count) n t)),
-    λ free. lt-ltb (at .count) n (rw e (decides .0 free .1)),
+    λ t. decides .1 (l, rw (← e) (ltb-true c n t)),
+    λ free. lt-ltb c n (rw e (decides .0 free .1)),
   )

@@ -1,9 +1,9 @@
 -- The number of the arc that was read.
 use borrow.Author.Needs.{needs}
 use native.Mathlib.Omega.{arith}
-use Rattle.run.proofs.ByNumbers.{number-is}
-use Rattle.run.proofs.numbers.arc_number.Statement.{statement}
-use Rattle.run.proofs.numbers.arc_number.Tie as tie
+use Rattle.numbers.proofs.ByNumbers.{number-is}
+use Rattle.numbers.proofs.arc_number.Statement.{statement}
+use Rattle.numbers.proofs.arc_number.Tie as tie
 
 room-at-requires : tie.Need-room-at-requires
 room-at-requires c κs = (c .before .before .pre .0, (c .arc .ensures .pair, omega (arith, c .arc .ensures .pre)))
