@@ -3,16 +3,16 @@ use Prim.Native.Nat.{ℕ, _+_, _≤_, _<_}
 use mathlib.Core.Path.{_≡_, refl, sym}
 use mathlib.Core.Bool.{true, false, false≢true}
 use mathlib.Core.List.{List}
-use mathlib.Core.Logic.{⊎-elim, _≢_}
+use mathlib.Core.Logic.{⊎-elim}
 use lib.IntN.{pos, _-ℤ_}
 use lib.ListN.{length, getD}
 use mir.Syntax.{w64}
 use mir.Val.{SFits}
 use native.Mathlib.Omega.{arith}
-use Rattle.model.specs.Numbers.{ℕ∞, fin, ∞}
-use Rattle.model.specs.Nets.{pairs, K, count}
+use Rattle.model.specs.Numbers.{ℕ∞, fin}
+use Rattle.model.specs.Nets.{pairs, K}
 use Rattle.model.specs.Complement.{finite, complementPair, complement}
-use Rattle.model.specs.Audit.{excessOf, excess}
+use Rattle.model.specs.Audit.{excessOf}
 use Rattle.model.proofs.First.{below-or}
 use Rattle.model.proofs.Numbers.{minus-is, minus-below}
 use Rattle.model.proofs.Bounded.{bounded-number}

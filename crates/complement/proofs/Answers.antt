@@ -1,5 +1,5 @@
 -- The order of the refusals, and what an accepted call has room for.
-use Prim.Native.Nat.{ℕ, _+_, _-_, _≤_}
+use Prim.Native.Nat.{ℕ, _≤_}
 use mathlib.Core.Path.{_≡_, refl, sym, _∙_, ap, ap₂}
 use mathlib.Core.Bool.{true, not}
 use mathlib.Core.List.{List}
@@ -12,13 +12,11 @@ use Rattle.model.specs.declared.Thing.the-variants.{Net}
 use Rattle.model.specs.declared.Fault.the-variants.{NoRoom, InhibitedUnbounded}
 use Rattle.model.specs.declared.Refusal.{Refusal}
 use Rattle.model.specs.declared.Answer.{Answer}
-use Rattle.model.specs.declared.Answer.the-variants.{Accepted, Refused as Refused′}
 use Rattle.model.specs.Nets.{arcNo}
 use Rattle.model.specs.First.{_▸_, first, onlyIf}
 use Rattle.model.specs.Refusals.{answer, wrong}
 use Rattle.model.specs.Complement.{inhibitsUnbounded, refusal15, sheetLimits, complementRefusal}
-use Rattle.model.proofs.First.{then-assoc, none-then, right-none, first-all, first-split, only-if-none}
-use Rattle.model.proofs.Refusals.{answer-none, answer-stops}
+use Rattle.model.proofs.First.{then-assoc, right-none, first-all, only-if-none}
 use Rattle.opened.specs.declared.shape.NetShape.{NetShape}
 use Rattle.sheets.specs.Decoded.{netOf}
 use Rattle.opened.specs.Shape.{Open, arcOffset}

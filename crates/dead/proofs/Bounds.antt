@@ -1,6 +1,6 @@
 -- K less Post, as a sheet writes it; and what lives by document 01's rule lives by the weak one.
 use Prim.Native.Nat.{ℕ, _-_, _≤_, _<_}
-use mathlib.Core.Path.{_≡_, refl, ap}
+use mathlib.Core.Path.{_≡_, ap}
 use mathlib.Core.Bool.{false}
 use mathlib.Core.Logic.{_≢_}
 use native.Mathlib.Omega.{arith}

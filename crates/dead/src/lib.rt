@@ -20,7 +20,7 @@ use opened::starts::find_arcs;
 use opened::starts::starts;
 ghost use mathlib.Core.Path.{_≡_};
 ghost use mathlib.Core.Option.{none};
-ghost use Prim.Native.Nat.{_+_, _≤_, _<_};
+ghost use Prim.Native.Nat.{_≤_, _<_};
 ghost use Rattle.model.specs.Numbers.{lessThan, leastOf};
 ghost use Rattle.model.specs.Nets.{modes, modeNo, K};
 ghost use Rattle.model.specs.declared.Thing.the-variants.{Argument};

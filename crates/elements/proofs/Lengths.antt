@@ -1,14 +1,13 @@
 -- How long each line is.
-use Prim.Native.Nat.{ℕ, zero, suc, _+_, _≤_, _<_}
+use Prim.Native.Nat.{ℕ, zero, suc, _+_, _≤_}
 use mathlib.Core.Path.{_≡_, refl}
 use mathlib.Core.Logic.{_≢_}
-use mathlib.Core.List.{List}
 use lib.ListN.{length, length-append}
 use native.Mathlib.Omega.{arith}
 use Rattle.model.specs.Numbers.{limit}
 use Rattle.text.specs.Decimals.{decimal}
 use Rattle.text.proofs.Decimals.{length-at-most, length-above}
-use Rattle.pnml.specs.Pnml.{closing, three, placeText, transitionText, weightText, preText, postText, positive}
+use Rattle.pnml.specs.Pnml.{three, placeText, transitionText, weightText, preText, postText, positive}
 use Rattle.elements.specs.Sizes.{placeSize, weightSize}
 
 pub place-length : (p n : ℕ) → length (placeText p n) ≡ placeSize n

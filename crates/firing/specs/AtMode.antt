@@ -1,6 +1,6 @@
 -- One mode of an open net at a marking: what the shared parts of this crate speak of.
 -- A reader of the promises may skip this file.
-use Prim.Native.Nat.{ℕ, _+_, _≤_, _<_}
+use Prim.Native.Nat.{ℕ, _≤_, _<_}
 use mathlib.Core.Path.{_≡_}
 use mathlib.Core.Bool.{Bool, true}
 use mathlib.Core.Logic.{_↔_}

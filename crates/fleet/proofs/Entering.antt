@@ -14,7 +14,7 @@ use Rattle.model.specs.declared.Answer.{Answer}
 use Rattle.model.specs.declared.Answer.the-variants.{Accepted, Refused}
 use Rattle.model.specs.First.{_▸_}
 use Rattle.model.specs.Nets.{pairs}
-use Rattle.model.specs.Refusals.{wrong, answer}
+use Rattle.model.specs.Refusals.{wrong}
 use Rattle.model.proofs.Both.{or-neither}
 use Rattle.model.proofs.Decisions.{Decided}
 use Rattle.model.proofs.First.{none-then, some-then}

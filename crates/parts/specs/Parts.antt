@@ -10,7 +10,6 @@ use Rattle.parts.specs.declared.Numbered.{Numbered}
 use Rattle.parts.specs.declared.Numbered.the-variants.{Number, Stops}
 use Rattle.parts.specs.declared.Literal.{Literal}
 use Rattle.parts.specs.declared.Literal.the-variants.{Whole, Part}
-use Rattle.parts.specs.Stands.{Stands}
 use Rattle.parts.specs.Stands as L
 
 pub record WholeOf (s : List ℕ) (at : ℕ) (c : List ℕ) (next : ℕ) : Type 0 where

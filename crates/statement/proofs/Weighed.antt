@@ -1,5 +1,5 @@
 -- The figure of a marking along a list of movements: its size, and its next by a mode's weight change.
-use Prim.Native.Nat.{ℕ, _*_, _≤_}
+use Prim.Native.Nat.{ℕ, _≤_}
 use mathlib.Core.Path.{_≡_}
 use mathlib.Core.List.{List}
 use mathlib.Core.Option.{none}

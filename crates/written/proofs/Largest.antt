@@ -1,5 +1,5 @@
 -- How long a net sheet can be, and how long document 01's example is.
-use Prim.Native.Nat.{ℕ, _<_}
+use Prim.Native.Nat.{ℕ, _≤_, _<_}
 use mathlib.Core.Path.{_≡_, refl, _∙_}
 use mathlib.Core.List.{List}
 use lib.ListN.{length, getD, replicate, getD-replicate}
@@ -8,7 +8,8 @@ use Rattle.model.specs.declared.Mode.{Mode}
 use Rattle.model.specs.Numbers.{ℕ∞, ∞}
 use Rattle.model.specs.Rows.{Entry, Row}
 use Rattle.model.specs.Nets.{PNet, pairs, modes, arcNo, modeNo}
-use Rattle.model.specs.declared.Version.the-variants.{One}
+use Rattle.model.specs.declared.Version.{Version}
+use Rattle.model.specs.declared.Version.the-variants.{One, Two}
 use Rattle.model.specs.declared.CapacityRule.the-variants.{Strong}
 use Rattle.model.specs.WellFormed.{ArcOf, Counted, WellFormed}
 use Rattle.model.specs.Complement.{written, arcsOf}
@@ -21,10 +22,11 @@ use Rattle.sheets.proofs.Accepted as sheets
 use Rattle.written.proofs.ByMode.{by-mode}
 use Rattle.written.proofs.NetStands.{ends-of}
 use Rattle.written.specs.Written.{versionBytes, sheetOf}
-use Rattle.written.specs.Promises.{HasSheet, LargestSheet, ExampleLengths}
+use Rattle.written.specs.Promises.{HasSheet, largestOf, LargestSheet, ExampleLengths}
+use Rattle.written.specs.Puts.{sheetSize}
 use Rattle.written.proofs.RoundTrip.{fields-end, written-then-read}
 use Rattle.written.proofs.Sections.{joined-length}
-use Rattle.written.proofs.SheetLength.{section-one, fields-length, sheet-length, sheet-size, sheet-most}
+use Rattle.written.proofs.SheetLength.{section-one, fields-length, sheet-length, sheet-size}
 
 -- A net at every limit: 64 places of 4 colours, 64 transitions of 4 modes, and an arc at each pair of the first 8 modes.
 one : Entry
@@ -82,13 +84,19 @@ well-formed =
       rising = sorted-rising (arcsOf 8 256 rows) (sorted-rows 8 256 rows);
     }
 
-has-sheet : HasSheet One largest
+has-sheet : (v : Version) → HasSheet v largest
 unfolding largest
-has-sheet e = refl
+has-sheet v e = refl
 
-size : length (sheetOf One largest) ≡ 35083
-unfolding largest versionBytes
-size = omega (arith, sheet-length One largest, fields-length One largest, section-one largest, arcs-many)
+size : (v : Version) → length (sheetOf v largest) ≡ largestOf v
+unfolding largest
+size One = omega (arith, sheet-size One largest (by-mode largest well-formed), arcs-many)
+size Two = omega (arith, sheet-size Two largest (by-mode largest well-formed), arcs-many)
+
+size-most : (v : Version) (places transitions pairs modes arcs : ℕ) → places ≤ 64 → transitions ≤ 64 → pairs ≤ 256 → modes ≤ 256 → arcs ≤ 2048
+    → sheetSize v places transitions pairs modes arcs ≤ largestOf v
+size-most One places transitions pairs modes arcs a b c d e = omega arith
+size-most Two places transitions pairs modes arcs a b c d e = omega arith
 
 pub largest-sheet : LargestSheet
 largest-sheet =
@@ -101,9 +109,9 @@ largest-sheet =
             ends-of s well,
             sheet-length (versionOf s) (netOf s),
             sheet-size (versionOf s) (netOf s) (by-mode (netOf s) well),
-            sheet-most (versionOf s) (length (netOf s .colours)) (length (netOf s .modesOf)) (pairs (netOf s)) (modes (netOf s)) (length (netOf s .arcs)) (well .places .many) (well .transitions .many) (well .places .inTotal) (well .transitions .inTotal) (well .arcCount),
+            size-most (versionOf s) (length (netOf s .colours)) (length (netOf s .modesOf)) (pairs (netOf s)) (modes (netOf s)) (length (netOf s .arcs)) (well .places .many) (well .transitions .many) (well .places .inTotal) (well .transitions .inTotal) (well .arcCount),
           );
-      reached = (sheetOf One largest, written-then-read One largest well-formed has-sheet .accepted, size);
+      reached = λ v. let back = written-then-read v largest well-formed (has-sheet v) in (sheetOf v largest, back .version, back .accepted, size v);
     }
 
 pub example-lengths : ExampleLengths

@@ -5,7 +5,7 @@ use mathlib.Core.List.{List, _++_}
 use mathlib.Core.Option.{none}
 use lib.ListN.{length}
 use Rattle.model.specs.declared.Version.{Version}
-use Rattle.model.specs.declared.Version.the-variants.{One}
+use Rattle.model.specs.declared.Version.the-variants.{One, Two}
 use Rattle.model.specs.declared.CapacityRule.the-variants.{Strong}
 use Rattle.model.specs.Nets.{PNet}
 use Rattle.model.specs.Refusals.{answer}
@@ -39,10 +39,14 @@ WrittenThenRead = (v : Version) (net : PNet) → WellFormed net → HasSheet v n
 abbrev pub ReadThenWritten : Type 0
 ReadThenWritten = (s : List ℕ) → ((i : ℕ) → i < length s → byteAt s i < 256) → wholeNet s ≡ none → s ≡ sheetOf (versionOf s) (netOf s)
 
--- "The largest net sheet is 35,083 bytes.": none of either version is longer, and one is as long
+-- "The largest net sheet is 35,083 bytes."; of version 2 it is 31,498: none is longer, and one of each is as long
+abbrev pub largestOf : Version → ℕ
+largestOf One = 35083
+largestOf Two = 31498
+
 pub record LargestSheet : Type 0 where
-  pub most : (s : List ℕ) → netRefusal s ≡ none → sheetEnd s ≤ 35083
-  pub reached : (s : List ℕ) × (wholeNet s ≡ none) × (length s ≡ 35083)
+  pub most : (s : List ℕ) → netRefusal s ≡ none → sheetEnd s ≤ largestOf (versionOf s)
+  pub reached : (v : Version) → (s : List ℕ) × (versionOf s ≡ v) × (wholeNet s ≡ none) × (length s ≡ largestOf v)
 
 -- Document 01's own example: "(L = 61)", and its complement "has L = 87".
 pub record ExampleLengths : Type 0 where

@@ -1,7 +1,6 @@
 -- The last field of the arc's 14 bytes.
 use borrow.Author.Needs.{needs}
 use mathlib.Core.Path.{_∙_, ap}
-use native.Mathlib.Omega.{arith}
 use Rattle.heads.specs.Layout.{tailInhibitorAt}
 use Rattle.opened.proofs.Segments.{own-there, own-mode}
 use Rattle.opened.proofs.Versions.{inhibitor-there}
