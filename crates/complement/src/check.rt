@@ -1,10 +1,10 @@
 // What complementing refuses of an open net whatever the output slice, for calls that write no complement.
 use crate::room::complement_answer;
 use crate::sheet::complement_sizes;
-use dead::dead_modes;
 use model::Answer;
 use opened::shape::NetShape;
 use opened::starts::starts;
+use sections::survey::count_arcs;
 use sections::survey::survey;
 ghost use mathlib.Core.Path.{_≡_};
 ghost use Rattle.model.specs.Complement.{complementRefusal};
@@ -20,8 +20,9 @@ pub fn check_net(s: &[u8], net: NetShape, below: &[u16; 257]) -> Answer
     ensures { λ r. ⌜ r ≡ answer (complementRefusal (arcOffset (now (s .entry))) (netOf (now (s .entry)))) ⌝ }
 {
     let starts = starts(s, net);
-    let dead = dead_modes(s, net, &starts);
-    let found = survey(s, net, &starts, below, &dead);
-    let sizes = complement_sizes(s, net, below, found.arcs);
-    complement_answer(s, net, &starts, found.clear, sizes, 100_000)
+    let mut dead = [false; 256];
+    let clear = survey(s, net, &starts, &mut dead);
+    let arcs = count_arcs(s, net, &starts, below, &dead);
+    let sizes = complement_sizes(s, net, below, arcs);
+    complement_answer(s, net, &starts, clear, sizes, 100_000)
 }

@@ -8,7 +8,6 @@ mod sheet;
 use crate::room::complement_answer;
 use crate::sheet::complement_sizes;
 use crate::sheet::put_sheet;
-use dead::dead_modes;
 use halves::bounded::bounded_below;
 use model::Answer;
 use model::Refusal;
@@ -16,6 +15,7 @@ use opened::Opened;
 use opened::open_net;
 use opened::shape::NetShape;
 use opened::starts::starts;
+use sections::survey::count_arcs;
 use sections::survey::survey;
 ghost use mathlib.Core.Path.{_≡_};
 ghost use lib.ListN.{length};
@@ -36,10 +36,11 @@ fn complement_open(s: &[u8], net: NetShape, out: &mut [u8]) -> Complemented
 {
     let starts = starts(s, net);
     let below = bounded_below(s, net);
-    let dead = dead_modes(s, net, &starts);
-    let found = survey(s, net, &starts, &below, &dead);
-    let sizes = complement_sizes(s, net, &below, found.arcs);
-    let answer = complement_answer(s, net, &starts, found.clear, sizes, out.len());
+    let mut dead = [false; 256];
+    let clear = survey(s, net, &starts, &mut dead);
+    let arcs = count_arcs(s, net, &starts, &below, &dead);
+    let sizes = complement_sizes(s, net, &below, arcs);
+    let answer = complement_answer(s, net, &starts, clear, sizes, out.len());
     match answer {
         Answer::Refused(refusal) => Complemented::Refused(refusal),
         Answer::Accepted => {

@@ -18,7 +18,7 @@ ghost use Rattle.sheets.specs.Decoded.{netOf};
 ghost use Rattle.opened.specs.Shape.{Open};
 ghost use Rattle.opened.specs.Starts.{StartsAre};
 ghost use Rattle.written.specs.Written.{sectionBytes, sheetOf};
-ghost use Rattle.dead.specs.DeadModes.{DeadAre};
+ghost use Rattle.sections.specs.DeadModes.{DeadAre};
 ghost use Rattle.halves.specs.Bounded.{BelowAre};
 ghost use Rattle.complement.specs.Sizes.{SizesAre, Few, countsBytes, recordsBytes};
 ghost use Rattle.written.specs.Puts.{Room, Puts};

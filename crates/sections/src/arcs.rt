@@ -29,7 +29,7 @@ ghost use Rattle.opened.specs.Starts.{StartsAre, ModeArcs, OwnArc};
 ghost use Rattle.written.specs.Written.{bytes16, modeBytes, arcBytes};
 ghost use Rattle.written.specs.Puts.{Put, Room, Puts, modeSize};
 ghost use Rattle.halves.specs.declared.half.Half.the-variants.{Original, Complement};
-ghost use Rattle.dead.specs.DeadModes.{DeadAre};
+ghost use Rattle.sections.specs.DeadModes.{DeadAre};
 ghost use Rattle.halves.specs.Bounded.{BelowAre};
 ghost use Rattle.sections.specs.Arcs.{keptBytes, halfArc, halfNo, halfBytes, rowArcs, rowBytes};
 

@@ -15,18 +15,18 @@ put-sheet-requires : tie.Need-put-sheet-requires
 put-sheet-requires c κs =
     let answered = c .before .before .before .before .before .before in
     let sized = answered .before .before in
-    let found = sized .before .before .before .before .before .before in
-    let bounded = found .before .before in
+    let surveyed = sized .before .before .before .before .before .before in
+    let bounded = surveyed .before .before .before in
     let start = bounded .before .before .before .before in
     let accepted = answer-none (roomRefusal (start .args .s .now) (length (start .args .out .now))) (answered .complement-answer .ensures) (c .before .before .before .before .enum-told .given .1) in (
       start .pre,
-      (bounded .before .starts .ensures, (bounded .bounded-below .ensures, (found .dead-modes .ensures, (sized .complement-sizes .ensures, room-as (sym (sheet-is (start .pre))) (record { fits = omega (arith, room-enough (start .args .s .now) _ accepted) }))))),
+      (bounded .before .starts .ensures, (bounded .bounded-below .ensures, (surveyed .survey .ensures .1, (sized .complement-sizes .ensures, room-as (sym (sheet-is (start .pre))) (record { fits = omega (arith, room-enough (start .args .s .now) _ accepted) }))))),
     )
 
 returns : tie.Need-returns
 returns c =
     let answered = c .before .before .before in
-    let a = answered .before .before .before .before .before .before .before .before .before .before .before .before .before .before .args in
+    let a = answered .before .before .before .before .before .before .before .before .before .before .before .before .before .before .before .args in
     refused _ (complementSheet (a .s .now)) _
     (answer-refused (roomRefusal (a .s .now) (length (a .out .now))) (sym (answered .complement-answer .ensures) ∙ c .before .answer .given .1))
 
@@ -34,7 +34,7 @@ returns-2 : tie.Need-returns-2
 returns-2 c =
     let told = c .before .before .before .before .before .before .before in
     let answered = told .before .before in
-    let start = answered .before .before .before .before .before .before .before .before .before .before .before .before .before .before in
+    let start = answered .before .before .before .before .before .before .before .before .before .before .before .before .before .before .before in
     let a = start .args in
     let accepted = answer-none (roomRefusal (a .s .now) (length (a .out .now))) (answered .complement-answer .ensures) (told .enum-told .given .1) in
     written (complementSheet (a .s .now)) accepted (room-enough _ _ accepted) (puts-as (sheet-is (start .pre)) (c .before .before .put-sheet .ensures))
