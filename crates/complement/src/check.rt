@@ -4,7 +4,6 @@ use crate::sheet::complement_sizes;
 use model::Answer;
 use opened::shape::NetShape;
 use opened::starts::starts;
-use sections::survey::count_arcs;
 use sections::survey::survey;
 ghost use mathlib.Core.Path.{_≡_};
 ghost use Rattle.model.specs.Complement.{complementRefusal};
@@ -22,7 +21,6 @@ pub fn check_net(s: &[u8], net: NetShape, below: &[u16; 257]) -> Answer
     let starts = starts(s, net);
     let mut dead = [false; 256];
     let clear = survey(s, net, &starts, &mut dead);
-    let arcs = count_arcs(s, net, &starts, below, &dead);
-    let sizes = complement_sizes(s, net, below, arcs);
-    complement_answer(s, net, &starts, clear, sizes, 100_000)
+    let most = complement_sizes(s, net, below, 2 * net.arcs);
+    complement_answer(s, net, &starts, below, &dead, clear, most, 100_000)
 }

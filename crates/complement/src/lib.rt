@@ -15,7 +15,6 @@ use opened::Opened;
 use opened::open_net;
 use opened::shape::NetShape;
 use opened::starts::starts;
-use sections::survey::count_arcs;
 use sections::survey::survey;
 ghost use mathlib.Core.Path.{_≡_};
 ghost use lib.ListN.{length};
@@ -38,13 +37,12 @@ fn complement_open(s: &[u8], net: NetShape, out: &mut [u8]) -> Complemented
     let below = bounded_below(s, net);
     let mut dead = [false; 256];
     let clear = survey(s, net, &starts, &mut dead);
-    let arcs = count_arcs(s, net, &starts, &below, &dead);
-    let sizes = complement_sizes(s, net, &below, arcs);
-    let answer = complement_answer(s, net, &starts, clear, sizes, out.len());
+    let most = complement_sizes(s, net, &below, 2 * net.arcs);
+    let answer = complement_answer(s, net, &starts, &below, &dead, clear, most, out.len());
     match answer {
         Answer::Refused(refusal) => Complemented::Refused(refusal),
         Answer::Accepted => {
-            Complemented::Length(put_sheet(s, net, &starts, &below, &dead, sizes, out))
+            Complemented::Length(put_sheet(s, net, &starts, &below, &dead, most, out))
         }
     }
 }
