@@ -1,35 +1,40 @@
 -- The order of the refusals, and what an accepted call has room for.
-use Prim.Native.Nat.{ℕ, _≤_}
+use Prim.Native.Nat.{ℕ, _*_, _≤_}
 use mathlib.Core.Path.{_≡_, refl, sym, _∙_, ap, ap₂}
-use mathlib.Core.Bool.{true, not}
+use mathlib.Core.Bool.{true, false, not, _&&_}
 use mathlib.Core.List.{List}
 use mathlib.Core.Option.{Option, none, some}
-use lib.Dec.{ltb}
+use lib.Dec.{leb, ltb}
 use lib.ListN.{length}
-use borrow.Author.Tests.{ltb-false, not-true}
+use borrow.Author.Tests.{leb-true, le-leb, ltb-false, le-ltb, not-true, not-false}
 use native.Mathlib.Omega.{arith}
 use Rattle.model.specs.declared.Thing.the-variants.{Net}
 use Rattle.model.specs.declared.Fault.the-variants.{NoRoom, InhibitedUnbounded}
 use Rattle.model.specs.declared.Refusal.{Refusal}
 use Rattle.model.specs.declared.Answer.{Answer}
-use Rattle.model.specs.Nets.{arcNo}
+use Rattle.model.specs.declared.Answer.the-variants.{Accepted, Refused as Refused′}
+use Rattle.model.specs.declared.Version.{Version}
+use Rattle.model.specs.declared.Version.the-variants.{One, Two}
+use Rattle.model.specs.Nets.{PNet, arcNo}
 use Rattle.model.specs.First.{_▸_, first, onlyIf}
 use Rattle.model.specs.Refusals.{answer, wrong}
-use Rattle.model.specs.Complement.{inhibitsUnbounded, refusal15, sheetLimits, complementRefusal}
-use Rattle.model.proofs.First.{then-assoc, right-none, first-all, only-if-none}
+use Rattle.model.specs.Complement.{complement, inhibitsUnbounded, refusal15, sheetLimits, complementRefusal}
+use Rattle.model.proofs.First.{then-assoc, none-then, left-none, right-none, first-all, first-split, only-if-none}
+use Rattle.model.proofs.Refusals.{answer-none, answer-stops}
 use Rattle.opened.specs.declared.shape.NetShape.{NetShape}
 use Rattle.sheets.specs.Decoded.{netOf}
 use Rattle.opened.specs.Shape.{Open, arcOffset}
+use Rattle.opened.specs.Starts.{StartsAre}
 use Rattle.sections.specs.Arcs.{clearAt, every}
-use Rattle.sections.proofs.Every.{every-each}
+use Rattle.sections.proofs.Every.{and-left, and-right, every-each}
 use Rattle.written.proofs.Puts.{from-start}
 use Rattle.complement.specs.declared.Complemented.the-variants.{Length, Refused}
 use Rattle.complement.specs.declared.sheet.Sizes.{Sizes}
 use Rattle.complement.specs.ArcRefusals.{inhibitedAt}
 use Rattle.complement.specs.Complemented.{complementSheet, tooShort, roomRefusal, complemented, output}
-use Rattle.written.specs.Puts.{Puts}
-use Rattle.complement.specs.Sizes.{SizesAre, inLimits, sizesRefusal, firstOf}
-use Rattle.complement.proofs.SheetParts.{size-is, sheet-is}
+use Rattle.written.specs.Puts.{Puts, sheetSize}
+use Rattle.complement.specs.Sizes.{sizesOf, SizesWith, inLimits, sizesRefusal, firstOf}
+use Rattle.complement.proofs.SheetParts.{sizes-are, arcs-at-most, size-is, sheet-is}
 
 -- 15 is the first of its arcs
 pub each-arc : (s : List ℕ) → first (length (netOf s .arcs)) (inhibitedAt s) ≡ refusal15 (arcOffset s) (netOf s)
@@ -51,22 +56,50 @@ unfolding _▸_
 first-of none p = refl
 first-of (some r) p = refl
 
-limits-are : (s : List ℕ) (of : Sizes) → SizesAre (netOf s) of → inLimits of ≡ sheetLimits (netOf s)
-unfolding sheetLimits
-limits-are s of are = rw (are .places, are .pairs, are .arcs)
+limits-are : (net : PNet) → inLimits (sizesOf net) ≡ sheetLimits net
+unfolding sheetLimits sizesOf
+limits-are net = refl
 
-module _ {s : List ℕ} {net : NetShape} (o : Open s net) {of : Sizes} (are : SizesAre (netOf s) of) (room : ℕ) where
-  sizes-refusal : sizesRefusal net of room ≡ onlyIf (not (sheetLimits (netOf s))) (wrong Net NoRoom) ▸ tooShort s room
+-- a sheet with fewer arcs fits where one with more does
+fewer-arcs : (v : Version) (places transitions pairs modes arcs most : ℕ) → arcs ≤ most → sheetSize v places transitions pairs modes arcs ≤ sheetSize v places transitions pairs modes most
+fewer-arcs One n t p m k l h = omega arith
+fewer-arcs Two n t p m k l h = omega arith
+
+limits-kept : (places pairs arcs most : ℕ) → arcs ≤ most → leb places 64 && leb pairs 256 && leb most 2048 ≡ true → leb places 64 && leb pairs 256 && leb arcs 2048 ≡ true
+limits-kept places pairs arcs most h e =
+    let both = and-left (leb places 64 && leb pairs 256) (leb most 2048) e in
+    let many = leb-true most 2048 (and-right (leb places 64 && leb pairs 256) (leb most 2048) e) in
+    rw (and-left (leb places 64) (leb pairs 256) both, and-right (leb places 64) (leb pairs 256) both, le-leb arcs 2048 (omega arith))
+
+fits-with : (net : NetShape) (room : ℕ) (of most : Sizes) → of .places ≡ most .places → of .pairs ≡ most .pairs → of .arcs ≤ most .arcs
+    → sizesRefusal net most room ≡ none → sizesRefusal net of room ≡ none
+unfolding sizesRefusal
+fits-with net room of most p q h e =
+    let size : Sizes → ℕ = λ sizes. sheetSize (net .version) (sizes .places) (net .transitions) (sizes .pairs) (net .modes) (sizes .arcs) in
+    let limits : inLimits most ≡ true = not-false (inLimits most) (only-if-none _ _ (left-none _ _ e)) in
+    let fits : size most ≤ room = ltb-false room (size most) (only-if-none _ _ (right-none _ _ e)) in
+    let within : inLimits of ≡ true = rw (p, q) (limits-kept (most .places) (most .pairs) (of .arcs) (most .arcs) h limits) in
+    let fewer : size of ≤ size most = rw (p, q) (fewer-arcs (net .version) (most .places) (net .transitions) (most .pairs) (net .modes) (of .arcs) (most .arcs) h) in
+    let long : ltb room (size of) ≡ false = le-ltb room (size of) (omega (arith, fewer, fits)) in
+    none-then (ap (λ b. onlyIf (not b) (wrong Net NoRoom)) within) (ap (λ b. onlyIf b (wrong Net NoRoom)) long)
+
+module _ {s : List ℕ} {net : NetShape} (o : Open s net) (room : ℕ) where
+  sizes-refusal : sizesRefusal net (sizesOf (netOf s)) room ≡ onlyIf (not (sheetLimits (netOf s))) (wrong Net NoRoom) ▸ tooShort s room
   unfolding sizesRefusal
   sizes-refusal =
-      ap₂ (λ limits size. onlyIf (not limits) (wrong Net NoRoom) ▸ onlyIf (ltb room size) (wrong Net NoRoom)) (limits-are s of are) (size-is o are refl ∙ ap length (sheet-is o))
+      ap₂ (λ limits size. onlyIf (not limits) (wrong Net NoRoom) ▸ onlyIf (ltb room size) (wrong Net NoRoom)) (limits-are (netOf s)) (size-is o (sizes-are (netOf s)) ∙ ap length (sheet-is o))
+
+  pub still-fits : {starts : List ℕ} {most : Sizes} → StartsAre (netOf s .arcs) starts → SizesWith (netOf s) (2 * net .arcs) most
+      → sizesRefusal net most room ≡ none → sizesRefusal net (sizesOf (netOf s)) room ≡ none
+  unfolding sizesOf
+  still-fits {most = most} are with e = fits-with net room (sizesOf (netOf s)) most (sym (with .places)) (sym (with .pairs)) (omega (arith, arcs-at-most o are, with .arcs)) e
 
   -- 15, then 10
   pub in-order : {inhibitors fits all : Answer} → inhibitors ≡ answer (refusal15 (arcOffset s) (netOf s))
-      → fits ≡ answer (sizesRefusal net of room) → all ≡ firstOf inhibitors fits → all ≡ answer (roomRefusal s room)
+      → fits ≡ answer (sizesRefusal net (sizesOf (netOf s)) room) → all ≡ firstOf inhibitors fits → all ≡ answer (roomRefusal s room)
   unfolding roomRefusal complementRefusal
   in-order e f g =
-      let together : refusal15 (arcOffset s) (netOf s) ▸ sizesRefusal net of room ≡ roomRefusal s room = rw (then-assoc, sizes-refusal) in
+      let together : refusal15 (arcOffset s) (netOf s) ▸ sizesRefusal net (sizesOf (netOf s)) room ≡ roomRefusal s room = rw (then-assoc, sizes-refusal) in
       g ∙ ap₂ firstOf e f ∙ first-of _ _ ∙ ap answer together
 
 pub room-enough : (s : List ℕ) (room : ℕ) → roomRefusal s room ≡ none → length (complementSheet s) ≤ room

@@ -1,3 +1,4 @@
 pub mod SheetParts
 pub mod Answers
 pub mod WithoutOutput
+mod Last

@@ -22,10 +22,14 @@ use Rattle.opened.specs.declared.shape.NetShape.{NetShape}
 use Rattle.written.specs.Written.{bytes16, headBytes, pairsBytes, lengthOf}
 use Rattle.complement.specs.declared.sheet.Sizes.{Sizes}
 
-pub record SizesAre (net : PNet) (sizes : Sizes) : Type 0 where
+unfoldable pub sizesOf : PNet → Sizes
+sizesOf net = record { places = length (complement net .colours); pairs = pairs (complement net); arcs = length (complement net .arcs) }
+
+-- the same with so many arcs
+pub record SizesWith (net : PNet) (many : ℕ) (sizes : Sizes) : Type 0 where
   pub places : sizes .places ≡ length (complement net .colours)
   pub pairs : sizes .pairs ≡ pairs (complement net)
-  pub arcs : sizes .arcs ≡ length (complement net .arcs)
+  pub arcs : sizes .arcs ≡ many
 
 -- at most twice what a sheet may hold
 pub record Few (sizes : Sizes) : Type 0 where

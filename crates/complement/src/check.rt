@@ -1,7 +1,6 @@
 // What complementing refuses of an open net whatever the output slice, for calls that write no complement.
 use crate::room::complement_answer;
 use crate::sheet::complement_sizes;
-use dead::dead_modes;
 use model::Answer;
 use opened::shape::NetShape;
 use opened::starts::starts;
@@ -20,8 +19,8 @@ pub fn check_net(s: &[u8], net: NetShape, below: &[u16; 257]) -> Answer
     ensures { λ r. ⌜ r ≡ answer (complementRefusal (arcOffset (now (s .entry))) (netOf (now (s .entry)))) ⌝ }
 {
     let starts = starts(s, net);
-    let dead = dead_modes(s, net, &starts);
-    let found = survey(s, net, &starts, below, &dead);
-    let sizes = complement_sizes(s, net, below, found.arcs);
-    complement_answer(s, net, &starts, found.clear, sizes, 100_000)
+    let mut dead = [false; 256];
+    let clear = survey(s, net, &starts, &mut dead);
+    let most = complement_sizes(s, net, below, 2 * net.arcs);
+    complement_answer(s, net, &starts, below, &dead, clear, most, 100_000)
 }

@@ -8,7 +8,6 @@ mod sheet;
 use crate::room::complement_answer;
 use crate::sheet::complement_sizes;
 use crate::sheet::put_sheet;
-use dead::dead_modes;
 use halves::bounded::bounded_below;
 use model::Answer;
 use model::Refusal;
@@ -36,14 +35,14 @@ fn complement_open(s: &[u8], net: NetShape, out: &mut [u8]) -> Complemented
 {
     let starts = starts(s, net);
     let below = bounded_below(s, net);
-    let dead = dead_modes(s, net, &starts);
-    let found = survey(s, net, &starts, &below, &dead);
-    let sizes = complement_sizes(s, net, &below, found.arcs);
-    let answer = complement_answer(s, net, &starts, found.clear, sizes, out.len());
+    let mut dead = [false; 256];
+    let clear = survey(s, net, &starts, &mut dead);
+    let most = complement_sizes(s, net, &below, 2 * net.arcs);
+    let answer = complement_answer(s, net, &starts, &below, &dead, clear, most, out.len());
     match answer {
         Answer::Refused(refusal) => Complemented::Refused(refusal),
         Answer::Accepted => {
-            Complemented::Length(put_sheet(s, net, &starts, &below, &dead, sizes, out))
+            Complemented::Length(put_sheet(s, net, &starts, &below, &dead, most, out))
         }
     }
 }

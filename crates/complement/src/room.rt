@@ -6,18 +6,21 @@ use model::Answer;
 use model::Fault;
 use model::Thing;
 use opened::shape::NetShape;
+use sections::survey::count_arcs;
 use written::sheet_size;
 ghost use mathlib.Core.Path.{_≡_};
-ghost use Prim.Native.Nat.{_≤_};
+ghost use Prim.Native.Nat.{_*_, _≤_};
 ghost use lib.Dec.{ltb};
 ghost use lib.ListN.{length};
 ghost use Rattle.model.specs.Refusals.{answer};
 ghost use Rattle.sheets.specs.Decoded.{netOf};
 ghost use Rattle.opened.specs.Shape.{Open};
 ghost use Rattle.opened.specs.Starts.{StartsAre};
+ghost use Rattle.halves.specs.Bounded.{BelowAre};
 ghost use Rattle.sections.specs.Arcs.{clearAt, every};
+ghost use Rattle.sections.specs.DeadModes.{DeadAre};
 ghost use Rattle.complement.specs.Complemented.{roomRefusal};
-ghost use Rattle.complement.specs.Sizes.{SizesAre, Few, inLimits, sizesRefusal, firstOf};
+ghost use Rattle.complement.specs.Sizes.{sizesOf, SizesWith, Few, inLimits, sizesRefusal, firstOf};
 
 // "complement exceeds the sheet's limits"
 fn within_limits(sizes: Sizes) -> bool
@@ -62,6 +65,35 @@ fn room_answer(net: NetShape, sizes: Sizes, room: usize) -> Answer
     Answer::Accepted
 }
 
+// The arcs are counted only where twice as many as the net has would not fit.
+fn counted_answer(
+    s: &[u8],
+    net: NetShape,
+    starts: &[u16; 257],
+    below: &[u16; 257],
+    dead: &[bool; 256],
+    most: Sizes,
+    room: usize,
+) -> Answer
+    requires { ⌜ Open (now s) net ⌝ }
+    requires { ⌜ StartsAre (netOf (now s) .arcs) (now starts) ⌝ }
+    requires { ⌜ BelowAre (netOf (now s)) (now below) ⌝ }
+    requires { ⌜ DeadAre (netOf (now s)) (now dead) ⌝ }
+    requires { ⌜ SizesWith (netOf (now s)) (2 * net .arcs) most × Few most ⌝ }
+    ensures { λ r. ⌜ r ≡ answer (sizesRefusal net (sizesOf (netOf (now (s .entry)))) room) ⌝ }
+{
+    let fits = room_answer(net, most, room);
+    if let Answer::Accepted = fits {
+        return fits;
+    }
+    let sizes = Sizes {
+        places: most.places,
+        pairs: most.pairs,
+        arcs: count_arcs(s, net, starts, below, dead),
+    };
+    room_answer(net, sizes, room)
+}
+
 // This, then that.
 fn then(this: Answer, that: Answer) -> Answer
     ensures { λ r. ⌜ r ≡ firstOf this that ⌝ }
@@ -76,17 +108,21 @@ pub(crate) fn complement_answer(
     s: &[u8],
     net: NetShape,
     starts: &[u16; 257],
+    below: &[u16; 257],
+    dead: &[bool; 256],
     clear: bool,
-    sizes: Sizes,
+    most: Sizes,
     room: usize,
 ) -> Answer
     requires { ⌜ Open (now s) net ⌝ }
     requires { ⌜ StartsAre (netOf (now s) .arcs) (now starts) ⌝ }
+    requires { ⌜ BelowAre (netOf (now s)) (now below) ⌝ }
+    requires { ⌜ DeadAre (netOf (now s)) (now dead) ⌝ }
     requires { ⌜ clear ≡ every (length (netOf (now s) .arcs)) (clearAt (netOf (now s))) ⌝ }
-    requires { ⌜ SizesAre (netOf (now s)) sizes × Few sizes ⌝ }
+    requires { ⌜ SizesWith (netOf (now s)) (2 * net .arcs) most × Few most ⌝ }
     ensures { λ r. ⌜ r ≡ answer (roomRefusal (now (s .entry)) room) ⌝ }
 {
-    let sizes_fit = room_answer(net, sizes, room);
+    let sizes_fit = counted_answer(s, net, starts, below, dead, most, room);
     if clear {
         return sizes_fit;
     }

@@ -6,24 +6,25 @@ use sections::arcs::put_arcs;
 use sections::places::count_new_places;
 use sections::places::put_modes;
 use sections::places::put_places;
+use written::head_size;
 use written::put_count;
 use written::put_head;
 use written::put_total;
-use written::sheet_size;
+use written::total_size;
 ghost use mathlib.Core.Path.{_≡_};
-ghost use Prim.Native.Nat.{_≤_};
+ghost use Prim.Native.Nat.{_*_, _≤_, _<_};
 ghost use lib.ListN.{length};
 ghost use Rattle.model.specs.Complement.{complement};
 ghost use Rattle.sheets.specs.Decoded.{netOf};
 ghost use Rattle.opened.specs.Shape.{Open};
 ghost use Rattle.opened.specs.Starts.{StartsAre};
 ghost use Rattle.written.specs.Written.{sectionBytes, sheetOf};
-ghost use Rattle.dead.specs.DeadModes.{DeadAre};
+ghost use Rattle.sections.specs.DeadModes.{DeadAre};
 ghost use Rattle.halves.specs.Bounded.{BelowAre};
-ghost use Rattle.complement.specs.Sizes.{SizesAre, Few, countsBytes, recordsBytes};
+ghost use Rattle.complement.specs.Sizes.{SizesWith, Few, countsBytes, recordsBytes};
 ghost use Rattle.written.specs.Puts.{Room, Puts};
 
-// How many places, pairs and arcs the complement has.
+// How many places and pairs the complement has, and how many arcs: as many as it has, or at most so many.
 pub(crate) struct Sizes {
     pub places: usize,
     pub pairs: usize,
@@ -33,8 +34,8 @@ pub(crate) struct Sizes {
 pub(crate) fn complement_sizes(s: &[u8], net: NetShape, below: &[u16; 257], arcs: usize) -> Sizes
     requires { ⌜ Open (now s) net ⌝ }
     requires { ⌜ BelowAre (netOf (now s)) (now below) ⌝ }
-    requires { ⌜ (arcs ≡ length (complement (netOf (now s)) .arcs)) × (arcs ≤ 4096) ⌝ }
-    ensures { λ r. ⌜ SizesAre (netOf (now (s .entry))) r × Few r ⌝ }
+    requires { ⌜ arcs ≤ 4096 ⌝ }
+    ensures { λ r. ⌜ SizesWith (netOf (now (s .entry))) arcs r × Few r ⌝ }
 {
     let pairs = net.pairs;
     Sizes {
@@ -44,25 +45,18 @@ pub(crate) fn complement_sizes(s: &[u8], net: NetShape, below: &[u16; 257], arcs
     }
 }
 
-// The length, the version, the rule and the counts of places and transitions.
-fn put_counts(s: &[u8], net: NetShape, sizes: Sizes, out: &mut [u8]) -> usize
+// The length, the version, the rule and the counts of places and transitions, of a sheet of `size` bytes.
+fn put_counts(s: &[u8], net: NetShape, places: usize, size: usize, out: &mut [u8]) -> usize
     requires { ⌜ Open (now s) net ⌝ }
-    requires { ⌜ SizesAre (netOf (now s)) sizes × Few sizes ⌝ }
+    requires { ⌜ (places ≡ length (complement (netOf (now s)) .colours)) × (places ≤ 128) ⌝ }
+    requires { ⌜ (size ≡ length (sheetOf (net .version) (complement (netOf (now s))))) × (size < 4294967296) ⌝ }
     requires { ⌜ Room (now out) 0 (countsBytes (net .version) (complement (netOf (now s)))) ⌝ }
     ensures { λ r. ⌜ Puts (now (out .entry)) 0 (countsBytes (net .version) (complement (netOf (now (s .entry))))) (now (out .exit)) r ⌝ }
 {
     let version = net.version;
-    let size = sheet_size(
-        version,
-        sizes.places,
-        net.transitions,
-        sizes.pairs,
-        net.modes,
-        sizes.arcs,
-    );
     let rule = net.rule;
     let at_places = put_head(out, version, rule, size);
-    let at_transitions = put_count(out, at_places, sizes.places);
+    let at_transitions = put_count(out, at_places, places);
     put_count(out, at_transitions, net.transitions)
 }
 
@@ -77,13 +71,13 @@ fn put_records(s: &[u8], net: NetShape, below: &[u16; 257], out: &mut [u8], at: 
     put_pairs(s, net, out, at_pairs)
 }
 
+// Before the arcs stands their count where the version says it, which is known when they are put: version 1's have 16 bytes each.
 fn put_counted_arcs(
     s: &[u8],
     net: NetShape,
     starts: &[u16; 257],
     below: &[u16; 257],
     dead: &[bool; 256],
-    arcs: usize,
     out: &mut [u8],
     at: usize,
 ) -> usize
@@ -91,33 +85,38 @@ fn put_counted_arcs(
     requires { ⌜ StartsAre (netOf (now s) .arcs) (now starts) ⌝ }
     requires { ⌜ BelowAre (netOf (now s)) (now below) ⌝ }
     requires { ⌜ DeadAre (netOf (now s)) (now dead) ⌝ }
-    requires { ⌜ (arcs ≡ length (complement (netOf (now s)) .arcs)) × (arcs ≤ 4096) ⌝ }
     requires { ⌜ Room (now out) at (sectionBytes (net .version) (complement (netOf (now s)))) ⌝ }
     ensures { λ r. ⌜ Puts (now (out .entry)) at (sectionBytes (net .version) (complement (netOf (now (s .entry))))) (now (out .exit)) r ⌝ }
 {
     let version = net.version;
-    let at_arcs = put_total(out, at, version, arcs);
-    put_arcs(s, net, starts, below, dead, out, at_arcs)
+    let start = at + total_size(version);
+    let end = put_arcs(s, net, starts, below, dead, out, start);
+    put_total(out, at, version, (end - start) / 16);
+    end
 }
 
+// The head says how long the sheet is: it is put last.
 pub(crate) fn put_sheet(
     s: &[u8],
     net: NetShape,
     starts: &[u16; 257],
     below: &[u16; 257],
     dead: &[bool; 256],
-    sizes: Sizes,
+    most: Sizes,
     out: &mut [u8],
 ) -> usize
     requires { ⌜ Open (now s) net ⌝ }
     requires { ⌜ StartsAre (netOf (now s) .arcs) (now starts) ⌝ }
     requires { ⌜ BelowAre (netOf (now s)) (now below) ⌝ }
     requires { ⌜ DeadAre (netOf (now s)) (now dead) ⌝ }
-    requires { ⌜ SizesAre (netOf (now s)) sizes × Few sizes ⌝ }
+    requires { ⌜ SizesWith (netOf (now s)) (2 * net .arcs) most × Few most ⌝ }
     requires { ⌜ Room (now out) 0 (sheetOf (net .version) (complement (netOf (now s)))) ⌝ }
     ensures { λ r. ⌜ Puts (now (out .entry)) 0 (sheetOf (net .version) (complement (netOf (now (s .entry))))) (now (out .exit)) r ⌝ }
 {
-    let at_records = put_counts(s, net, sizes, out);
+    let version = net.version;
+    let at_records = head_size(version) + 4;
     let at_arcs = put_records(s, net, below, out, at_records);
-    put_counted_arcs(s, net, starts, below, dead, sizes.arcs, out, at_arcs)
+    let end = put_counted_arcs(s, net, starts, below, dead, out, at_arcs);
+    put_counts(s, net, most.places, end, out);
+    end
 }

@@ -30,7 +30,6 @@ ghost use Rattle.fields.specs.Numbers.{bound};
 ghost use Rattle.sheets.specs.Decoded.{netOf, netArc};
 ghost use Rattle.opened.specs.Shape.{Open};
 ghost use Rattle.opened.specs.Starts.{StartsAre, ModeArcs, SegmentOf};
-ghost use Rattle.dead.specs.DeadModes.{DeadAre};
 ghost use Rattle.dead.specs.IsDead.{deadness};
 ghost use Rattle.dead.specs.FirstDead.{named};
 ghost use Rattle.dead.specs.Contracts.{IsDeadAllows, FirstDeadAllows};
@@ -93,7 +92,7 @@ fn kills_by(rule: CapacityRule, most: u32, arc: Arc) -> bool
 }
 
 // An arc that spares its mode by document 01's rule spares it by the weak one: the net's own rule is asked of the others alone.
-fn kills(s: &[u8], net: NetShape, arc: Arc) -> bool
+pub fn kills(s: &[u8], net: NetShape, arc: Arc) -> bool
     requires { ⌜ Open (now s) net ⌝ }
     requires { ⌜ arc .pair .0 < net .pairs ⌝ }
     ensures { λ r. ⌜ r ≡ killsHere (netOf (now (s .entry)) .rule) (netArc arc .entry) (K (netOf (now (s .entry))) (arc .pair .0)) ⌝ }
@@ -140,22 +139,6 @@ fn arcs_at(s: &[u8], net: NetShape, table: &[u16; 257], t: usize) -> Segment
     ensures { λ r. ⌜ SegmentOf (netOf (now (s .entry)) .arcs) (modeNo t) r ⌝ }
 {
     arcs_of(s, net, table, Mode(t as u16))
-}
-
-// The table: entry t says whether mode t is dead. Each arc is visited at most once.
-pub fn dead_modes(s: &[u8], net: NetShape, starts: &[u16; 257]) -> [bool; 256]
-    requires { ⌜ Open (now s) net ⌝ }
-    requires { ⌜ StartsAre (netOf (now s) .arcs) (now starts) ⌝ }
-    ensures { λ r. ⌜ DeadAre (netOf (now (s .entry))) r ⌝ }
-{
-    let mut table = [false; 256];
-    let modes = net.modes;
-    let mut t = 0;
-    while t < modes {
-        table[t] = dead_by(s, net, arcs_at(s, net, starts, t));
-        t += 1;
-    }
-    table
 }
 
 // The searches over modes and over their arcs both stop at the first fault; each arc is visited at most once.

@@ -4,6 +4,7 @@ pub mod Fields
 pub mod Counts
 pub mod Every
 pub mod Surveys
+pub mod Plain
 pub mod PlaceHalves
 pub mod ModeHalves
 pub mod Rows

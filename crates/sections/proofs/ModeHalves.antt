@@ -1,16 +1,17 @@
 -- The complement's arcs of a mode are what the mode's arcs become: the originals, then those on complement pairs.
-use Prim.Native.Nat.{ℕ, zero, suc, _+_}
+use Prim.Native.Nat.{ℕ, zero, suc, _+_, _*_, _≤_}
 use mathlib.Core.Path.{_≡_, refl, sym, _∙_, ap, ap₂}
+use mathlib.Core.Bool.{Bool, true, false, not}
 use mathlib.Core.List.{List, _++_, flatMap}
 use lib.ListN.{length, length-append}
 use native.Mathlib.Omega.{arith}
 use Rattle.model.specs.declared.Version.{Version}
 use Rattle.model.specs.declared.Mode.{Mode}
-use Rattle.model.specs.Nets.{NetArc, PNet, pairs, modes, modeNo, K, row}
+use Rattle.model.specs.Nets.{NetArc, PNet, pairs, modes, pairNo, modeNo, K, row}
 use Rattle.model.specs.WellFormed.{WellFormed}
 use Rattle.model.specs.Dead.{isDead}
-use Rattle.model.specs.Complement.{arcsOf, complement}
-use Rattle.model.specs.Lists.{joined}
+use Rattle.model.specs.Complement.{blank, arcsOf, complement}
+use Rattle.model.specs.Lists.{joined, listIf}
 use Rattle.model.proofs.Joined.{joined-ext}
 use Rattle.model.proofs.ArcByArc.{modeArcs, mode-by-arcs}
 use Rattle.opened.specs.declared.shape.NetShape.{NetShape}
@@ -52,7 +53,25 @@ unfolding joined
 both-length zero f g = refl
 both-length (suc n) f g = simp length-append (omega (arith, both-length n f g, length-append (joined n f) (joined n g)))
 
+pub joined-few : {A : Type 0} (n : ℕ) (f : ℕ → List A) → ((i : ℕ) → length (f i) ≤ 1) → length (joined n f) ≤ n
+unfolding joined
+joined-few zero f h = omega arith
+joined-few (suc n) f h = omega (arith, length-append (joined n f) (f n), h n, joined-few n f h)
+
+pub one-if : {A : Type 0} (b : Bool) (a : A) → length (listIf b a) ≤ 1
+one-if true a = omega arith
+one-if false a = omega arith
+
+kept-few : (a : NetArc) → length (kept a) ≤ 1
+kept-few a = one-if (not (blank (a .entry))) (record { mode = a .mode; pair = pairNo (a .pair .0); entry = a .entry })
+
 module _ (net : PNet) (wf : WellFormed net) (t start count : ℕ) (arcs : ModeArcs (net .arcs) (modeNo t) start count) where
+  pub mode-few : length (rowArcs net t) ≤ 2 * count
+  mode-few =
+      let f : ℕ → List NetArc = λ i. keptHalf net Original (start + i) in
+      let g : ℕ → List NetArc = λ i. keptHalf net Complement (start + i) in
+      rw (row-halves net wf t start count arcs) (omega (arith, length-append (joined count f) (joined count g), joined-few count f (λ i. kept-few (halfArc net Original (start + i))), joined-few count g (λ i. kept-few (halfArc net Complement (start + i)))))
+
   pub mode-count : length (joined count (λ i. bothHalves net (start + i))) ≡ length (rowArcs net t)
   mode-count = both-length count (λ i. keptHalf net Original (start + i)) (λ i. keptHalf net Complement (start + i)) ∙ ap length (sym (row-halves net wf t start count arcs))
 

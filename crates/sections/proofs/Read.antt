@@ -18,7 +18,7 @@ use Rattle.opened.specs.declared.starts.Segment.{Segment}
 use Rattle.opened.specs.Starts.{SegmentOf, OwnArc}
 use Rattle.opened.proofs.Shapes.{shaped, sizes}
 use Rattle.halves.specs.declared.half.Half.the-variants.{Complement}
-use Rattle.dead.specs.DeadModes.{DeadAre}
+use Rattle.sections.specs.DeadModes.{DeadAre}
 use Rattle.halves.specs.Bounded.{BelowAre}
 use Rattle.halves.specs.Entries.{Small, complementAt}
 use Rattle.sections.specs.Arcs.{halfArc, clearAt}

@@ -1,37 +1,32 @@
 -- The complement's arcs of a mode are those that it has of that mode: both versions of its sheet, told by rows.
-use Prim.Native.Nat.{ℕ, zero, suc, _*_, _≤_, _<_}
+use Prim.Native.Nat.{ℕ, zero, suc, _+_, _*_, _≤_, _<_}
 use mathlib.Core.Path.{_≡_, refl, sym, _∙_, ap}
 use mathlib.Core.Bool.{Bool, true, false, not}
 use mathlib.Core.List.{List, _++_}
-use lib.ListN.{length, length-append}
+use lib.ListN.{length, getD, length-append}
 use native.Mathlib.Omega.{arith}
+use native.Mathlib.Numerals.{add-one}
 use Rattle.model.specs.declared.Version.{Version}
 use Rattle.model.specs.Rows.{Entry}
 use Rattle.model.specs.Nets.{NetArc, PNet, pairs, modes, pairNo, modeNo, K, row}
+use Rattle.model.specs.WellFormed.{WellFormed}
 use Rattle.model.specs.Dead.{isDead}
 use Rattle.model.specs.Complement.{blank, complementRow, allPairs, complement}
 use Rattle.model.specs.Lists.{joined, listIf}
 use Rattle.model.proofs.Joined.{joined-ext}
 use Rattle.model.proofs.Bounded.{below-at-most}
 use Rattle.model.proofs.Each.{Each, each-joined}
+use Rattle.opened.specs.Starts.{StartsAre}
+use Rattle.opened.proofs.Segments.{in-turn, mode-arcs}
 use Rattle.written.specs.Written.{ofMode, totalBytes, groupBytes, sectionBytes}
 use Rattle.written.proofs.SheetLength.{ByMode, section-by-mode}
 use Rattle.written.proofs.ByMode.{of-joined}
 use Rattle.sections.specs.Arcs.{rowArcs, rowBytes}
-use Rattle.sections.proofs.ModeHalves.{complement-arcs}
+use Rattle.sections.proofs.ModeHalves.{joined-few, one-if, mode-few, complement-arcs}
 
 each-if : (P : NetArc → Type 0) (b : Bool) (a : NetArc) → P a → Each P (listIf b a)
 each-if P true a h = (h, tt)
 each-if P false a h = tt
-
-joined-few : {A : Type 0} (n : ℕ) (f : ℕ → List A) → ((i : ℕ) → length (f i) ≤ 1) → length (joined n f) ≤ n
-unfolding joined
-joined-few zero f h = omega arith
-joined-few (suc n) f h = omega (arith, length-append (joined n f) (f n), h n, joined-few n f h)
-
-one-if : {A : Type 0} (b : Bool) (a : A) → length (listIf b a) ≤ 1
-one-if true a = omega arith
-one-if false a = omega arith
 
 module _ (net : PNet) where
   -- what mode t has at pair p in the complement
@@ -65,3 +60,17 @@ module _ (net : PNet) where
   section-rows v =
       section-by-mode v (complement net) by-mode
       ∙ rw modes-kept (ap (λ bytes. totalBytes v (length (complement net .arcs)) ++ bytes) (joined-ext (modes net) _ _ (λ t l. ap (groupBytes v) (rows t l))))
+
+-- and at most two for each arc of the modes so far
+module _ (net : PNet) (wf : WellFormed net) {starts : List ℕ} (are : StartsAre (net .arcs) starts) where
+  rows-few : (t : ℕ) → t ≤ 256 → length (joined t (rowArcs net)) ≤ 2 * getD starts t 0
+  unfolding joined
+  rows-few zero h = omega arith
+  rows-few (suc t) h =
+      let first = are .each t (omega arith) in
+      let next = rw (← add-one t) at (are .each (suc t) (omega arith)) in
+      let few = mode-few net wf t _ _ (mode-arcs (net .arcs) (modeNo t) _ _ first next) in
+      rw (← add-one t) (omega (arith, length-append (joined t (rowArcs net)) (rowArcs net t), rows-few t (omega arith), few, in-turn (net .arcs) (modeNo t) _ _ first next))
+
+  pub arcs-few : (t : ℕ) → t ≤ 256 → length (joined t (rowArcs net)) ≤ 2 * length (net .arcs)
+  arcs-few t h = omega (arith, rows-few t h, are .each t (omega arith) .inside)

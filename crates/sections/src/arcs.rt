@@ -6,6 +6,7 @@ use halves::entry::original_arc;
 use halves::half::Half;
 use model::Arc;
 use model::Mode;
+use model::Version;
 use opened::arcs::arc;
 use opened::shape::NetShape;
 use opened::shape::capacity;
@@ -13,12 +14,11 @@ use opened::starts::Segment;
 use opened::starts::arcs_of;
 use written::mode_size;
 use written::own_size;
-use written::put_arc_mode;
 use written::put_own;
 use written::put16;
 use written::put32;
 ghost use mathlib.Core.Path.{_≡_};
-ghost use mathlib.Core.List.{flatMap};
+ghost use mathlib.Core.List.{_++_, flatMap};
 ghost use Prim.Native.Nat.{_+_, _≤_};
 ghost use lib.ListN.{length};
 ghost use Rattle.model.specs.Dead.{isDead};
@@ -26,10 +26,10 @@ ghost use Rattle.model.specs.Lists.{joined};
 ghost use Rattle.sheets.specs.Decoded.{netOf, netArc};
 ghost use Rattle.opened.specs.Shape.{Open};
 ghost use Rattle.opened.specs.Starts.{StartsAre, ModeArcs, OwnArc};
-ghost use Rattle.written.specs.Written.{arcBytes};
+ghost use Rattle.written.specs.Written.{bytes16, modeBytes, arcBytes};
 ghost use Rattle.written.specs.Puts.{Put, Room, Puts, modeSize};
 ghost use Rattle.halves.specs.declared.half.Half.the-variants.{Original, Complement};
-ghost use Rattle.dead.specs.DeadModes.{DeadAre};
+ghost use Rattle.sections.specs.DeadModes.{DeadAre};
 ghost use Rattle.halves.specs.Bounded.{BelowAre};
 ghost use Rattle.sections.specs.Arcs.{keptBytes, halfArc, halfNo, halfBytes, rowArcs, rowBytes};
 
@@ -64,6 +64,16 @@ pub(crate) fn half_arc(
     }
 }
 
+// The mode of an arc, where the version says it, and its pair. The mode is put in either version: in version 2 the pair takes its place,
+// and no arc asks for the version (docs/SPEED.md).
+fn put_names(out: &mut [u8], at: usize, version: Version, mode: u16, pair: u16) -> usize
+    requires { ⌜ at + (modeSize version + 2) ≤ length (now out) ⌝ }
+    ensures { λ r. ⌜ Put (now (out .entry)) at (modeSize version + 2) (modeBytes version mode ++ bytes16 pair) (now (out .exit)) r ⌝ }
+{
+    put16(out, at, mode);
+    put16(out, at + mode_size(version), pair)
+}
+
 // What an arc leaves at its own pair. Each field is read just before it is put: its bytes are then stored as one number (docs/SPEED.md).
 fn put_original(
     s: &[u8],
@@ -79,12 +89,10 @@ fn put_original(
     ensures { λ r. ⌜ Put (now (out .entry)) at (modeSize (net .version) + 14) (arcBytes (net .version) (halfArc (netOf (now (s .entry))) Original (arcs .start + i))) (now (out .exit)) r ⌝ }
 {
     let version = net.version;
-    let of_mode = arc(s, net, arcs, i);
-    let mode = of_mode.mode;
-    let to_pair = put_arc_mode(out, at, version, mode.0);
-    let of_pair = arc(s, net, arcs, i);
-    let pair = of_pair.pair;
-    let to_pre = put16(out, to_pair, pair.0);
+    let names = arc(s, net, arcs, i);
+    let mode = names.mode;
+    let pair = names.pair;
+    let to_pre = put_names(out, at, version, mode.0, pair.0);
     let of_pre = arc(s, net, arcs, i);
     let to_post = put32(out, to_pre, of_pre.pre);
     let of_post = arc(s, net, arcs, i);
@@ -118,8 +126,7 @@ fn put_new(
     let pair = complement_pair(net.pairs, below, a.pair);
     let end = put32(out, to_inhibitor, new.inhibitor);
     let mode = new.mode;
-    let to_pair = put_arc_mode(out, at, version, mode.0);
-    put16(out, to_pair, pair.0);
+    put_names(out, at, version, mode.0, pair.0);
     end
 }
 

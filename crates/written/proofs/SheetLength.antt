@@ -8,8 +8,8 @@ use Rattle.model.specs.declared.Version.{Version}
 use Rattle.model.specs.declared.Version.the-variants.{One, Two}
 use Rattle.model.specs.Lists.{joined}
 use Rattle.model.specs.Nets.{NetArc, PNet, ruleNumber, pairs, modes, K, count, arcNo}
-use Rattle.written.specs.Written.{bytes16, pairBytes, versionBytes, arcBytes, pairsBytes, ofMode, totalBytes, ownBytes, groupBytes, sectionBytes, fieldsOf, lengthOf, sheetOf}
-use Rattle.written.specs.Puts.{modeSize, sectionSize, versionSize, sheetSize}
+use Rattle.written.specs.Written.{bytes16, pairBytes, versionBytes, headBytes, arcBytes, pairsBytes, ofMode, totalBytes, ownBytes, groupBytes, sectionBytes, fieldsOf, lengthOf, sheetOf}
+use Rattle.written.specs.Puts.{headSize, modeSize, sectionSize, versionSize, sheetSize}
 use Rattle.written.proofs.BigEndian.{length16, head-length}
 use Rattle.written.proofs.Sections.{joined-length, section-joined, section-length}
 use Rattle.written.proofs.Records.{pair-length, arc-length}
@@ -66,6 +66,10 @@ pub version-size : (v : Version) (rule : ℕ) → length (versionBytes v rule) �
 unfolding versionBytes
 version-size One rule = refl
 version-size Two rule = refl
+
+pub head-size : (v : Version) (rule l : ℕ) → length (headBytes v rule l) ≡ headSize v
+head-size One rule l = omega (arith, head-length One rule l, version-size One rule)
+head-size Two rule l = omega (arith, head-length Two rule l, version-size Two rule)
 
 pub sheet-size : (v : Version) (net : PNet) → ByMode net
     → length (sheetOf v net) ≡ sheetSize v (length (net .colours)) (length (net .modesOf)) (pairs net) (modes net) (length (net .arcs))

@@ -19,7 +19,7 @@ use Rattle.heads.specs.Version.{versionOf}
 use Rattle.heads.specs.Rule.{ruleOf}
 use Rattle.heads.specs.Checks.{known}
 use Rattle.written.specs.Written.{bytes16, versionNumber, versionBytes, totalBytes, ownBytes}
-use Rattle.written.specs.Puts.{ownSize}
+use Rattle.written.specs.Puts.{totalSize, ownSize}
 use Rattle.written.proofs.BigEndian.{length16}
 
 -- the version byte says the version, where it is one that a net sheet has
@@ -70,7 +70,12 @@ unfolding versionBytes
 fields-from One rule = refl
 fields-from Two rule = refl
 
--- how long the count before a mode's arcs is
+-- how long the count before all arcs is, and that before a mode's
+pub total-length : (v : Version) (n : ℕ) → length (totalBytes v n) ≡ totalSize v
+unfolding totalBytes
+total-length One n = length16 n
+total-length Two n = refl
+
 pub own-length : (v : Version) (n : ℕ) → length (ownBytes v n) ≡ ownSize v
 unfolding ownBytes
 own-length One n = refl

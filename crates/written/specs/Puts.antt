@@ -33,8 +33,16 @@ Puts before at bytes now after = Put before at (length bytes) bytes now after
 abbrev pub partOf : List ℕ → ℕ → ℕ → List ℕ
 partOf s start n = joined n (λ i. byteAt s (start + i) ∷ [])
 
--- how long the mode of an arc is, the count before a mode's arcs, the arcs of a net, and a net sheet with so many places, transitions, pairs,
+-- how long the head of a sheet is, the count before all arcs, the mode of an arc, the count before a mode's arcs, the arcs of a net, and a net sheet with so many places, transitions, pairs,
 -- modes and arcs
+abbrev pub headSize : Version → ℕ
+headSize One = 5
+headSize Two = 6
+
+abbrev pub totalSize : Version → ℕ
+totalSize One = 2
+totalSize Two = 0
+
 abbrev pub modeSize : Version → ℕ
 modeSize One = 2
 modeSize Two = 0

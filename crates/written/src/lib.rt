@@ -8,7 +8,7 @@ ghost use lib.ListN.{length};
 ghost use Rattle.model.specs.Nets.{ruleNumber};
 ghost use Rattle.fields.specs.Numbers.{bound};
 ghost use Rattle.written.specs.Written.{bytes16, bytes32, modeBytes, versionBytes, headBytes, pairBytes, totalBytes, ownBytes};
-ghost use Rattle.written.specs.Puts.{Put, Room, Puts, partOf, ownSize, modeSize, sheetSize};
+ghost use Rattle.written.specs.Puts.{Put, Room, Puts, partOf, headSize, totalSize, ownSize, modeSize, sheetSize};
 
 fn put_byte(out: &mut [u8], at: usize, x: u8) -> usize
     requires { ⌜ at + 1 ≤ length (now out) ⌝ }
@@ -92,6 +92,16 @@ pub fn put_head(out: &mut [u8], version: Version, rule: CapacityRule, size: usiz
     put_version(out, next, version, rule_byte(rule))
 }
 
+// How many bytes that takes.
+pub fn head_size(version: Version) -> usize
+    ensures { λ r. ⌜ r ≡ headSize version ⌝ }
+{
+    match version {
+        Version::One => 5,
+        Version::Two => 6,
+    }
+}
+
 // K and the first marking of a pair.
 pub fn put_pair(out: &mut [u8], at: usize, capacity: u32, start: u32) -> usize
     requires { ⌜ at + 8 ≤ length (now out) ⌝ }
@@ -110,6 +120,16 @@ pub fn put_total(out: &mut [u8], at: usize, version: Version, arcs: usize) -> us
     match version {
         Version::One => put_count(out, at, arcs),
         Version::Two => at,
+    }
+}
+
+// How many bytes it takes.
+pub fn total_size(version: Version) -> usize
+    ensures { λ r. ⌜ r ≡ totalSize version ⌝ }
+{
+    match version {
+        Version::One => 2,
+        Version::Two => 0,
     }
 }
 

@@ -5,22 +5,36 @@ use lib.ListN.{length}
 use native.Mathlib.Omega.{arith}
 use Rattle.model.proofs.Refusals.{answer-none, answer-refused}
 use Rattle.complement.specs.Complemented.{complementSheet, roomRefusal}
+use Rattle.opened.proofs.Shapes.{sizes}
 use Rattle.written.proofs.Puts.{room-as, puts-as}
 use Rattle.complement.proofs.SheetParts.{sheet-is}
 use Rattle.complement.proofs.Answers.{room-enough, refused, written}
 use Rattle.complement.proofs.complement_open.Statement.{statement}
 use Rattle.complement.proofs.complement_open.Tie as tie
 
+complement-sizes-requires : tie.Need-complement-sizes-requires
+complement-sizes-requires c κs =
+    let bounded = c .before .before .before .before .before in
+    let start = bounded .before .before .before .before in
+    let z = sizes (start .pre) in
+    (start .pre, (bounded .bounded-below .ensures, omega (arith, z .arcs, z .arcsWithin)))
+
+complement-answer-requires : tie.Need-complement-answer-requires
+complement-answer-requires c κs =
+    let surveyed = c .before .before .before .before .before .before in
+    let bounded = surveyed .before .before .before in
+    (bounded .before .before .before .before .pre, (bounded .before .starts .ensures, (bounded .bounded-below .ensures, (surveyed .survey .ensures .1, (surveyed .survey .ensures .0, c .before .before .before .complement-sizes .ensures)))))
+
 put-sheet-requires : tie.Need-put-sheet-requires
 put-sheet-requires c κs =
     let answered = c .before .before .before .before .before .before in
-    let sized = answered .before .before in
-    let found = sized .before .before .before .before .before .before in
-    let bounded = found .before .before in
+    let sized = answered .before .before .before .before in
+    let surveyed = sized .before .before .before in
+    let bounded = surveyed .before .before .before in
     let start = bounded .before .before .before .before in
     let accepted = answer-none (roomRefusal (start .args .s .now) (length (start .args .out .now))) (answered .complement-answer .ensures) (c .before .before .before .before .enum-told .given .1) in (
       start .pre,
-      (bounded .before .starts .ensures, (bounded .bounded-below .ensures, (found .dead-modes .ensures, (sized .complement-sizes .ensures, room-as (sym (sheet-is (start .pre))) (record { fits = omega (arith, room-enough (start .args .s .now) _ accepted) }))))),
+      (bounded .before .starts .ensures, (bounded .bounded-below .ensures, (surveyed .survey .ensures .1, (sized .complement-sizes .ensures, room-as (sym (sheet-is (start .pre))) (record { fits = omega (arith, room-enough (start .args .s .now) _ accepted) }))))),
     )
 
 returns : tie.Need-returns
@@ -46,9 +60,9 @@ complement-open-spec =
     (λ c κs. search needs)
     (λ c κs. search needs)
     (λ c κs. search needs)
-    (λ c κs. search needs)
-    (λ c κs. search needs)
-    (λ c κs. search needs)
+    (λ c. omega (arith, sizes (c .before .before .before .before .before .before .before .before .before .pre) .arcs, sizes (c .before .before .before .before .before .before .before .before .before .pre) .arcsWithin))
+    complement-sizes-requires
+    complement-answer-requires
     (λ c. search needs)
     (λ c. search needs)
     put-sheet-requires

@@ -1,5 +1,6 @@
 -- The originals and what is new.
 use borrow.Author.Needs.{needs}
+use mathlib.Core.Path.{refl}
 use native.Mathlib.Omega.{arith}
 use Rattle.opened.proofs.Shapes.{sizes}
 use Rattle.halves.proofs.Below.{entry-few, entries-rise, pair-count}
@@ -32,11 +33,11 @@ returns c =
     let places = c .before .before .count-new-places .ensures in
     let new = c .bounded-between .ensures in
     let last = entry-few (pre .0) (pre .1 .0) (c .before .before .before .before .args .net .pairs) (omega arith) in (
-      record { places = omega (arith, place-count (pre .0), places .0); pairs = pair-count (pre .0) (pre .1 .0) new; arcs = pre .1 .1 .0 },
+      record { places = omega (arith, place-count (pre .0), places .0); pairs = pair-count (pre .0) (pre .1 .0) new; arcs = refl },
       record {
         places = omega (arith, z .places, z .wellFormed .places .many, places .1);
         pairs = omega (arith, z .pairsWithin, new, last);
-        arcs = pre .1 .1 .1;
+        arcs = pre .1 .1;
       },
     )
 

@@ -1,15 +1,15 @@
 -- The three numbers, then mode and pair before them; the pair is the one that was worked out.
 use borrow.Author.Needs.{needs}
 use mathlib.Core.Path.{ap}
-use mathlib.Core.List.{flatten}
+use mathlib.Core.List.{_++_, flatten}
 use native.Mathlib.Omega.{arith}
 use Rattle.opened.proofs.Shapes.{sizes}
-use Rattle.written.specs.Written.{bytes16, bytes32, tailBytes, arcBytes}
+use Rattle.written.specs.Written.{bytes16, bytes32, modeBytes, tailBytes, arcBytes}
 use Rattle.written.proofs.Records.{number-bound}
-use Rattle.written.proofs.Puts.{nothing, puts}
+use Rattle.written.proofs.Puts.{nothing, puts, puts-before}
 use Rattle.halves.proofs.Below.{entry-few}
 use Rattle.sections.proofs.Read.{complement-pair-is}
-use Rattle.sections.proofs.Fields.{bytes-as, ends-as, two-before}
+use Rattle.sections.proofs.Fields.{bytes-as, ends-as, whole-arc}
 use Rattle.sections.proofs.arcs.put_new.Statement.{statement}
 use Rattle.sections.proofs.arcs.put_new.Tie as tie
 
@@ -28,38 +28,28 @@ put32-requires-3 c κs =
     let both = puts (pre .put32 .ensures) (post .put322 .ensures) in
     omega (arith, both .kept, both .next, pre .before .mode-size .ensures, pre .before .before .before .before .before .pre .1 .1 .1 .1)
 
-put-arc-mode-requires : tie.Need-put-arc-mode-requires
-put-arc-mode-requires c κs =
+put-names-requires : tie.Need-put-names-requires
+put-names-requires c κs =
     let inhibitor = c .before .before .before .before in
     let post = inhibitor .before .before .before .before .before in
     let pre = post .before .before .before .before .before in
     let numbers = puts (pre .put32 .ensures) (puts (post .put322 .ensures) (inhibitor .put323 .ensures)) in
     omega (arith, numbers .kept, pre .before .mode-size .ensures, pre .before .before .before .before .before .pre .1 .1 .1 .1)
 
-put16-requires : tie.Need-put16-requires
-put16-requires c κs =
-    let mode = c .before .before .before in
-    let inhibitor = mode .before .before .before .before .before in
-    let post = inhibitor .before .before .before .before .before in
-    let pre = post .before .before .before .before .before in
-    let numbers = puts (pre .put32 .ensures) (puts (post .put322 .ensures) (inhibitor .put323 .ensures)) in
-    omega (arith, numbers .kept, mode .put-arc-mode .ensures .kept, mode .put-arc-mode .ensures .next, pre .before .mode-size .ensures, pre .before .before .before .before .before .pre .1 .1 .1 .1)
-
 returns : tie.Need-returns
-unfolding arcBytes tailBytes flatten bytes32 bytes16
+unfolding arcBytes tailBytes flatten bytes32
 returns c =
-    let pair = c .before .before in
-    let mode = pair .before .before .before .before in
-    let inhibitor = mode .before .before .before .before .before in
+    let names = c .before .before in
+    let inhibitor = names .before .before .before .before .before in
     let post = inhibitor .before .before .before .before .before in
     let pre = post .before .before .before .before .before in
     let start = pre .before .before .before .before .before in
     let number = complement-pair-is (post .before .before .arc .ensures) (start .pre .0) (start .pre .1 .0) _ (inhibitor .before .before .complement-pair .ensures) _ (start .pre .1 .1 .1 .0) in
     rw number-bound
-    (two-before
+    (whole-arc _ _ _ _
+    (puts-before
     (puts (pre .put32 .ensures) (puts (post .put322 .ensures) (puts (inhibitor .put323 .ensures) nothing)))
-    (mode .put-arc-mode .ensures)
-    (ends-as (omega (arith, pre .before .mode-size .ensures, mode .put-arc-mode .ensures .next)) (bytes-as (ap bytes16 number) (pair .put16 .ensures))))
+    (ends-as (omega (arith, pre .before .mode-size .ensures)) (bytes-as (ap (λ p. modeBytes (start .args .net .version) (start .args .new .mode .0) ++ bytes16 p) number) (names .put-names .ensures)))))
 
 pub put-new-spec : {M : Type 1} → statement M
 put-new-spec =
@@ -73,7 +63,6 @@ put-new-spec =
     (λ c κs. search needs)
     complement-pair-requires
     put32-requires-3
-    put-arc-mode-requires
-    put16-requires
+    put-names-requires
     (λ c. search needs)
     returns)

@@ -1,60 +1,58 @@
--- What the arcs of the modes below t become, and whether each is clear.
+-- Whether the arcs of the modes below t are clear; the entries of those modes are right.
 use borrow.Author.Needs.{needs}
-use Prim.Native.Nat.{_≤_, _-_}
-use mathlib.Core.Path.{_≡_, sym, _∙_, ap}
-use lib.ListN.{length}
+use Prim.Native.Nat.{ℕ, _≤_, _-_}
+use mathlib.Core.Path.{_≡_, _∙_, ap}
+use mathlib.Core.Bool.{Bool, false}
+use mathlib.Core.List.{List}
+use lib.ListN.{length, length-set}
 use native.Mathlib.Omega.{arith}
-use Rattle.model.specs.Nets.{modes}
-use Rattle.model.specs.Lists.{joined}
+use Rattle.model.specs.Nets.{modeNo}
+use Rattle.model.specs.Dead.{isDead}
+use Rattle.model.proofs.Tables.{Filled, filled-more}
 use Rattle.sheets.specs.Decoded.{netOf}
 use Rattle.opened.proofs.Shapes.{sizes}
-use Rattle.sections.specs.Arcs.{rowArcs}
-use Rattle.sections.proofs.Counts.{count-none, count-more}
-use Rattle.sections.proofs.Read.{entry-dead}
-use Rattle.sections.proofs.ModeHalves.{complement-arcs}
-use Rattle.sections.proofs.Surveys.{SurveyedBelow, surveyed-none, surveyed-more, surveyed-all}
+use Rattle.sections.proofs.Surveys.{ClearBelow, clear-none, clear-more, clear-all}
 use Rattle.sections.proofs.survey.survey.Statement.{statement}
 use Rattle.sections.proofs.survey.survey.Tie as tie
 
+-- what entry t of the table says
+abbrev IsDead : List ℕ → ℕ → Bool → Type 0
+IsDead s t dead = dead ≡ isDead (netOf s) (modeNo t)
+
 abbrev Inv-loop : tie.InvT-loop
-Inv-loop s net starts below dead modes count₀ clear₀ t₀ count clear t =
-    (t ≤ modes) × (count ≡ length (joined t (rowArcs (netOf s)))) × SurveyedBelow (netOf s) t count clear
+Inv-loop s net starts dead₀ modes clear₀ t₀ dead clear t = (t ≤ modes) × (length dead ≡ 256) × ClearBelow (netOf s) t clear × Filled (IsDead s) false dead t
 
 abbrev μ-loop : tie.MeasureT-loop
-μ-loop s net starts below dead modes count₀ clear₀ t₀ count clear t = modes - t
+μ-loop s net starts dead₀ modes clear₀ t₀ dead clear t = modes - t
+
+loop-holds : tie.Need-loop-holds Inv-loop μ-loop
+loop-holds c = (search needs, c .before .pre .1 .1, clear-none _, λ u h. absurd (omega arith))
 
 survey-mode-requires : tie.Need-survey-mode-requires Inv-loop μ-loop
-survey-mode-requires c κs =
-    let start = c .before .before .before .before .before in
-    let segment = c .arcs-of .ensures in
-    (start .pre .0, (start .pre .1 .1 .0, (segment .own, entry-dead (start .pre .0) (start .pre .1 .1 .1) (c .before .before .before .loop .t) (c .before .before .loop-test .taken) segment)))
-
-add-count : tie.Need-add-count Inv-loop μ-loop
-add-count c =
-    let segment = c .before .before .arcs-of .ensures in
-    let z = sizes (c .before .before .before .before .before .before .before .pre .0) in
-    omega (arith, z .arcs, z .arcsWithin, c .before .before .before .before .before .loop .inv .2 _ (segment .starts) .0, c .before .survey-mode .ensures .1, segment .ends .inside)
+survey-mode-requires c κs = (c .before .before .before .before .pre .0, c .arcs-of .ensures .own)
 
 loop-again : tie.Need-loop-again Inv-loop μ-loop
 loop-again c =
-    let l = c .before .before .before .before .before .before .loop in
-    let net = netOf (c .before .before .before .before .before .before .before .before .args .s .now) in
-    let segment = c .before .before .before .arcs-of .ensures in
-    let one = c .before .before .survey-mode .ensures in (
+    let segment = c .before .before .arcs-of .ensures in
+    let l = c .before .before .before .before .loop in
+    let start = c .before .before .before .before .before .before in
+    let s = start .args .s .now in
+    let within = sizes (start .pre .0) .modesWithin in
+    let one = c .before .survey-mode .ensures in
+    let is = one .1 ∙ ap (isDead (netOf s)) (segment .mode) in (
       search needs,
-      count-more (rowArcs net) (l .t) (l .inv .1) (one .0 ∙ ap (λ m. length (rowArcs net (m .0))) (segment .mode)),
-      surveyed-more net (l .t) (l .inv .2) segment (one .1) (one .2) (c .both .ensures),
+      length-set (l .dead) _ _ ∙ l .inv .1,
+      clear-more (netOf s) (l .t) (l .inv .2) segment (one .0) (c .both .ensures),
+      filled-more (IsDead s) false (l .dead) (l .t) _ (omega (arith, c .before .before .before .loop-test .taken)) (l .inv .3) is,
     )
 
 returns : tie.Need-returns Inv-loop μ-loop
 returns c =
     let l = c .before .loop in
-    let start = c .before .before .before in
-    let z = sizes (start .pre .0) in
-    let net = netOf (start .args .s .now) in
-    let all = surveyed-all net (z .wellFormed) (l .t) (omega (arith, z .modes)) (l .inv .2) in
-    let e : l .t ≡ modes net = omega (arith, z .modes) in
-    ((rw e at (l .inv .1)) ∙ sym (ap length (complement-arcs net)), omega (arith, z .arcs, z .arcsWithin, all .0), all .1)
+    let z = sizes (c .before .before .before .pre .0) in (
+      clear-all _ (z .wellFormed) (l .t) (omega (arith, z .modes, c .loop-test .left)) (l .inv .2),
+      record { each = λ t h. l .inv .3 t (omega (arith, c .loop-test .left, z .modes)) },
+    )
 
 pub survey-spec : {M : Type 1} → statement M
 survey-spec =
@@ -62,14 +60,13 @@ survey-spec =
     (tie.spec
     Inv-loop
     μ-loop
-    (λ c. (search needs, count-none _, surveyed-none _))
+    loop-holds
     (λ c. omega (arith, sizes (c .before .before .before .pre .0) .modesWithin))
-    (λ c. omega (arith, sizes (c .before .before .before .before .pre .0) .modesWithin))
     (λ c κs. search needs)
     survey-mode-requires
-    add-count
     (λ c κs. search needs)
-    (λ c. omega (arith, c .before .before .before .before .before .loop-test .taken, sizes (c .before .before .before .before .before .before .before .before .pre .0) .modesWithin))
+    (λ c. omega (arith, sizes (c .before .before .before .before .before .before .pre .0) .modesWithin, c .before .before .before .loop-test .taken, c .before .before .before .before .loop .inv .1))
+    (λ c. omega (arith, sizes (c .before .before .before .before .before .before .pre .0) .modesWithin, c .before .before .before .loop-test .taken))
     (λ c. search needs)
     loop-again
     returns)

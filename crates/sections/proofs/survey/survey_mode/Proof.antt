@@ -1,66 +1,10 @@
--- What the arcs before the i-th become, and whether each is clear.
+-- Where all arcs are plain there is no fault.
 use borrow.Author.Needs.{needs}
-use Prim.Native.Nat.{_+_, _≤_, _-_, _*_}
-use mathlib.Core.Path.{_≡_, _∙_}
-use lib.ListN.{length}
-use native.Mathlib.Omega.{arith}
-use Rattle.model.specs.Lists.{joined}
-use Rattle.sheets.specs.Decoded.{netOf}
-use Rattle.opened.proofs.Shapes.{sizes}
-use Rattle.sections.specs.Arcs.{clearAt, every}
-use Rattle.sections.proofs.Counts.{count-none, count-more}
-use Rattle.sections.proofs.Every.{every-none, every-more}
-use Rattle.sections.proofs.ModeHalves.{bothHalves, mode-count}
 use Rattle.sections.proofs.survey.survey_mode.Statement.{statement}
 use Rattle.sections.proofs.survey.survey_mode.Tie as tie
 
-abbrev Inv-loop : tie.InvT-loop
-Inv-loop s net below dead arcs end count₀ clear₀ i₀ count clear i =
-    (i ≤ end)
-    × (count ≡ length (joined i (λ i. bothHalves (netOf s) (arcs .start + i))))
-    × (count ≤ 2 * i)
-    × (clear ≡ every i (λ i. clearAt (netOf s) (arcs .start + i)))
-
-abbrev μ-loop : tie.MeasureT-loop
-μ-loop s net below dead arcs end count₀ clear₀ i₀ count clear i = end - i
-
-add-count : tie.Need-add-count Inv-loop μ-loop
-add-count c =
-    let pre = c .before .before .before .before .pre in
-    omega (arith, sizes (pre .0), pre .1 .1 .0 .fits)
-
-loop-again : tie.Need-loop-again Inv-loop μ-loop
-loop-again c =
-    let l = c .before .before .before .before .loop in
-    let a = c .before .before .before .before .before .before .args in (
-      search needs,
-      count-more (λ i. bothHalves (netOf (a .s .now)) (a .arcs .start + i)) (l .i) (l .inv .1) (c .before .before .count-halves .ensures .0),
-      search needs,
-      every-more (λ i. clearAt (netOf (a .s .now)) (a .arcs .start + i)) (l .i) (l .inv .3) (c .before .arc-clear .ensures) (c .both .ensures),
-    )
-
-returns : tie.Need-returns Inv-loop μ-loop
-returns c =
-    let l = c .before .loop in
-    let start = c .before .before .before in
-    let e : l .i ≡ start .args .arcs .count = omega arith in (
-      (rw e at (l .inv .1)) ∙ mode-count _ (sizes (start .pre .0) .wellFormed) (start .args .arcs .mode .0) _ _ (start .pre .1 .1 .0),
-      search needs,
-      rw e at (l .inv .3),
-    )
+returns : tie.Need-returns
+returns c = c .before .all-plain .ensures (c .if1 .taken)
 
 pub survey-mode-spec : {M : Type 1} → statement M
-survey-mode-spec =
-    tie.close
-    (tie.spec
-    Inv-loop
-    μ-loop
-    (λ c. (search needs, count-none _, search needs, every-none _))
-    (λ c κs. search needs)
-    add-count
-    (λ c κs. search needs)
-    (λ c κs. search needs)
-    (λ c. search needs)
-    (λ c. search needs)
-    loop-again
-    returns)
+survey-mode-spec = tie.close (tie.spec (λ c κs. search needs) returns (λ c κs. search needs) (λ c. search needs))

@@ -1,0 +1,59 @@
+-- The arcs before the i-th are plain: none makes the mode dead, and each is clear.
+use borrow.Author.Needs.{needs}
+use borrow.Author.Tests.{not-false}
+use Prim.Native.Nat.{ℕ, _+_, _≤_, _-_}
+use mathlib.Core.Path.{_≡_, refl}
+use mathlib.Core.Bool.{true}
+use native.Mathlib.Omega.{arith}
+use Rattle.model.proofs.Dead.{Passed}
+use Rattle.sheets.specs.Decoded.{netOf}
+use Rattle.dead.proofs.Searches.{passed-more}
+use Rattle.sections.specs.Arcs.{clearAt, every}
+use Rattle.sections.proofs.Every.{every-none, every-more}
+use Rattle.sections.proofs.Plain.{plain-passes, plain-clear}
+use Rattle.sections.proofs.Surveys.{none-dead}
+use Rattle.sections.proofs.survey.all_plain.Statement.{statement}
+use Rattle.sections.proofs.survey.all_plain.Tie as tie
+
+abbrev Inv-loop : tie.InvT-loop
+Inv-loop s net arcs count i₀ i =
+    (i ≤ count) × Passed (netOf s) (arcs .start) (arcs .start + i) × (true ≡ every i (λ i. clearAt (netOf s) (arcs .start + i)))
+
+abbrev μ-loop : tie.MeasureT-loop
+μ-loop s net arcs count i₀ i = count - i
+
+loop-again : tie.Need-loop-again Inv-loop μ-loop
+loop-again c =
+    let read = c .before .before .before .before in
+    let l = read .before .before .loop in
+    let start = read .before .before .before .before in
+    let net = netOf (start .args .s .now) in
+    let plain = c .before .is-plain .ensures (not-false _ (c .if1 .left)) in
+    let most = c .before .before .capacity in (
+      search needs,
+      passed-more net (start .args .arcs .start) (l .i) (l .inv .1) (plain-passes (read .arc .ensures) _ (most .ensures) (plain .0)),
+      every-more (λ i. clearAt net (start .args .arcs .start + i)) (l .i) (l .inv .2) (plain-clear (read .arc .ensures) _ (most .ensures) (plain .1)) refl,
+    )
+
+returns-2 : tie.Need-returns-2 Inv-loop μ-loop
+returns-2 c _ =
+    let l = c .before .loop in
+    let start = c .before .before .before in
+    let e : l .i ≡ start .args .arcs .count = omega arith in
+    (rw e at (l .inv .2), none-dead (start .pre .0) _ _ _ (start .pre .1) (rw e at (l .inv .1)))
+
+pub all-plain-spec : {M : Type 1} → statement M
+all-plain-spec =
+    tie.close
+    (tie.spec
+    Inv-loop
+    μ-loop
+    (λ c. (search needs, λ k h l. absurd (omega arith), every-none _))
+    (λ c κs. search needs)
+    (λ c κs. search needs)
+    (λ c κs. search needs)
+    (λ c e. let z : _≡_ {A = ℕ} 0 1 = cc in absurd (omega arith))
+    (λ c. search needs)
+    (λ c. search needs)
+    loop-again
+    returns-2)
