@@ -12,6 +12,7 @@ pub mod StripWritten
 pub mod EqualNets
 pub mod EqualNetsForC
 pub mod Positions
+pub mod TextRoom
 pub mod Stripping
 pub mod Exchange
 pub mod OwnExample

@@ -47,6 +47,7 @@ use Rattle.promises.proofs.DemandThree.{over-bytes}
 use Rattle.text.proofs.Decimals.{decimals}
 use Rattle.statement.proofs.TextOfRun.{text-of-run}
 use Rattle.statement.proofs.Example.{printed}
+use Rattle.promises.proofs.TextRoom.{text-room}
 use Rattle.promises.proofs.TwoRuns.{two-runs}
 use Rattle.promises.proofs.TwoSteps.{two-steps}
 use Rattle.promises.proofs.DeadAsWritten.{dead-as-written}
@@ -174,6 +175,7 @@ promises =
       audits = audits;
       decimals = decimals;
       textOfRun = text-of-run;
+      textRoom = text-room;
       printed = printed;
       demandOne = demand-one;
       demandOneForC = demand-one-for-c;

@@ -15,6 +15,7 @@ pub mod Uniqueness
 pub mod EqualNets
 pub mod EqualNetsForC
 pub mod Positions
+pub mod TextRoom
 pub mod Stripping
 pub mod Exchange
 pub mod OwnExample

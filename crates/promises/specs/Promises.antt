@@ -30,6 +30,7 @@ use Rattle.promises.specs.DemandThree.{OverBytes}
 use Rattle.text.specs.Promises.{Decimals}
 use Rattle.statement.specs.Promises.{TextOfRun}
 use Rattle.statement.specs.Example.{Printed}
+use Rattle.promises.specs.TextRoom.{TextRoom}
 use Rattle.promises.specs.TwoRuns.{TwoRuns}
 use Rattle.promises.specs.TwoSteps.{TwoSteps}
 use Rattle.promises.specs.DeadAsWritten.{DeadAsWritten}
@@ -158,6 +159,7 @@ pub record Promises : Type 0 where
   pub audits : Audits
   pub decimals : Decimals
   pub textOfRun : TextOfRun
+  pub textRoom : TextRoom
   pub printed : Printed
   -- of the contracts of the calls
   pub demandOne : DemandOne
