@@ -12,15 +12,13 @@ use Rattle.model.specs.declared.Thing.the-variants.{Net}
 use Rattle.model.specs.declared.Fault.the-variants.{NoRoom, InhibitedUnbounded}
 use Rattle.model.specs.declared.Refusal.{Refusal}
 use Rattle.model.specs.declared.Answer.{Answer}
-use Rattle.model.specs.declared.Answer.the-variants.{Accepted, Refused as Refused′}
 use Rattle.model.specs.declared.Version.{Version}
 use Rattle.model.specs.declared.Version.the-variants.{One, Two}
 use Rattle.model.specs.Nets.{PNet, arcNo}
 use Rattle.model.specs.First.{_▸_, first, onlyIf}
 use Rattle.model.specs.Refusals.{answer, wrong}
 use Rattle.model.specs.Complement.{complement, inhibitsUnbounded, refusal15, sheetLimits, complementRefusal}
-use Rattle.model.proofs.First.{then-assoc, none-then, left-none, right-none, first-all, first-split, only-if-none}
-use Rattle.model.proofs.Refusals.{answer-none, answer-stops}
+use Rattle.model.proofs.First.{then-assoc, none-then, left-none, right-none, first-all, only-if-none}
 use Rattle.opened.specs.declared.shape.NetShape.{NetShape}
 use Rattle.sheets.specs.Decoded.{netOf}
 use Rattle.opened.specs.Shape.{Open, arcOffset}
