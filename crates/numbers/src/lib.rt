@@ -1,4 +1,5 @@
 // One number for each arc of a net, made once for a run by the net's rule: a count passes all four tests when it is at least Pre and below that number.
+// And firing a mode of a list in one pass over its arcs.
 use fields::numbers::least;
 use firing::arcs::room_at;
 use model::Arc;
@@ -172,6 +173,7 @@ fn take_back(s: &[u8], net: NetShape, arcs: Segment, written: usize, marking: &m
 }
 
 // One pass tests and writes; where an arc does not let the mode pass, those before it are taken back. Whether the mode has fired.
+// "Test first, then write" is said of firing one mode: a list stops at its first refused movement, so that at most one is ever taken back.
 pub fn fire_within(
     s: &[u8],
     net: NetShape,

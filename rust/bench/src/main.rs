@@ -1,5 +1,5 @@
-//! How fast the proved engine is beside Rust on the same input, in one process, all optimised for plain x86-64: `twopass` runs by the
-//! engine's own method, `swift` by whatever is fastest.
+//! How fast the proved engine is beside Rust on the same input, in one process, all optimised for plain x86-64: `twopass` tests
+//! a movement first and then writes it, `swift` does whatever is fastest.
 //!
 //!     bench                  times and instruction counts, as the tables of docs/BENCHMARKS.md
 //!     bench times            the times alone

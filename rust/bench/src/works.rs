@@ -7,7 +7,7 @@ use pnet::{Mode, Pair};
 
 use crate::inputs::Inputs;
 
-/// Who does the work: the proved engine through its wrapper, a run by the same method in Rust, and a program written for speed.
+/// Who does the work: the proved engine through its wrapper, a run in Rust that tests first and then writes, and a program written for speed.
 pub const ENGINES: [&str; 3] = ["engine", "twopass", "swift"];
 
 /// A figure of each engine that does the work.

@@ -1,7 +1,7 @@
-//! A run by the engine's own method, as well as Rust can say it: a mode's arcs are decoded when the net is
+//! A run that tests first and then writes, as the engine fires one mode: a mode's arcs are decoded when the net is
 //! read, and each movement tests them all in one pass before a second pass writes their pairs, and no other.
-//! Nothing is half written, so nothing is ever taken back. The arcs visited are counted as their span is looked
-//! up. A step is tested and written so by its sums. The sheets are read by `swift`.
+//! Nothing is half written, so nothing is ever taken back; the engine's own run writes as it tests. The arcs visited
+//! are counted as their span is looked up. A step is tested and written so by its sums. The sheets are read by `swift`.
 
 mod step;
 
