@@ -17,7 +17,7 @@ use Rattle.model.specs.declared.Version.the-variants.{One, Two}
 use Rattle.model.specs.Nets.{PNet, arcNo}
 use Rattle.model.specs.First.{_▸_, first, onlyIf}
 use Rattle.model.specs.Refusals.{answer, wrong}
-use Rattle.model.specs.Complement.{complement, inhibitsUnbounded, refusal15, sheetLimits, complementRefusal}
+use Rattle.model.specs.Complement.{inhibitsUnbounded, refusal15, sheetLimits, complementRefusal}
 use Rattle.model.proofs.First.{then-assoc, none-then, left-none, right-none, first-all, only-if-none}
 use Rattle.opened.specs.declared.shape.NetShape.{NetShape}
 use Rattle.sheets.specs.Decoded.{netOf}

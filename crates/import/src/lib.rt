@@ -12,8 +12,6 @@ use model::Version;
 use scan::Checked;
 use scan::check_text;
 use written::sheet_size;
-ghost use Prim.Native.Nat.{_≤_};
-ghost use lib.ListN.{length};
 ghost use mathlib.Core.Path.{_≡_};
 ghost use Rattle.model.specs.Refusals.{wrong};
 ghost use Rattle.import.specs.declared.Imported.the-variants.{Refused};

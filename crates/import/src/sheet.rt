@@ -7,7 +7,7 @@ use model::Version;
 use written::put_count;
 use written::put_head;
 ghost use mathlib.Core.Path.{_≡_};
-ghost use Prim.Native.Nat.{_+_, _*_, _≤_, _<_};
+ghost use Prim.Native.Nat.{_≤_, _<_};
 ghost use lib.ListN.{length};
 ghost use Rattle.model.specs.declared.Version.the-variants.{One};
 ghost use Rattle.written.specs.Puts.{Room, Puts, sheetSize};

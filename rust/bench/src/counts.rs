@@ -3,6 +3,8 @@
 use std::env;
 use std::process::Command;
 
+use reference::Form;
+
 use crate::inputs::Size;
 use crate::works::{Figures, Work};
 
@@ -12,12 +14,12 @@ pub fn instructions(work: Work, size: Size) -> Figures {
 }
 
 fn counted(work: Work, engine: &str, size: Size, times: usize) -> f64 {
-    let [part, arcs, version, times] =
-        [size.part, size.arcs, size.version as usize, times].map(|number| number.to_string());
+    let form = Form::ALL.iter().position(|known| *known == size.form).expect("a known form");
+    let [part, arcs, form, times] = [size.part, size.arcs, form, times].map(|number| number.to_string());
     let output = Command::new("valgrind")
         .args(["--tool=callgrind", "--callgrind-out-file=/dev/null"])
         .arg(env::current_exe().expect("this program has a path"))
-        .args(["once", work.name, engine, &part, &arcs, &version, &times])
+        .args(["once", work.name, engine, &part, &arcs, &form, &times])
         .output()
         .expect("valgrind is on this machine");
     let said = String::from_utf8_lossy(&output.stderr);

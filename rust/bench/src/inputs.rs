@@ -4,8 +4,8 @@ use std::path::Path;
 use std::{fs, io};
 
 use pnet::Mode;
-use reference::Version;
 use reference::build::{OPEN, PlainArc, PlainNet, movements, weights};
+use reference::{Form, Version};
 
 /// How large the inputs are.
 #[derive(Clone, Copy, PartialEq, Eq)]
@@ -14,24 +14,24 @@ pub struct Size {
     pub part: usize,
     /// Arcs of each mode.
     pub arcs: usize,
-    /// The version of the net sheets.
-    pub version: Version,
+    /// The version and the rule of the net sheets.
+    pub form: Form,
 }
 
 impl Size {
     /// Modes of 8 arcs.
     pub const fn part(part: usize) -> Size {
-        Size { part, arcs: 8, version: Version::One }
+        Size { part, arcs: 8, form: Form::One }
     }
 
     /// The largest net of modes of so many arcs.
     pub const fn arcs(arcs: usize) -> Size {
-        Size { part: 1, arcs, version: Version::One }
+        Size { part: 1, arcs, form: Form::One }
     }
 
-    /// The largest net of modes of 8 arcs, in this version.
-    pub const fn version(version: Version) -> Size {
-        Size { part: 1, arcs: 8, version }
+    /// The largest net of modes of 8 arcs, in this form.
+    pub const fn form(form: Form) -> Size {
+        Size { part: 1, arcs: 8, form }
     }
 
     /// As the tables name it.
@@ -47,8 +47,8 @@ impl Size {
 pub struct Inputs {
     /// The largest net: 256 pairs, 256 modes of 8 arcs each; 35,083 bytes in version 1, 31,498 in version 2.
     pub net: Vec<u8>,
-    /// The same net in the other version.
-    pub other: Vec<u8>,
+    /// The same net in version 1 and in version 2, by rule 0.
+    pub versions: [Vec<u8>; 2],
     /// How many pairs it has.
     pub pairs: usize,
     /// Its last mode.
@@ -85,7 +85,7 @@ pub struct Inputs {
 }
 
 impl Inputs {
-    pub fn of(Size { part, arcs, version }: Size) -> Inputs {
+    pub fn of(Size { part, arcs, form }: Size) -> Inputs {
         // 2,048 arcs at most.
         let (places, transitions) = (64 / part, 64.min(512 / arcs) / part);
         let net = plain(places, transitions, arcs, |pair| [OPEN, 1_000_000][pair % 2]);
@@ -95,14 +95,13 @@ impl Inputs {
         // A part of the arcs is a part of the text; as many modes have as many arcs as there are half as many pairs.
         let side = [64, 32, 16][part.ilog(4) as usize];
         let text = exported(&largest(1, side, side / 2).sheet());
-        let open = largest(4, 64 / part, 8).sheet_in(version);
+        let open = largest(4, 64 / part, 8).sheet_in(form);
         let (pairs, modes) = (net.pairs.len(), 4 * transitions);
         // A walk over all modes in no simple order.
         let list: Vec<u16> = (0..8_192 / part).map(|k| (k * 167 % 251 % modes) as u16).collect();
         let step: Vec<u16> = (0..64).map(|k| (k * 167 % 251 % modes) as u16).collect();
         let kilograms: Vec<i32> = (0..pairs as i32).map(|pair| 250 * (pair % 9) - 500).collect();
-        let (sheet, movements, weights) = (net.sheet_in(version), movements(&list), weights(&kilograms));
-        let other = if version == Version::One { Version::Two } else { Version::One };
+        let (sheet, movements, weights) = (net.sheet_in(form), movements(&list), weights(&kilograms));
         let marking: Vec<u32> = net.pairs.iter().map(|pair| pair.1).collect();
         let mut claim = marking.clone();
         let (accepted, visited) = (list.len() as u64, (arcs * list.len()) as u64);
@@ -117,11 +116,11 @@ impl Inputs {
             claim,
             half: vec![500_000; bounded.pairs.len()],
             both: vec![500_000; 2 * bounded.pairs.len()],
-            bounded: bounded.sheet_in(version),
-            strippable: strippable.sheet_in(version),
+            bounded: bounded.sheet_in(form),
+            strippable: strippable.sheet_in(form),
             input: [&sheet[..], &weights, &movements].concat(),
             net: sheet,
-            other: net.sheet_in(other),
+            versions: Version::BOTH.map(|version| net.sheet_in(version)),
             weightless: reference::build::weights(&vec![0; pairs]),
             weights,
             movements,

@@ -4,7 +4,7 @@
 //!     bench                  times and instruction counts, as the tables of docs/BENCHMARKS.md
 //!     bench times            the times alone
 //!     bench inputs DIR       the inputs as files, for tests/beside.c
-//!     bench once WORK ENGINE PART ARCS VERSION TIMES    one piece of work so many times, for callgrind
+//!     bench once WORK ENGINE PART ARCS FORM TIMES    one piece of work so many times, for callgrind
 //!
 //! Times are the least of many repetitions, the engines in turn. Everything is warm: sheets, marking and output slice are used again
 //! and are not cleared between repetitions; a marking is set back before each run, outside the time.
@@ -17,8 +17,8 @@ use std::env;
 use std::path::Path;
 
 use inputs::{Inputs, Size};
-use reference::Version;
-use works::{EXPORT, Figures, IMPORT, OF_A_SHEET, OTHERS, READ, RUN, SIZED, Work};
+use reference::Form;
+use works::{EXPORT, Figures, IMPORT, OTHERS, READ, RUN, SIZED, Work, of_a_sheet};
 
 /// Full size, and so many times smaller.
 const PARTS: [usize; 3] = [1, 4, 16];
@@ -44,13 +44,12 @@ fn main() {
                 Inputs::of(Size::part(part)).write(Path::new(folder), part).expect("a folder to write to");
             }
         }
-        ["once", work, engine, part, arcs, version, times] => {
+        ["once", work, engine, part, arcs, form, times] => {
             let number = |word: &str| word.parse::<usize>().expect("a number");
-            let version = Version::BOTH[number(version) - 1];
-            let size = Size { part: number(part), arcs: number(arcs), version };
+            let size = Size { part: number(part), arcs: number(arcs), form: Form::ALL[number(form)] };
             works::repeat(works::named(work), engine, &Inputs::of(size), number(times));
         }
-        _ => panic!("bench [times | inputs DIR | once WORK ENGINE PART ARCS VERSION TIMES]"),
+        _ => panic!("bench [times | inputs DIR | once WORK ENGINE PART ARCS FORM TIMES]"),
     }
 }
 
@@ -71,11 +70,11 @@ fn tables(title: &str, unit: &str, measure: Measure) {
     for work in OTHERS {
         rows(work, Size::part(1), "full", measure);
     }
-    println!("\nFull size, by the version of the net sheet:\n");
-    head("Version", unit);
-    for work in OF_A_SHEET {
-        for version in Version::BOTH {
-            rows(work, Size::version(version), &(version as u8).to_string(), measure);
+    println!("\nFull size, by the version and the rule of the net sheet:\n");
+    head("Version, rule", unit);
+    for work in of_a_sheet() {
+        for (form, named) in Form::ALL.into_iter().zip(["1", "2, rule 0", "2, rule 1"]) {
+            rows(work, Size::form(form), named, measure);
         }
     }
     println!("\nRuns of 8,192 movements, by the arcs of a mode:\n");

@@ -86,8 +86,11 @@ pub const IMPORT: Work = beside(
 /// The works that are measured at every size.
 pub const SIZED: [Work; 6] = [READ, RUN, COMPLEMENT, STATEMENT, EXPORT, IMPORT];
 
-/// Those of them that read a net sheet.
-pub const OF_A_SHEET: [Work; 5] = [READ, RUN, COMPLEMENT, STATEMENT, EXPORT];
+/// The works that are given a net sheet of either version and rule.
+pub fn of_a_sheet() -> impl Iterator<Item = Work> {
+    let others = ["import_pnml", "read_weights", "read_movements", "to_version_2", "to_version_1"];
+    SIZED.into_iter().chain(OTHERS).filter(move |work| !others.contains(&work.name))
+}
 
 /// The other calls, at full size; a call with a mode is given the last.
 pub const OTHERS: [Work; 20] = [
@@ -146,16 +149,15 @@ pub const OTHERS: [Work; 20] = [
         |i, l| pnet::strip(&i.strippable, Pair(i.pairs as u16 - 1), &mut l.output).is_ok(),
         |i, l| swift::strip(&i.strippable, i.pairs as u16 - 1, &mut l.output).is_ok(),
     ),
-    // The net is in version 1, and the other in version 2.
     beside(
         "to_version_2",
-        |i, l| pnet::to_version_2(&i.net, &mut l.output).is_ok(),
-        |i, l| swift::to_version_2(&i.net, &mut l.output).is_ok(),
+        |i, l| pnet::to_version_2(&i.versions[0], &mut l.output).is_ok(),
+        |i, l| swift::to_version_2(&i.versions[0], &mut l.output).is_ok(),
     ),
     beside(
         "to_version_1",
-        |i, l| pnet::to_version_1(&i.other, &mut l.output).is_ok(),
-        |i, l| swift::to_version_1(&i.other, &mut l.output).is_ok(),
+        |i, l| pnet::to_version_1(&i.versions[1], &mut l.output).is_ok(),
+        |i, l| swift::to_version_1(&i.versions[1], &mut l.output).is_ok(),
     ),
     beside(
         "audit",
