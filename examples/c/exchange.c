@@ -14,7 +14,7 @@
 #include "pnet.h"
 
 struct sheet {
-    uint8_t bytes[PNET_LARGEST_NET];
+    uint8_t bytes[PNET_LARGEST_NET + 1]; /* one more: a file that is longer is no sheet */
     size_t length;
 };
 

@@ -8,7 +8,7 @@
    docs/RULES.md; both must say the same of every number.
    examples/refit/returned.pnml, the refit's text as another tool may save it, is the same net to both, though the engine refuses it.
 3. The sheet that the engine imports from the text says the same again, each pair a place of one colour and each mode a transition of one mode.
-Before that both readers are given texts that are wrong, and must refuse them.
+Then both readers are given texts that are wrong, and must refuse them.
 """
 import pathlib, struct, subprocess, sys, tempfile
 from xml.parsers import expat
@@ -127,7 +127,7 @@ def net_of(sheet):
 def xmllint(text):
     """What xmllint says against a text, by the grammar; nothing where it has nothing to say."""
     ran = subprocess.run(["xmllint", "--noout", "--nonet", "--relaxng", here / "ptnet.rng", "-"], input=text, capture_output=True)
-    return "" if ran.returncode == 0 else ran.stderr.decode()
+    return "" if ran.returncode == 0 else ran.stderr.decode() or f"xmllint ended with status {ran.returncode}"
 
 
 def check(name, data, samples, scratch):

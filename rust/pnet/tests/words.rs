@@ -315,7 +315,7 @@ fn of_an_import() {
     assert_eq!(room[..], net);
     let too_long = "10: what is to be written exceeds the room for it, or the limits of a sheet";
     says(import_pnml(text, &mut room[..38]), too_long);
-    // The place's identifier begins 204 bytes after the text does: its second digit is 4 and not 0.
+    // The place's identifier begins 204 bytes after the text does, with its letter: its third digit is 4 and not 0.
     text[207] = b'4';
     let refused = import_pnml(text, room);
     says(refused, "20: no export agrees with the text from byte 207 on");
