@@ -29,7 +29,7 @@ use Rattle.rule.proofs.FourTests.{clash}
 use Rattle.firing.proofs.Meets.{written-is}
 use Rattle.firing.proofs.Leaving.{makes-not, makes-so}
 use Rattle.firing.proofs.ByMode.{listing, one-not-free, all-free, writable, fires}
-use Rattle.numbers.specs.OnePass.{Passes, writtenTo, Wrote, Through, Fires}
+use Rattle.numbers.specs.OnePass.{Passes, writtenTo, PassedAndWritten, Through, Fires}
 
 -- an arc that was read, where a count is tested
 module _ (net : PNet) (m : List ℕ) (k : ℕ) (a : Arc) (is : netArc a ≡ arcNo (net .arcs) k) where
@@ -63,7 +63,7 @@ pub record Back (a : Arc) (l before : List ℕ) : Type 0 where
 
 -- the marking at which the first arcs of a mode let it pass was accepted
 pub wrote-at : {s : List ℕ} {net : NetShape} {arcs : Segment} {n : ℕ} {m left : List ℕ} → Open s net
-    → ModeArcs (netOf s .arcs) (arcs .mode) (arcs .start) (arcs .count) → Wrote (netOf s) arcs n m left → AtMode s net arcs m
+    → ModeArcs (netOf s .arcs) (arcs .mode) (arcs .start) (arcs .count) → PassedAndWritten (netOf s) arcs n m left → AtMode s net arcs m
 wrote-at o own wrote = record { opened = o; marking = wrote .marking; own = own }
 
 module _ {s : List ℕ} {net : NetShape} {arcs : Segment} {m : List ℕ} (h : AtMode s net arcs m) where
@@ -99,11 +99,11 @@ module _ {s : List ℕ} {net : NetShape} {arcs : Segment} {m : List ℕ} (h : At
   unfolding Free
   free-to i l = rw (to-keeps i l) (λ f. f, λ f. f)
 
-  pub wrote-none : Wrote (netOf s) arcs 0 m m
+  pub wrote-none : PassedAndWritten (netOf s) arcs 0 m m
   unfolding writtenTo
   wrote-none = record { marking = h .marking; few = omega arith; free = λ j l. absurd (omega arith); leaves = refl }
 
-  module _ {i : ℕ} {l left : List ℕ} {passed : Bool} (wrote : Wrote (netOf s) arcs i m l) (there : i < arcs .count)
+  module _ {i : ℕ} {l left : List ℕ} {passed : Bool} (wrote : PassedAndWritten (netOf s) arcs i m l) (there : i < arcs .count)
       (pass : Passes passed (netOf s) l (arcs .start + i) left) where
     free-here : (passed ≡ true) ↔ Free (netOf s) m (arcs .start + i)
     free-here =
@@ -113,7 +113,7 @@ module _ {s : List ℕ} {net : NetShape} {arcs : Segment} {m : List ℕ} (h : At
     left-is : {b : Bool} → passed ≡ b → left ≡ cond b (writtenAt (netOf s) l (arcs .start + i)) l
     left-is e = pass .leaves ∙ ap (λ b. cond b (writtenAt (netOf s) l (arcs .start + i)) l) e
 
-    pub wrote-more : passed ≡ true → Wrote (netOf s) arcs (i + 1) m left
+    pub wrote-more : passed ≡ true → PassedAndWritten (netOf s) arcs (i + 1) m left
     wrote-more e =
         record {
           marking = h .marking;
@@ -129,7 +129,7 @@ module _ {s : List ℕ} {net : NetShape} {arcs : Segment} {m : List ℕ} (h : At
           stops = λ _ f. clash (sym (free-here .1 f) ∙ e);
         }
 
-  pub through-ends : {i : ℕ} {l : List ℕ} → Wrote (netOf s) arcs i m l → arcs .count ≤ i → Through (netOf s) arcs i m l
+  pub through-ends : {i : ℕ} {l : List ℕ} → PassedAndWritten (netOf s) arcs i m l → arcs .count ≤ i → Through (netOf s) arcs i m l
   through-ends wrote e = record { wrote = wrote; stops = λ b. absurd (omega arith) }
 
   -- the mode has fired, or what has been written is taken back
@@ -161,7 +161,7 @@ module _ {s : List ℕ} {net : NetShape} {arcs : Segment} {m : List ℕ} (h : At
         ∙ set-getD (to i) (pair i) 0
 
   -- so the last arc that has written is taken back
-  pub last-back : {n : ℕ} {left : List ℕ} → Wrote (netOf s) arcs n m left → (i : ℕ) {l : List ℕ} → 0 < i → i ≤ n → l ≡ to i → (a : Arc) → ArcIs s net (arcs .start + (i - 1)) a
+  pub last-back : {n : ℕ} {left : List ℕ} → PassedAndWritten (netOf s) arcs n m left → (i : ℕ) {l : List ℕ} → 0 < i → i ≤ n → l ≡ to i → (a : Arc) → ArcIs s net (arcs .start + (i - 1)) a
       → Back a l (to (i - 1))
   last-back wrote i above few e a read =
       let before : i - 1 + 1 ≡ i = omega arith in

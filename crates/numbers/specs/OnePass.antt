@@ -25,7 +25,7 @@ writtenTo net arcs zero m = m
 writtenTo net arcs (suc n) m = writtenAt net (writtenTo net arcs n m) (arcs .start + n)
 
 -- the first n arcs of a mode let it pass at a marking, and have written it
-pub record Wrote (net : PNet) (arcs : Segment) (n : ℕ) (m left : List ℕ) : Type 0 where
+pub record PassedAndWritten (net : PNet) (arcs : Segment) (n : ℕ) (m left : List ℕ) : Type 0 where
   pub marking : Marking net m
   pub few : n ≤ arcs .count
   pub free : (j : ℕ) → j < n → Free net m (arcs .start + j)
@@ -33,7 +33,7 @@ pub record Wrote (net : PNet) (arcs : Segment) (n : ℕ) (m left : List ℕ) : T
 
 -- and the next arc, where there is one, does not
 pub record Through (net : PNet) (arcs : Segment) (n : ℕ) (m left : List ℕ) : Type 0 where
-  pub wrote : Wrote net arcs n m left
+  pub wrote : PassedAndWritten net arcs n m left
   pub stops : n < arcs .count → ¬ Free net m (arcs .start + n)
 
 -- a mode that is fired exactly when none of 11 to 14 is found

@@ -27,7 +27,7 @@ ghost use Rattle.opened.specs.Starts.{StartsAre, ModeArcs, OwnArc};
 ghost use Rattle.rule.specs.AtPair.{Unstopped};
 ghost use Rattle.firing.specs.AtMode.{Writable, AtMode, OfMode};
 ghost use Rattle.numbers.specs.Numbers.{numberOf, NumbersBelow, NumbersAre, Numbered};
-ghost use Rattle.numbers.specs.OnePass.{Passes, Wrote, Through, Fires};
+ghost use Rattle.numbers.specs.OnePass.{Passes, PassedAndWritten, Through, Fires};
 
 // The counts below this number, from Pre on, are those that pass all four tests.
 fn pass_below(arc: Arc, capacity: u32) -> u32
@@ -160,8 +160,8 @@ fn fire_through(
 fn take_back(s: &[u8], net: NetShape, arcs: Segment, written: usize, marking: &mut [u32])
     requires { ⌜ Open (now s) net ⌝ }
     requires { ⌜ ModeArcs (netOf (now s) .arcs) (arcs .mode) (arcs .start) (arcs .count) ⌝ }
-    requires { ⌜ ((m : List ℕ) × Wrote (netOf (now s)) arcs written m (now marking)) ⌝ }
-    ensures { λ r. ⌜ ((m : List ℕ) → Wrote (netOf (now (s .entry))) arcs written m (now (marking .entry)) → now (marking .exit) ≡ m) ⌝ }
+    requires { ⌜ ((m : List ℕ) × PassedAndWritten (netOf (now s)) arcs written m (now marking)) ⌝ }
+    ensures { λ r. ⌜ ((m : List ℕ) → PassedAndWritten (netOf (now (s .entry))) arcs written m (now (marking .entry)) → now (marking .exit) ≡ m) ⌝ }
 {
     let mut i = written;
     while 0 < i {

@@ -1,4 +1,4 @@
--- Number 0 is accepted, and no refusal has it; what a call was told by that answers a length, or leaves what it found.
+-- Number 0 is accepted, and no refusal has it; what a call was told by that answers a value, or leaves what it found.
 use Prim.Native.Nat.{ℕ}
 use mathlib.Core.Path.{_≡_, refl, sym, _∙_, ap}
 use mathlib.Core.Logic.{_≢_}
@@ -44,9 +44,9 @@ pub number-none : (o : Option Refusal) → number (answer o) ≡ 0 → o ≡ non
 number-none none e = refl
 number-none (some r) e = absurd (refused-number (r .fault) e)
 
--- a call that answers the length l, or its refusal
-module _ (tell : Option Refusal → Reply ℕ) (l : ℕ) (here : tell none ≡ yields l) (there : (r : Refusal) → tell (some r) ≡ refuses r) where
-  pub yielded : (o : Option Refusal) {n : ℕ} → tell o ≡ yields n → (o ≡ none) × (n ≡ l)
+-- a call that answers the value l, or its refusal
+module _ {A : Type 0} (tell : Option Refusal → Reply A) (l : A) (here : tell none ≡ yields l) (there : (r : Refusal) → tell (some r) ≡ refuses r) where
+  pub yielded : (o : Option Refusal) {n : A} → tell o ≡ yields n → (o ≡ none) × (n ≡ l)
   yielded none {n} e = let v : some l ≡ some n = ap (λ r. r .value) (sym here ∙ e) in (refl, cc)
   yielded (some r) {n} e = let v : none ≡ some n = ap (λ r. r .value) (sym (there r) ∙ e) in absurd (Option·none-ne-some n v)
 

@@ -32,7 +32,7 @@ says-yes none true e = (refl, refl)
 says-yes none false e = let z : _≡_ {A = ℕ} 0 1 = cc in absurd (omega arith)
 says-yes (some r) dead e = let z : _≡_ {A = ℕ} 0 1 = cc in absurd (omega arith)
 
-dead-there : (net : List ℕ) (t : Mode) → told (deadnessOf net t) .value ≡ some true → (t .0 < modes (netOf net)) × (isDead (netOf net) t ≡ true)
+pub dead-there : (net : List ℕ) (t : Mode) → told (deadnessOf net t) .value ≡ some true → (t .0 < modes (netOf net)) × (isDead (netOf net) t ≡ true)
 unfolding deadRefusal
 dead-there net t e =
     let yes = says-yes (deadRefusal net t) (isDead (netOf net) t) e in

@@ -44,7 +44,7 @@ module _ (net out : List ℕ) (o : Exported × List ℕ) (n : ℕ) (allows : Exp
   abbrev text : List ℕ
   text = exportText net
 
-  told-length : (exportRefusal net (length out) ≡ none) × (n ≡ length text)
+  pub told-length : (exportRefusal net (length out) ≡ none) × (n ≡ length text)
   told-length =
       yielded (λ r. exporting.told (exported r (length text))) (length text) refl (λ r. refl) (exportRefusal net (length out)) (sym (ap exporting.told (allows .0)) ∙ e)
 

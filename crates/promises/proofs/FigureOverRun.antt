@@ -44,7 +44,7 @@ leads-there {net} (moves {t = t} {m = m} e l) zero h = accepted-there Movements 
 leads-there (moves e l) (suc k) h = leads-there l k (le-of-suc-le-suc h)
 
 -- an accepted call says its value
-says : {o : Option Refusal} {z : ℤ} → o ≡ none → told (figured o z) ≡ yields z
+pub says : {o : Option Refusal} {z : ℤ} → o ≡ none → told (figured o z) ≡ yields z
 unfolding figured
 says e = rw e
 

@@ -29,7 +29,7 @@ first-not-all net t ts m p h e apart same =
     apart
     (omega (arith, step-accepted net (t ∷ ts) m e .passes .enough p h, step-fired-at net (t ∷ ts) m p h, fired-at net t m p h, ap (λ m. count m p) same))
 
-step-accepted-in : (net marking modes : List ℕ) → testStepRefusal net marking modes ≡ none → stepRefusal (netOf net) (stepModes modes) marking ≡ none
+pub step-accepted-in : (net marking modes : List ℕ) → testStepRefusal net marking modes ≡ none → stepRefusal (netOf net) (stepModes modes) marking ≡ none
 unfolding testStepRefusal
 step-accepted-in net marking modes e = right-none _ _ (right-none _ _ e)
 

@@ -1,145 +1,82 @@
--- A complement has no finite K or I; what import writes of an export is read as a net of the same pairs, modes, first marking and arcs.
-use Prim.Native.Nat.{ℕ, _<_}
-use mathlib.Core.Path.{_≡_, refl, sym, _∙_, ap, subst}
-use mathlib.Core.Bool.{Bool, true, false}
-use mathlib.Core.List.{List, _++_}
-use mathlib.Core.Logic.{_≢_, inl, inr}
-use mathlib.Core.Option.{Option, none, some, Option·none-ne-some}
-use lib.Dec.{ltb}
-use lib.ListN.{length, take, drop}
-use lib.Seq.{take-at}
+-- What import writes of an export is read as a net of the same pairs, modes, first marking and arcs.
+use Prim.Native.Nat.{ℕ, _≤_, _<_}
+use mathlib.Core.Path.{_≡_, sym, _∙_, ap, subst}
+use mathlib.Core.List.{List}
+use mathlib.Core.Logic.{inl, inr, ⊎-elim}
+use mathlib.Core.Option.{none}
+use lib.ListN.{length, take}
 use native.Mathlib.Omega.{arith}
-use borrow.Author.Tests.{le-ltb}
-use Rattle.model.specs.declared.Thing.the-variants.{Net}
-use Rattle.model.specs.declared.Fault.the-variants.{NoRoom}
-use Rattle.model.specs.declared.Refusal.{Refusal}
-use Rattle.model.specs.declared.Version.the-variants.{One}
-use Rattle.model.specs.First.{onlyIf}
-use Rattle.model.specs.Refusals.{wrong}
-use Rattle.model.specs.Replies.{yields}
+use Rattle.model.specs.Refusals.{Carried}
 use Rattle.model.specs.Nets.{PNet, pairs, modes}
-use Rattle.model.proofs.First.{left-none, right-none, none-then}
-use Rattle.model.proofs.Demand3.{demand3}
+use Rattle.model.proofs.First.{left-none, below-or}
 use Rattle.sheets.specs.Whole.{wholeNet}
 use Rattle.sheets.specs.Decoded.{netOf}
-use Rattle.written.specs.Promises.{ReadBack}
-use Rattle.pnml.specs.Pnml.{pnml, Exportable}
-use Rattle.export.specs.Exports as exporting
-use Rattle.export.proofs.Promises.{exports-exactly, complements-exportable}
-use Rattle.import.specs.declared.Imported.{Imported}
-use Rattle.import.specs.Imports as importing
+use Rattle.pnml.specs.Pnml.{Exportable}
+use Rattle.export.specs.Exports.{exportRefusal}
+use Rattle.import.specs.Imports.{told}
 use Rattle.import.specs.Contracts.{ImportPnmlAllows}
-use Rattle.import.specs.Promises.{Small}
-use Rattle.import.proofs.Promises.{Way, many, full, whole, way, imports-exactly, imported-reads}
+use Rattle.import.specs.Promises.{SameNumbers}
+use Rattle.promises.specs.Exchange.{singleBytes, ComesBack, ImportAnswers}
+use Rattle.promises.proofs.TwoRuns.{length-is}
+use Rattle.promises.proofs.Exchange as exchange
 use Rattle.together.specs.Wrote.{ExportWrote, ImportWrote}
-use Rattle.together.specs.Exchanged.{Exports, ComplementsExport, ComesBack, ComplementComesBack}
-use Rattle.together.proofs.Written.{can-complement, sheet-whole, sheet-same, run-alike}
+use Rattle.together.specs.Exchanged.{MovesAsBefore, ComplementComesBack}
+use Rattle.together.proofs.Written.{run-alike}
 use Rattle.together.proofs.SameMoves.{Same}
 use Rattle.together.proofs.SameCalls.{moves-alike, alike-too}
 
--- a net sheet of unbounded K and I is refused for a short output alone
-module _ (sheet : List ℕ) (w : wholeNet sheet ≡ none) (x : Exportable (netOf sheet)) where
-  only-short : (room : ℕ) → exporting.exportRefusal sheet room ≡ exporting.tooShort sheet room
-  unfolding exporting.exportRefusal exporting.roomRefusal
-  only-short room = none-then w (none-then (exports-exactly .all sheet x) refl)
-
-  short-number : (t : Bool) (n : ℕ) → exporting.told (exporting.exported (onlyIf t (wrong Net NoRoom)) n) .carried .number ≢ 19
-  short-number true n e = omega arith
-  short-number false n e = omega arith
-
-  exports : Exports sheet
-  exports =
-      record {
-        never19 = λ out o a. rw (a .0, only-short (length out)) (short-number (ltb (length out) (length (exporting.exportText sheet))) _);
-        written = λ out h o a. rw (a .0, only-short (length out), le-ltb (length out) (length (exporting.exportText sheet)) h) refl;
-      }
-
-pub complements-export : ComplementsExport
-complements-export net sheet w =
-    exports sheet (sheet-whole net sheet w)
-    (rw (sheet-same net sheet w) (complements-exportable (netOf net) (demand3 (netOf net) (can-complement net sheet w) .isNet)))
-
-export-told : (o : Option Refusal) {l n : ℕ} → exporting.told (exporting.exported o l) ≡ yields n → (o ≡ none) × (l ≡ n)
-export-told none {l} {n} e = let v : some l ≡ some n = ap (λ r. r .value) e in (refl, cc)
-export-told (some r) {l} {n} e = let v : none ≡ some n = ap (λ r. r .value) e in absurd (Option·none-ne-some n v)
-
-import-told : (o : Option Refusal) {l n : ℕ} → importing.told (importing.imported o l) ≡ yields n → (o ≡ none) × (l ≡ n)
-import-told none {l} {n} e = let v : some l ≡ some n = ap (λ r. r .value) e in (refl, cc)
-import-told (some r) {l} {n} e = let v : none ≡ some n = ap (λ r. r .value) e in absurd (Option·none-ne-some n v)
-
--- what stands at the front of an output slice
-front : (bytes found out : List ℕ) (n : ℕ) → length bytes ≡ n → out ≡ bytes ++ drop (length bytes) found → take n out ≡ bytes
-front bytes found out n h e = ap (take n) e ∙ take-at bytes (drop (length bytes) found) n h
-
-module _ (sheet text : List ℕ) (w : ExportWrote sheet text) where
-  told : (exporting.exportRefusal sheet (length (w .out)) ≡ none) × (length (exporting.exportText sheet) ≡ length text)
-  told = export-told (exporting.exportRefusal sheet (length (w .out))) (sym (ap exporting.told (w .allowed .0)) ∙ w .answered)
-
-  text-is : text ≡ pnml (netOf sheet)
-  text-is = sym (w .written) ∙ front (exporting.exportText sheet) (w .out) (w .outcome .1) (length text) (told .1) (w .allowed .1 ∙ rw (told .0))
+module _ (sheet text back : List ℕ) (w : ExportWrote sheet text) (i : ImportWrote text back) where
+  abbrev net : PNet
+  net = netOf sheet
 
   exported-whole : wholeNet sheet ≡ none
-  unfolding exporting.exportRefusal
-  exported-whole = left-none _ _ (told .0)
+  unfolding exportRefusal
+  exported-whole = left-none _ _ (exchange.told-length sheet (w .out) (w .outcome) (length text) (w .allowed) (w .answered) .0)
 
-  exportable : Exportable (netOf sheet)
-  unfolding exporting.exportRefusal exporting.roomRefusal
-  exportable = exports-exactly .only sheet exported-whole (left-none _ _ (right-none (wholeNet sheet) _ (told .0)))
+  exportable : Exportable net
+  exportable = exchange.exportable sheet (w .out) (w .outcome) (length text) (w .allowed) (w .answered)
 
-  -- whatever import answers to the text is of that net
-  import-is : (out : List ℕ) (o : Imported × List ℕ) → ImportPnmlAllows text out o → (o .0 ≡ importing.importOf (netOf sheet) out) × (o .1 ≡ importing.outputOf (netOf sheet) out)
-  import-is out o (inl x) = x .each (netOf sheet) exportable text-is
-  import-is out o (inr x) = absurd (x .refused .noExport (netOf sheet) exportable text-is)
+  answers : ImportAnswers net (i .out) (i .outcome)
+  answers =
+      exchange.export-then-import sheet (w .out) (w .outcome) (length text) (w .allowed) (w .answered) (i .out) (i .outcome)
+      (subst (λ t. ImportPnmlAllows t (i .out) (i .outcome)) (sym (w .written)) (i .allowed))
 
-  module _ (back : List ℕ) (i : ImportWrote text back) where
-    is : (i .outcome .0 ≡ importing.importOf (netOf sheet) (i .out)) × (i .outcome .1 ≡ importing.outputOf (netOf sheet) (i .out))
-    is = import-is (i .out) (i .outcome) (i .allowed)
+  -- an import that answers a length is not refused, by 4 or by 10
+  unrefused : {c : Carried} → told (i .outcome .0) .carried ≡ c → c .number ≡ 0
+  unrefused e = sym (ap (λ c. c .number) e) ∙ ap (λ r. r .carried .number) (i .answered)
 
-    imported : (importing.importRefusal (netOf sheet) (length (i .out)) ≡ none) × (length (importing.importedSheet (netOf sheet)) ≡ length back)
-    imported = import-told (importing.importRefusal (netOf sheet) (length (i .out))) (sym (ap importing.told (is .0)) ∙ i .answered)
+  came-back : ComesBack net (i .out) (i .outcome)
+  came-back =
+      ⊎-elim (λ (l : 64 < pairs net). absurd (omega (arith, unrefused (answers .tooMany (inl l)))))
+      (λ (p : pairs net ≤ 64).
+      ⊎-elim (λ (l : 64 < modes net). absurd (omega (arith, unrefused (answers .tooMany (inr l)))))
+      (λ (m : modes net ≤ 64).
+      ⊎-elim (λ (l : length (i .out) < singleBytes net). absurd (omega (arith, unrefused (answers .tooShort p m l)))) (answers .comesBack p m)
+      (below-or (length (i .out)) (singleBytes net)))
+      (below-or 64 (modes net)))
+      (below-or 64 (pairs net))
 
-    back-is : back ≡ importing.importedSheet (netOf sheet)
-    back-is = sym (i .written) ∙ front (importing.importedSheet (netOf sheet)) (i .out) (i .outcome .1) (length back) (imported .1) (is .1 ∙ rw (imported .0))
+  there : take (singleBytes net) (i .outcome .1) ≡ back
+  there = ap (λ n. take n (i .outcome .1)) (length-is (sym (came-back .answered) ∙ i .answered)) ∙ i .written
 
-    small : Way (netOf sheet) (length (i .out)) → Small (netOf sheet)
-    small (many h r) = absurd (Option·none-ne-some _ (sym (imported .0) ∙ r))
-    small (full p m h r) = absurd (Option·none-ne-some _ (sym (imported .0) ∙ r))
-    small (whole p m h r) = record { exportable = exportable; pairs = p; modes = m }
+  back-whole : wholeNet back ≡ none
+  back-whole = rw there at (came-back .accepted)
 
-    reads : ReadBack One (importing.singles (netOf sheet))
-    reads = imported-reads .readBack (netOf sheet) (small (way (netOf sheet) (length (i .out))))
+  back-same : Same (netOf back) net
+  back-same =
+      let s = subst (λ b. SameNumbers net (netOf b)) there (came-back .same) in
+      record {
+        samePairs = s .pairs;
+        sameModes = s .modes;
+        sameStart = s .start;
+        sameArcs = s .arcs;
+        unbounded = λ p h. let l : p < pairs net = omega (arith, s .pairs) in s .capacities p l ∙ exportable .capacities p l;
+        unboundedToo = λ p h. exportable .capacities p (omega (arith, s .pairs));
+      }
 
-    back-whole : wholeNet back ≡ none
-    back-whole = rw back-is (reads .accepted)
-
-    back-same : Same (netOf back) (netOf sheet)
-    back-same =
-        let s = imported-reads .same (netOf sheet) exportable in
-        subst (λ n. Same n (netOf sheet)) (sym (ap netOf back-is ∙ reads .same))
-        (record {
-          samePairs = s .pairs;
-          sameModes = s .modes;
-          sameStart = s .start;
-          sameArcs = s .arcs;
-          unbounded = λ p h. let l : p < pairs (netOf sheet) = omega (arith, s .pairs) in s .capacities p l ∙ exportable .capacities p l;
-          unboundedToo = λ p h. exportable .capacities p (omega (arith, s .pairs));
-        })
-
--- a text says pairs, modes, first marking and arcs
-text-same : {a b : PNet} → Same a b → pnml a ≡ pnml b
-unfolding pnml
-text-same same = rw (same .samePairs, same .sameModes, same .sameStart, same .sameArcs)
-
-pub comes-back : ComesBack
-comes-back sheet text w =
-    record {
-      accepted = λ p m out h o a.
-          let here = subst (λ s. ImportPnmlAllows s out o) (text-is sheet text w) a in
-          ap importing.told (imports-exactly .all (netOf sheet) (record { exportable = exportable sheet text w; pairs = p; modes = m }) out h o here .0);
-      again = λ back text′ i w′. text-is back text′ w′ ∙ text-same (back-same sheet text w back i) ∙ sym (text-is sheet text w);
-      alike = λ back i. moves-alike back sheet (back-whole sheet text w back i) (exported-whole sheet text w) (back-same sheet text w back i);
-    }
+pub moves-as-before : MovesAsBefore
+moves-as-before sheet text back w i = moves-alike back sheet (back-whole sheet text back w i) (exported-whole sheet text back w i) (back-same sheet text back w i)
 
 pub complement-comes-back : ComplementComesBack
 complement-comes-back net sheet text back c w i =
-    alike-too back sheet (back-whole sheet text w back i) (exported-whole sheet text w) (back-same sheet text w back i) net (run-alike net sheet c)
+    alike-too back sheet (back-whole sheet text back w i) (exported-whole sheet text back w i) (back-same sheet text back w i) net (run-alike net sheet c)

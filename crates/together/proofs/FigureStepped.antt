@@ -1,31 +1,29 @@
 -- The figure call before and after an accepted step.
 use mathlib.Core.Path.{_≡_, refl, sym, _∙_, ap}
 use mathlib.Core.List.{List}
-use mathlib.Core.Option.{Option, none, some, Option·none-ne-some}
+use mathlib.Core.Option.{none}
 use Prim.Native.Nat.{ℕ}
 use lib.IntN.{ℤ, _+ℤ_}
-use Rattle.model.specs.declared.Refusal.{Refusal}
 use Rattle.model.specs.Refusals.{number}
 use Rattle.model.specs.Replies.{yields}
-use Rattle.model.specs.Figures.{changes}
+use Rattle.model.specs.Figures.{figure, changes}
 use Rattle.model.specs.Steps.{firedTogether}
 use Rattle.model.proofs.First.{left-none, right-none, none-then}
 use Rattle.sheets.specs.Decoded.{netOf, weightsOf}
 use Rattle.step.specs.Calls.{stepModes, testStepRefusal, steppedBy}
 use Rattle.weigh.specs.Calls.{told, figured, figureRefusal, figureOf}
-use Rattle.promises.proofs.Accepting.{number-none}
+use Rattle.promises.proofs.Accepting.{number-none, yielded}
+use Rattle.promises.proofs.StepFrauds.{step-accepted-in}
+use Rattle.promises.proofs.FigureOverRun.{says}
 use Rattle.together.specs.FigureStepped.{FigureStepped}
-use Rattle.together.proofs.Steps.{step-asked, step-keeps, figure-stepped}
+use Rattle.together.proofs.Steps.{step-keeps, figure-stepped}
 
 -- a figure that is told was not refused
-pub figure-told : (o : Option Refusal) {z y : ℤ} → told (figured o z) ≡ yields y → (o ≡ none) × (z ≡ y)
+figure-told : (net weights m : List ℕ) {z : ℤ} → told (figureOf net weights m) ≡ yields z → (figureRefusal net weights m ≡ none) × (z ≡ figure (netOf net) (weightsOf weights) m)
 unfolding figured
-figure-told none {z} {y} e = let v : some z ≡ some y = ap (λ r. r .value) e in (refl, cc)
-figure-told (some r) {z} {y} e = let v : none ≡ some y = ap (λ r. r .value) e in absurd (Option·none-ne-some y v)
-
-pub told-figure : {o : Option Refusal} {z : ℤ} → o ≡ none → told (figured o z) ≡ yields z
-unfolding figured
-told-figure e = rw e
+figure-told net weights m =
+    let f = figure (netOf net) (weightsOf weights) m in
+    yielded (λ o. told (figured o f)) f refl (λ r. refl) (figureRefusal net weights m)
 
 after-weighed : (net weights m modes : List ℕ) → figureRefusal net weights m ≡ none → figureRefusal net weights (steppedBy net m modes) ≡ none
 unfolding figureRefusal
@@ -33,13 +31,13 @@ after-weighed net weights m modes e =
     none-then (left-none _ _ e) (none-then (left-none _ _ (right-none _ _ e)) (step-keeps net m modes (right-none _ _ (right-none _ _ e))))
 
 pub figure-after-step : FigureStepped
-figure-after-step net weights m modes after answer a zero before f figure is o g =
+figure-after-step net weights m modes after answer a zero before f z is o g =
     let e = number-none (testStepRefusal net m modes) (sym (ap number (a .0)) ∙ zero) in
-    let known = figure-told (figureRefusal net weights m) (sym (ap told f) ∙ is) in
+    let known = figure-told net weights m (sym (ap told f) ∙ is) in
     let left : steppedBy net m modes ≡ firedTogether (netOf net) (stepModes modes) m = rw e in
     ap told g
     ∙ ap (λ m. told (figureOf net weights m)) (a .1)
-    ∙ told-figure (after-weighed net weights m modes (known .0))
+    ∙ says (after-weighed net weights m modes (known .0))
     ∙ ap yields
-    (rw left (figure-stepped (netOf net) (weightsOf weights) (stepModes modes) m (step-asked net m modes e))
-    ∙ ap (λ z. z +ℤ changes (netOf net) (weightsOf weights) (stepModes modes)) (known .1))
+    (rw left (figure-stepped (netOf net) (weightsOf weights) (stepModes modes) m (step-accepted-in net m modes e))
+    ∙ ap (λ z. z +ℤ changes (netOf net) (weightsOf weights) (stepModes modes)) (sym (known .1)))

@@ -32,9 +32,9 @@ use Rattle.fleet.specs.Calls.{shipRefusal, entered}
 use Rattle.fleet.specs.Contracts.{AddShipAllows}
 use Rattle.promises.specs.FleetOfCalls.{Calls, none as noShip, counts, refuses}
 use Rattle.promises.proofs.Accepting.{number-none}
+use Rattle.promises.proofs.FigureOverRun.{says}
 use Rattle.promises.proofs.FleetOfCalls.{fleet-of-calls}
 use Rattle.together.specs.FleetOfRuns.{Own, Says, sizes, FleetOfRuns}
-use Rattle.together.proofs.FigureStepped.{told-figure}
 
 -- a ship whose sheets are accepted
 pub record Sheets (s : Ship) : Type 0 where
@@ -90,15 +90,15 @@ module _ (s : Ship) (is : Sheets s) where
       none-then (is .net)
       (none-then (is .weights) (mode-there Argument (modes (netOf (s .net))) _ (accepted-modes (netOf (s .net)) (movementsOf (s .movements)) start k h)))
 
-  says : Says s (ownOf s)
-  says =
+  own-says : Says s (ownOf s)
+  own-says =
       record {
         runs = λ o a. rw (a .0, runs-as) (refl, refl);
-        starts = λ f a. ap told a ∙ told-figure (weighed start start-accepted);
+        starts = λ f a. ap told a ∙ says (weighed start start-accepted);
         ends = λ o a f b.
             let left : o .1 ≡ outcome s .marking = a .1 ∙ ap (λ o. o .marking) runs-as in
-            ap told b ∙ rw left (told-figure (weighed (outcome s .marking) (rw runs-as at (runs-keep (s .net) (s .movements) start start-accepted))));
-        moves = λ k h f a. ap told a ∙ told-figure (changed k h);
+            ap told b ∙ rw left (says (weighed (outcome s .marking) (rw runs-as at (runs-keep (s .net) (s .movements) start start-accepted))));
+        moves = λ k h f a. ap told a ∙ says (changed k h);
       }
 
 -- a sum over the first n of a list, by their places in it
@@ -123,7 +123,7 @@ fleet-of-runs ships counted last calls =
     let is = stated .totalled in
     record {
       own = ownOf;
-      says = λ s m. says s (all-sheets calls s m);
+      says = λ s m. own-says s (all-sheets calls s m);
       ships = ap (λ (f : Fleet). f .ships) is;
       movements = ap (λ (f : Fleet). f .movements) is;
       by6 = ap (λ (f : Fleet). f .by6) is;

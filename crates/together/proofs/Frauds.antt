@@ -26,15 +26,15 @@ use Rattle.fleet.specs.Ships.{Ship, refusedBy, voyageOf, withVoyage}
 use Rattle.fleet.specs.Calls.{shipRefusal, entered}
 use Rattle.fleet.specs.Contracts.{AddShipAllows}
 use Rattle.promises.proofs.Accepting.{number-none}
+use Rattle.promises.proofs.StepFrauds.{step-accepted-in}
 use Rattle.together.specs.Frauds.{FirstMemberAsked, AsBeforeP2, PassesOver, MoreFrauds}
-use Rattle.together.proofs.Steps.{step-asked}
 use Rattle.together.proofs.FleetOfRuns.{counted-sheets, runs-as}
 
 first-member-asked : FirstMemberAsked
 first-member-asked net m first later p h lacks alone o a z b same =
     let modes = first ∷ later in
     let e = number-none (testStepRefusal net m modes) (sym (ap number b) ∙ same ∙ z) in
-    omega (arith, step-accepted (netOf net) (stepModes modes) m (step-asked net m modes e) .passes .enough p h)
+    omega (arith, step-accepted (netOf net) (stepModes modes) m (step-accepted-in net m modes e) .passes .enough p h)
 
 -- a call that is not refused says what the mode is
 says-dead : (o : Option Refusal) (d : Bool) → told (deadness o d) .carried .number ≡ 0 → d ≡ true → told (deadness o d) ≡ yields true
@@ -59,18 +59,18 @@ unfolding entered
 counts-ship found s o a e = a .1 ∙ rw (number-none (shipRefusal found s) (sym (ap number (a .0)) ∙ e))
 
 -- a total that a ship's voyage raises
-module _ (total : Fleet → ℕ) (more : Voyage → ℕ) (grows : (f : Fleet) (v : Voyage) → total (withVoyage f v) ≡ total f + more v) where
-  passes-over : (Says : Ran → Type 0) → ((r : Ran) (v : Voyage) → r .accepted ≡ v .accepted → r .answer ≡ v .answer → Says r → 0 < more v) → PassesOver Says total
+module _ (field : Fleet → ℕ) (more : Voyage → ℕ) (grows : (f : Fleet) (v : Voyage) → field (withVoyage f v) ≡ field f + more v) where
+  passes-over : (Shows : Ran → Type 0) → ((r : Ran) (v : Voyage) → r .accepted ≡ v .accepted → r .answer ≡ v .answer → Shows r → 0 < more v) → PassesOver Shows field
   unfolding voyageOf
-  passes-over Says raises found s o a z ran b says same =
+  passes-over Shows raises found s o a z ran b shows same =
       let is = runs-as s (counted-sheets found s o a z) in
-      let up = raises (ran .0) (voyageOf s) (ap (λ r. r .accepted) (b .0) ∙ ap (λ o. o .accepted) is) (ap (λ r. r .answer) (b .0) ∙ ap (λ o. answer (o .refusal)) is) says in
-      omega (arith, up, ap total (counts-ship found s o a z), grows found (voyageOf s), same)
+      let up = raises (ran .0) (voyageOf s) (ap (λ r. r .accepted) (b .0) ∙ ap (λ o. o .accepted) is) (ap (λ r. r .answer) (b .0) ∙ ap (λ o. answer (o .refusal)) is) shows in
+      omega (arith, up, ap field (counts-ship found s o a z), grows found (voyageOf s), same)
 
-passes-number : (n : ℕ) (total : Fleet → ℕ) → ((f : Fleet) (v : Voyage) → total (withVoyage f v) ≡ total f + refusedBy n v) → PassesOver (λ r. number (r .answer) ≡ n) total
-passes-number n total grows =
-    passes-over total (refusedBy n) grows (λ r. number (r .answer) ≡ n)
-    (λ r v accepted answered says. rw (eq-eqb (number (v .answer)) n (sym (ap number answered) ∙ says)) (omega arith))
+passes-number : (n : ℕ) (field : Fleet → ℕ) → ((f : Fleet) (v : Voyage) → field (withVoyage f v) ≡ field f + refusedBy n v) → PassesOver (λ r. number (r .answer) ≡ n) field
+passes-number n field grows =
+    passes-over field (refusedBy n) grows (λ r. number (r .answer) ≡ n)
+    (λ r v accepted answered shows. rw (eq-eqb (number (v .answer)) n (sym (ap number answered) ∙ shows)) (omega arith))
 
 pub more-frauds : MoreFrauds
 unfolding withVoyage
@@ -81,7 +81,7 @@ more-frauds =
       counting =
           record {
             movements =
-                passes-over (λ f. f .movements) (λ v. v .accepted) (λ f v. refl) (λ r. r .accepted ≢ 0) (λ r v accepted answered says. omega (arith, says));
+                passes-over (λ f. f .movements) (λ v. v .accepted) (λ f v. refl) (λ r. r .accepted ≢ 0) (λ r v accepted answered shows. omega (arith, shows));
             by6 = passes-number 6 (λ f. f .by6) (λ f v. refl);
             by11 = passes-number 11 (λ f. f .by11) (λ f v. refl);
             by12 = passes-number 12 (λ f. f .by12) (λ f v. refl);

@@ -1,13 +1,12 @@
 -- What is accepted at a marking is not dead: alone, in a list that leads somewhere, in a step; and what the complement accepts beside it, the net accepts.
 use Prim.Native.Nat.{ℕ, zero, suc, _<_}
 use mathlib.Core.Path.{_≡_, refl, sym, _∙_, ap, subst}
-use mathlib.Core.Bool.{Bool, true, false, true≢false}
+use mathlib.Core.Bool.{true, false, true≢false}
 use mathlib.Core.List.{List}
 use mathlib.Core.Logic.{_≢_}
 use mathlib.Core.Option.{Option, none, some}
 use lib.ListN.{length, take, getD}
 use lib.Seq.{take-length}
-use native.Mathlib.Omega.{arith}
 use native.Mathlib.Nat.{le-of-suc-le-suc, not-suc-le-zero}
 use Rattle.model.specs.declared.Mode.{Mode}
 use Rattle.model.specs.declared.Thing.{Thing}
@@ -36,16 +35,16 @@ use Rattle.fire.proofs.Promises.{start-marks}
 use Rattle.run.specs.Calls.{beforeRun, runOf, certifyRefusal}
 use Rattle.run.proofs.Promises.{runs-leave, certified}
 use Rattle.step.specs.Calls.{stepModes, testStepRefusal}
-use Rattle.dead.specs.IsDead.{told, deadness, deadRefusal, deadnessOf}
+use Rattle.dead.specs.IsDead.{told, deadnessOf}
 use Rattle.promises.proofs.Accepting.{number-none}
 use Rattle.promises.proofs.DemandOne.{demand-one}
-use Rattle.promises.proofs.DeadAsWritten.{dead-as-written}
+use Rattle.promises.proofs.StepFrauds.{step-accepted-in}
+use Rattle.promises.proofs.DeadAsWritten.{dead-there, dead-as-written}
 use Rattle.together.specs.Wrote.{ComplementWrote}
 use Rattle.together.specs.Reached.{ReachedBeside}
 use Rattle.together.specs.NeverFires.{Among, NeverFiresAt, DeadNeverFire, FiresElsewhere}
 use Rattle.together.proofs.Written.{answers, is-written, run-alike, salvages}
 use Rattle.together.proofs.Beside.{test-back, steps-agree, kept, first-beside}
-use Rattle.together.proofs.Steps.{step-asked}
 
 -- a run of a sheet from the first marking that is not refused accepts every movement of it
 module _ (net : List ℕ) (t : Mode) (none-accepted : (movements : List ℕ) → wholeNet net ≡ none → ¬ Among t (take (runOf net movements (netOf net .start) .accepted) (movementsOf movements))) where
@@ -114,7 +113,7 @@ module _ (net : List ℕ) (t : Mode) (dead : isDead (netOf net) t ≡ true) wher
   unfolding testStepRefusal
   dead-step m modes among e =
       let marked = marking-test (netOf net) m .0 (left-none _ _ (right-none (wholeNet net) _ e)) in
-      not-live (subst (λ u. isDead (netOf net) u ≡ false) (among .2) (step-members (netOf net) (stepModes modes) m (λ _. marked) (step-asked net m modes e) (among .0) (among .1)))
+      not-live (subst (λ u. isDead (netOf net) u ≡ false) (among .2) (step-members (netOf net) (stepModes modes) m (λ _. marked) (step-accepted-in net m modes e) (among .0) (among .1)))
 
   dead-run : (movements m : List ℕ) → ¬ Among t (take (runOf net movements m .accepted) (movementsOf movements))
   unfolding beforeRun
@@ -146,15 +145,10 @@ module _ (net sheet : List ℕ) (w : ComplementWrote net sheet) (t : Mode) (dead
   beside-silent = silent sheet t Here beside-test beside-step beside-run (λ _. (netOf net .start, first-beside net sheet w))
 
 -- of a mode that the call says yes of
-says-yes : (o : Option Refusal) (dead : Bool) → told (deadness o dead) .value ≡ some true → dead ≡ true
-says-yes none true e = refl
-says-yes none false e = let z : _≡_ {A = ℕ} 0 1 = cc in absurd (omega arith)
-says-yes (some r) dead e = let z : _≡_ {A = ℕ} 0 1 = cc in absurd (omega arith)
-
 pub dead-never-fire : DeadNeverFire
 dead-never-fire net t o a e =
     let says : told (deadnessOf net t) .value ≡ some true = ap (λ r. r .value) (sym (ap told a) ∙ e) in
-    let dead = says-yes (deadRefusal net t) (isDead (netOf net) t) says in
+    let dead = dead-there net t says .1 in
     record {
       inNet = silent net t (λ m. Unit {0}) (λ m h. dead-test net t dead m) (λ m modes h. dead-step net t dead m modes) (λ movements m h. dead-run net t dead movements m) (λ _. tt);
       inComplement = λ sheet w. beside-silent net sheet w t dead;

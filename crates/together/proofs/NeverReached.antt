@@ -6,7 +6,7 @@ use mathlib.Core.List.{List, [], _∷_}
 use mathlib.Core.Logic.{_≢_}
 use mathlib.Core.Option.{Option, none, some}
 use lib.Dec.{eqb}
-use lib.IntN.{ℤ, pos, _+ℤ_, +ℤ-idr}
+use lib.IntN.{ℤ, pos, +ℤ-idr}
 use lib.ListN.{length, getD}
 use native.Mathlib.Omega.{arith}
 use Rattle.model.specs.declared.Mode.{Mode}
@@ -36,11 +36,12 @@ use Rattle.step.specs.Calls.{stepModes, testStepRefusal, steppedBy}
 use Rattle.exclude.specs.Calls.{excludeRefusal}
 use Rattle.exclude.proofs.Promises.{excluded-exactly}
 use Rattle.promises.proofs.Accepting.{number-none}
+use Rattle.promises.proofs.StepFrauds.{step-accepted-in}
 use Rattle.promises.proofs.Exclusion.{no-list-leads, no-sheet-certifies}
 use Rattle.together.specs.Reached.{Reached, begun, fired, stepped, ran, ReachedAccepted}
 use Rattle.together.specs.NeverReached.{NeverReached}
 use Rattle.together.proofs.Written.{salvages}
-use Rattle.together.proofs.Steps.{step-asked, step-keeps, figure-stepped}
+use Rattle.together.proofs.Steps.{step-keeps, figure-stepped}
 
 -- where begin is accepted it leaves the first marking
 begun-is : (net m : List ℕ) (told : Answer) → told ≡ answer (beginRefusal net m) → number told ≡ 0 → beginRefusal net m ≡ none
@@ -79,7 +80,7 @@ module _ (net : List ℕ) (weights : List ℤ) (b : Balanced (netOf net) weights
     where
       go : (o : Option Refusal) → testStepRefusal net m modes ≡ o → weighs (steppedBy net m modes) ≡ weighs m
       go none e =
-          let f = step-asked net m modes e in
+          let f = step-accepted-in net m modes e in
           let ts = stepModes modes in
           rw e
           (figure-stepped (netOf net) weights ts m f

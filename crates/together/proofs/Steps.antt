@@ -12,13 +12,13 @@ use Rattle.model.specs.Markings.{Marking, markingRefusal}
 use Rattle.model.specs.Firing.{fired}
 use Rattle.model.specs.Figures.{weight, figure, changes}
 use Rattle.model.specs.Steps.{together, stepRefusal, firedTogether}
-use Rattle.model.proofs.First.{right-none}
 use Rattle.model.proofs.Markings.{marking-test, fired-at}
 use Rattle.model.proofs.Figures.{sum-ext, figure-fired}
 use Rattle.model.proofs.Rooms.{kept-within}
 use Rattle.model.proofs.Steps.{step-accepted, step-fired-at, step-fired-length}
 use Rattle.sheets.specs.Decoded.{netOf}
 use Rattle.step.specs.Calls.{stepModes, testStepRefusal, steppedBy}
+use Rattle.promises.proofs.StepFrauds.{step-accepted-in}
 
 step-marks : (net : PNet) (ts : List Mode) (m : List ℕ) → stepRefusal net ts m ≡ none → Marking net (firedTogether net ts m)
 step-marks net ts m e =
@@ -29,16 +29,12 @@ step-marks net ts m e =
       within = λ p h. rw (step-fired-at net ts m p h) (kept-within (net .rule) (K net p) (together net ts p) (count m p) (passes .enough p h) (passes .room p h));
     }
 
-pub step-asked : (net m modes : List ℕ) → testStepRefusal net m modes ≡ none → stepRefusal (netOf net) (stepModes modes) m ≡ none
-unfolding testStepRefusal
-step-asked net m modes e = right-none _ _ (right-none _ _ e)
-
 pub step-keeps : (net m modes : List ℕ) → markingRefusal (netOf net) m ≡ none → markingRefusal (netOf net) (steppedBy net m modes) ≡ none
 step-keeps net m modes a = go (testStepRefusal net m modes) refl
   where
     go : (o : Option Refusal) → testStepRefusal net m modes ≡ o → markingRefusal (netOf net) (steppedBy net m modes) ≡ none
     go none e =
-        rw e (marking-test (netOf net) (firedTogether (netOf net) (stepModes modes) m) .1 (step-marks (netOf net) (stepModes modes) m (step-asked net m modes e)))
+        rw e (marking-test (netOf net) (firedTogether (netOf net) (stepModes modes) m) .1 (step-marks (netOf net) (stepModes modes) m (step-accepted-in net m modes e)))
     go (some r) e = rw e a
 
 -- the figure is of the counts alone

@@ -1,5 +1,6 @@
 -- Every statement, with its one term.
 use Rattle.promises.proofs.EqualNets.{equal-nets}
+use Rattle.promises.proofs.Exchange.{complement-then-export}
 use Rattle.together.specs.Together.{Together}
 use Rattle.together.proofs.NeverReached.{reached-accepted, never-reached}
 use Rattle.together.proofs.FigureStepped.{figure-after-step}
@@ -9,7 +10,7 @@ use Rattle.together.proofs.Frauds.{more-frauds}
 use Rattle.together.proofs.Beside.{in-step}
 use Rattle.together.proofs.SalvagesAlike.{salvages-alike}
 use Rattle.together.proofs.StripsThenComplements.{strips-then-complements, no-strip-after}
-use Rattle.together.proofs.Exchanged.{complements-export, comes-back, complement-comes-back}
+use Rattle.together.proofs.Exchanged.{moves-as-before, complement-comes-back}
 
 pub together : Together
 together =
@@ -24,8 +25,8 @@ together =
       firesElsewhere = fires-elsewhere;
       stripsThenComplements = strips-then-complements;
       noStripAfter = no-strip-after;
-      complementsExport = complements-export;
-      comesBack = comes-back;
+      complementThenExport = complement-then-export;
+      movesAsBefore = moves-as-before;
       complementComesBack = complement-comes-back;
       equalNets = equal-nets;
       moreFrauds = more-frauds;

@@ -1,13 +1,8 @@
--- Exchange with PNML tools (document 02, P5): every complement can be exported, and what comes back by import moves as what was exported did.
-use Prim.Native.Nat.{ℕ, _≤_}
-use mathlib.Core.Path.{_≡_}
+-- Exchange with PNML tools (document 02, P5): what comes back by import moves as what was exported did. That import accepts it, and that its text is the same,
+-- is in promises/specs/Exchange.antt.
+use Prim.Native.Nat.{ℕ}
 use mathlib.Core.List.{List}
-use mathlib.Core.Logic.{_≢_}
-use lib.ListN.{length}
 use Rattle.model.specs.declared.Mode.{Mode}
-use Rattle.model.specs.Replies.{yields}
-use Rattle.model.specs.Nets.{pairs, modes}
-use Rattle.sheets.specs.Decoded.{netOf}
 use Rattle.fire.specs.Contracts.{BeginAllows, TestAllows, FireAllows}
 use Rattle.run.specs.Contracts.{RunAllows, CertifyAllows}
 use Rattle.step.specs.Contracts.{TestStepAllows, FireStepAllows}
@@ -18,26 +13,11 @@ use Rattle.exclude.specs.Contracts.{ExcludeAllows}
 use Rattle.dead.specs.Contracts.{IsDeadAllows, FirstDeadAllows}
 use Rattle.size.specs.Contracts.{SizeAllows}
 use Rattle.salvage.specs.Contracts.{SalvageAllows}
-use Rattle.export.specs.declared.Exported.{Exported}
-use Rattle.export.specs.Exports as exporting
-use Rattle.export.specs.Contracts.{ExportPnmlAllows}
-use Rattle.import.specs.declared.Imported.{Imported}
-use Rattle.import.specs.Imports as importing
-use Rattle.import.specs.Contracts.{ImportPnmlAllows}
 use Rattle.promises.specs.EqualNets.{Within}
 use Rattle.promises.specs.TwoRuns.{RunAlike}
 use Rattle.together.specs.Wrote.{ComplementWrote, ExportWrote, ImportWrote}
 
--- 1. "such as our complements": 19 is never given to one; it is exported wherever there is room
-pub record Exports (sheet : List ℕ) : Type 0 where
-  pub never19 : (out : List ℕ) (o : Exported × List ℕ) → ExportPnmlAllows sheet out o → exporting.told (o .0) .carried .number ≢ 19
-  pub written : (out : List ℕ) → length (exporting.exportText sheet) ≤ length out
-      → (o : Exported × List ℕ) → ExportPnmlAllows sheet out o → exporting.told (o .0) ≡ yields (length (exporting.exportText sheet))
-
-abbrev pub ComplementsExport : Type 0
-ComplementsExport = (net sheet : List ℕ) → ComplementWrote net sheet → Exports sheet
-
--- 2. A net sheet and the one that came back of it, whose places and transitions are others, and whose rule may be. A field for each call that asks of a net what
+-- 1. A net sheet and the one that came back of it, whose places and transitions are others, and whose rule may be. A field for each call that asks of a net what
 -- its pairs and modes do; a contract allows one outcome (`Uniqueness`), so that each holds both ways.
 pub record MovesAlike (sheet back : List ℕ) : Type 0 where
   pub begin : (m : List ℕ) → Within (BeginAllows sheet m) (BeginAllows back m)
@@ -57,17 +37,9 @@ pub record MovesAlike (sheet back : List ℕ) : Type 0 where
   pub firstDead : Within (FirstDeadAllows sheet) (FirstDeadAllows back)
   pub size : Within (SizeAllows sheet) (SizeAllows back)
 
-pub record Returns (sheet text : List ℕ) : Type 0 where
-  -- "A net of at most 64 pairs and 64 modes": import accepts its text wherever there is room
-  pub accepted : pairs (netOf sheet) ≤ 64 → modes (netOf sheet) ≤ 64 → (out : List ℕ) → length (importing.importedSheet (netOf sheet)) ≤ length out
-      → (o : Imported × List ℕ) → ImportPnmlAllows text out o → importing.told (o .0) ≡ yields (length (importing.importedSheet (netOf sheet)))
-  pub alike : (back : List ℕ) → ImportWrote text back → MovesAlike sheet back
-  -- and its text is the same
-  pub again : (back text′ : List ℕ) → ImportWrote text back → ExportWrote back text′ → text′ ≡ text
+abbrev pub MovesAsBefore : Type 0
+MovesAsBefore = (sheet text back : List ℕ) → ExportWrote sheet text → ImportWrote text back → MovesAlike sheet back
 
-abbrev pub ComesBack : Type 0
-ComesBack = (sheet text : List ℕ) → ExportWrote sheet text → Returns sheet text
-
--- 3. Demand 3 over the exchange: a net runs alike with its complement as it came back.
+-- 2. Demand 3 over the exchange: a net runs alike with its complement as it came back.
 abbrev pub ComplementComesBack : Type 0
 ComplementComesBack = (net sheet text back : List ℕ) → ComplementWrote net sheet → ExportWrote sheet text → ImportWrote text back → RunAlike net back

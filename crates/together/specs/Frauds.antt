@@ -39,8 +39,8 @@ AsBeforeP2 = (net : List ℕ) (t : Mode) (p k : ℕ) → netOf net .rule ≡ Str
 
 -- A fleet statement that passes over what a counted ship's own run says (P13): the movements accepted, or the number that refused the next.
 abbrev pub PassesOver : (Ran → Type 0) → (Fleet → ℕ) → Type 0
-PassesOver Says total = (found : Fleet) (s : Ship) (o : Answer × Fleet) → AddShipAllows found (s .net) (s .weights) (s .movements) o → number (o .0) ≡ 0
-    → (ran : Ran × List ℕ) → RunAllows (s .net) (s .movements) (netOf (s .net) .start) ran → Says (ran .0) → total (o .1) ≢ total found
+PassesOver Shows field = (found : Fleet) (s : Ship) (o : Answer × Fleet) → AddShipAllows found (s .net) (s .weights) (s .movements) o → number (o .0) ≡ 0
+    → (ran : Ran × List ℕ) → RunAllows (s .net) (s .movements) (netOf (s .net) .start) ran → Shows (ran .0) → field (o .1) ≢ field found
 
 pub record FleetPassesOver : Type 0 where
   pub movements : PassesOver (λ r. r .accepted ≢ 0) (λ f. f .movements)

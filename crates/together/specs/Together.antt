@@ -1,6 +1,7 @@
 -- What holds of the requests of document 02 together, in one record: open this file first. What each call promises by itself is in promises/specs/Promises.antt.
 -- A field is a statement, of the file that its `use` line names; its term is in proofs/.
 use Rattle.promises.specs.EqualNets.{EqualNets}
+use Rattle.promises.specs.Exchange.{ComplementThenExport}
 use Rattle.together.specs.Reached.{ReachedAccepted}
 use Rattle.together.specs.InStep.{InStep}
 use Rattle.together.specs.FigureStepped.{FigureStepped}
@@ -10,7 +11,7 @@ use Rattle.together.specs.FleetOfRuns.{FleetOfRuns}
 use Rattle.together.specs.Frauds.{MoreFrauds}
 use Rattle.together.specs.SalvagesAlike.{SalvagesAlike}
 use Rattle.together.specs.StripsThenComplements.{StripsThenComplements, NoStripAfter}
-use Rattle.together.specs.Exchanged.{ComplementsExport, ComesBack, ComplementComesBack}
+use Rattle.together.specs.Exchanged.{MovesAsBefore, ComplementComesBack}
 
 pub record Together : Type 0 where
   -- of one net: markings that calls leave, one after another; weights, dead modes and ships
@@ -25,11 +26,11 @@ pub record Together : Type 0 where
   pub firesElsewhere : FiresElsewhere
   pub stripsThenComplements : StripsThenComplements
   pub noStripAfter : NoStripAfter
-  -- of a net and what comes back of its text
-  pub complementsExport : ComplementsExport
-  pub comesBack : ComesBack
+  -- of a net, its text and what comes back of that
+  pub complementThenExport : ComplementThenExport
+  pub movesAsBefore : MovesAsBefore
   pub complementComesBack : ComplementComesBack
-  -- of two sheets of one net, over every call that takes a net sheet
+  -- of two sheets of one net, over every call that takes a net sheet but the conversions, which "may differ" (P9)
   pub equalNets : EqualNets
   -- of the contracts of the calls
   pub moreFrauds : MoreFrauds

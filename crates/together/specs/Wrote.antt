@@ -18,7 +18,7 @@ use Rattle.salvage.specs.declared.Salvaged.{Salvaged}
 use Rattle.salvage.specs.Salvaged as salvaging
 use Rattle.salvage.specs.Contracts.{SalvageAllows}
 
-pub record Wrote {A : Type 0} (Allows : List ℕ → A × List ℕ → Type 0) (told : A → Reply ℕ) (bytes : List ℕ) : Type 0 where
+pub record CallWrote {A : Type 0} (Allows : List ℕ → A × List ℕ → Type 0) (told : A → Reply ℕ) (bytes : List ℕ) : Type 0 where
   pub out : List ℕ
   pub outcome : A × List ℕ
   pub allowed : Allows out outcome
@@ -27,17 +27,17 @@ pub record Wrote {A : Type 0} (Allows : List ℕ → A × List ℕ → Type 0) (
 
 -- of a net sheet, the sheet of its complement; and the sheet with a transition more that strips a pair bare
 abbrev pub ComplementWrote : List ℕ → List ℕ → Type 0
-ComplementWrote net sheet = Wrote (ComplementAllows net) complementing.told sheet
+ComplementWrote net sheet = CallWrote (ComplementAllows net) complementing.told sheet
 
 abbrev pub StripWrote : List ℕ → Pair → List ℕ → Type 0
-StripWrote net p sheet = Wrote (StripAllows net p) stripping.told sheet
+StripWrote net p sheet = CallWrote (StripAllows net p) stripping.told sheet
 
 -- of a net sheet, its text in PNML; and of a text, a net sheet
 abbrev pub ExportWrote : List ℕ → List ℕ → Type 0
-ExportWrote net text = Wrote (ExportPnmlAllows net) exporting.told text
+ExportWrote net text = CallWrote (ExportPnmlAllows net) exporting.told text
 
 abbrev pub ImportWrote : List ℕ → List ℕ → Type 0
-ImportWrote text sheet = Wrote (ImportPnmlAllows text) importing.told sheet
+ImportWrote text sheet = CallWrote (ImportPnmlAllows text) importing.told sheet
 
 -- of damaged bytes, a fresh movement sheet, and what is reported of it
 pub record SalvageWrote (net damaged sheet : List ℕ) (report : Report) : Type 0 where

@@ -5,13 +5,13 @@ use Prim.Native.Nat.{_≤_, _-_}
 use mathlib.Core.Path.{_∙_, ap}
 use lib.ListN.{length}
 use Rattle.sheets.specs.Decoded.{netOf}
-use Rattle.numbers.specs.OnePass.{Wrote}
+use Rattle.numbers.specs.OnePass.{PassedAndWritten}
 use Rattle.numbers.proofs.OnePass.{to-length, to-writable, wrote-none, wrote-more, through-stops, through-ends}
 use Rattle.numbers.proofs.fire_through.Statement.{statement}
 use Rattle.numbers.proofs.fire_through.Tie as tie
 
 abbrev Inv-loop : tie.InvT-loop
-Inv-loop s net numbers arcs marking₀ count i₀ marking i = (i ≤ count) × Wrote (netOf s) arcs i marking₀ marking
+Inv-loop s net numbers arcs marking₀ count i₀ marking i = (i ≤ count) × PassedAndWritten (netOf s) arcs i marking₀ marking
 
 abbrev μ-loop : tie.MeasureT-loop
 μ-loop s net numbers arcs marking₀ count i₀ marking i = count - i

@@ -6,14 +6,14 @@ use mathlib.Core.List.{List}
 use lib.ListN.{length}
 use native.Mathlib.Omega.{arith}
 use Rattle.sheets.specs.Decoded.{netOf}
-use Rattle.numbers.specs.OnePass.{writtenTo, Wrote}
+use Rattle.numbers.specs.OnePass.{writtenTo, PassedAndWritten}
 use Rattle.numbers.proofs.OnePass.{to-length, wrote-at, Back, last-back}
 use Rattle.numbers.proofs.take_back.Statement.{statement}
 use Rattle.numbers.proofs.take_back.Tie as tie
 
 abbrev Inv-loop : tie.InvT-loop
 Inv-loop s net arcs written marking₀ i₀ marking i =
-    (i ≤ written) × ((m : List ℕ) → Wrote (netOf s) arcs written m marking₀ → marking ≡ writtenTo (netOf s) arcs i m)
+    (i ≤ written) × ((m : List ℕ) → PassedAndWritten (netOf s) arcs written m marking₀ → marking ≡ writtenTo (netOf s) arcs i m)
 
 abbrev μ-loop : tie.MeasureT-loop
 μ-loop s net arcs written marking₀ i₀ marking i = i
@@ -28,7 +28,7 @@ arc-requires c κs =
 
 -- the arc that is taken back, whichever marking it was at
 abbrev Found : tie.Start Inv-loop μ-loop → List ℕ → Type 0
-Found c m = Wrote (netOf (c .args .s .now)) (c .args .arcs) (c .args .written) m (c .args .marking .now)
+Found c m = PassedAndWritten (netOf (c .args .s .now)) (c .args .arcs) (c .args .written) m (c .args .marking .now)
 
 back : (c : tie.After-arc Inv-loop μ-loop) → let start = c .before .before .before .before .before in let l = c .before .before .loop in
     (m : List ℕ) → Found start m → Back (c .arc .result) (l .marking) (writtenTo (netOf (start .args .s .now)) (start .args .arcs) (l .i - 1) m)
