@@ -1,5 +1,5 @@
--- Document 02, P9: "equal nets answer equally; only offsets in the net sheet, the sheets written and their lengths, refusal 10 for a short output .. may
--- differ". A field for each call that takes a net sheet, for all else that it may be given.
+-- Document 02, P9: "equal nets answer equally; only offsets in the net sheet, the sheets written and their lengths, refusal 10 for a short output, and the
+-- conversions may differ". A field for each call that takes a net sheet, but the conversions, for all else that it may be given.
 use Prim.Native.Nat.{ℕ, _≤_, _<_}
 use mathlib.Core.Path.{_≡_}
 use mathlib.Core.List.{List, _++_}
