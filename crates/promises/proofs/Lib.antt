@@ -12,6 +12,8 @@ pub mod StripWritten
 pub mod EqualNets
 pub mod EqualNetsForC
 pub mod Positions
+pub mod RefusalSizes
+pub mod TextLength
 pub mod TextRoom
 pub mod Stripping
 pub mod Exchange

@@ -1,5 +1,5 @@
 -- `PNET_LARGEST_PNML`: a slice of 467,928 bytes holds the text in PNML of every net that can be exported.
-use Prim.Native.Nat.{ℕ, _≤_}
+use Prim.Native.Nat.{_≤_}
 use lib.ListN.{length}
 use Rattle.model.specs.Nets.{PNet}
 use Rattle.pnml.specs.Pnml.{Exportable, pnml}
