@@ -12,9 +12,12 @@ pub mod StripWritten
 pub mod EqualNets
 pub mod EqualNetsForC
 pub mod Positions
+pub mod RefusalSizes
+pub mod TextLength
 pub mod TextRoom
 pub mod Stripping
 pub mod Exchange
+pub mod LongestText
 pub mod OwnExample
 pub mod ConstantAnswers
 pub mod ConstantAnswersForC

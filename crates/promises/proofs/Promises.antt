@@ -56,6 +56,7 @@ use Rattle.promises.proofs.Audits.{audits}
 use Rattle.promises.proofs.Positions.{positions}
 use Rattle.promises.proofs.Stripping.{stripping}
 use Rattle.promises.proofs.Exchange.{export-then-import, import-then-export, complement-then-export}
+use Rattle.promises.proofs.LongestText.{longest-text}
 use Rattle.promises.proofs.FigureOverRun.{figure-over-run}
 use Rattle.promises.proofs.ArcsVisited.{arcs-visited}
 use Rattle.promises.proofs.LiveModes.{live-modes}
@@ -163,6 +164,7 @@ promises =
       exportThenImport = export-then-import;
       importThenExport = import-then-export;
       complementThenExport = complement-then-export;
+      longestText = longest-text;
       listWrittenThenRead = list-written-then-read;
       listReadThenWritten = list-read-then-written;
       salvagedRuns = salvaged-runs;

@@ -6,15 +6,12 @@ use mathlib.Core.Logic.{⊎-elim, _≢_}
 use lib.ListN.{length}
 use native.Mathlib.Omega.{arith}
 use borrow.Author.Tests.{lt-ltb, le-ltb}
-use Rattle.model.specs.Replies.{yields}
 use Rattle.model.proofs.First.{below-or}
-use Rattle.statement.specs.declared.Stated.{Stated}
 use Rattle.statement.specs.declared.Stated.the-variants.{Written, NoRoom}
 use Rattle.statement.specs.Replay.{room, replayText, stated}
-use Rattle.statement.proofs.Stating.{written-within}
 use Rattle.answers.specs.Told.{textTold, counted}
 use Rattle.promises.specs.TextRoom.{ByRoom, TextRoom}
-use Rattle.promises.proofs.TwoRuns.{length-is}
+use Rattle.promises.proofs.TextLength.{text-most}
 
 by-room : {A : Type 0} {told refused accepted : A} (out : List ℕ) → refused ≢ accepted
     → (length out < room → told ≡ refused) → (room ≤ length out → told ≡ accepted) → ByRoom told refused accepted out
@@ -33,11 +30,6 @@ module _ (input out : List ℕ) where
   unfolding stated
   all-written l = rw (le-ltb (length out) room l)
 
--- a number of bytes is told of what was written alone
-written-told : (s : Stated) (n : ℕ) → textTold s ≡ yields n → s ≡ Written n
-written-told (Written m) n e = ap Written (length-is e)
-written-told NoRoom n e = let z : _≡_ {A = ℕ} 10 0 = ap (λ r. r .carried .number) e in absurd (omega arith)
-
 pub text-room : TextRoom
 text-room =
     record {
@@ -49,5 +41,5 @@ text-room =
           by-room out (λ e. absurd (omega arith))
           (λ l. ap (λ t. t .answer .number) (a .0) ∙ ap (λ s. counted (textTold s) .answer .number) (no-room input out l))
           (λ l. ap (λ t. t .answer .number) (a .0) ∙ ap (λ s. counted (textTold s) .answer .number) (all-written input out l));
-      within = λ input out o a kept n e. let w = written-within input out a (written-told (o .0) n e) in omega arith;
+      longest = text-most;
     }

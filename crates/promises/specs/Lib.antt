@@ -18,6 +18,7 @@ pub mod Positions
 pub mod TextRoom
 pub mod Stripping
 pub mod Exchange
+pub mod LongestText
 pub mod OwnExample
 pub mod ConstantAnswers
 pub mod ConstantAnswersForC

@@ -39,6 +39,7 @@ use Rattle.promises.specs.Audits.{Audits}
 use Rattle.promises.specs.Positions.{Positions}
 use Rattle.promises.specs.Stripping.{Stripping}
 use Rattle.promises.specs.Exchange.{ExportThenImport, ImportThenExport, ComplementThenExport}
+use Rattle.promises.specs.LongestText.{LongestText}
 use Rattle.promises.specs.FigureOverRun.{FigureOverRun}
 use Rattle.promises.specs.ArcsVisited.{ArcsVisited}
 use Rattle.promises.specs.LiveModes.{LiveModes}
@@ -147,6 +148,7 @@ pub record Promises : Type 0 where
   pub exportThenImport : ExportThenImport
   pub importThenExport : ImportThenExport
   pub complementThenExport : ComplementThenExport
+  pub longestText : LongestText
   pub listWrittenThenRead : salvage.ListWrittenThenRead
   pub listReadThenWritten : salvage.ListReadThenWritten
   pub salvagedRuns : salvage.SalvagedRuns

@@ -1,17 +1,18 @@
 -- The text of `replay` in a slice that the caller lends: 10, "the output slice is shorter than it", exactly where the slice has less than 262,144 bytes,
--- whatever the input; and so many hold every text.
+-- whatever the input; and no input of bytes has a longer text.
 use Prim.Native.Nat.{ℕ, _≤_, _<_}
 use mathlib.Core.Path.{_≡_}
 use mathlib.Core.List.{List}
 use mathlib.Core.Logic.{_↔_}
 use lib.ListN.{length}
 use Rattle.model.specs.Refusals.{carries}
-use Rattle.model.specs.Replies.{yields}
 use Rattle.statement.specs.declared.Stated.{Stated}
 use Rattle.statement.specs.Contracts.{StatementAllows}
+use Rattle.statement.specs.Replay.{replayText}
 use Rattle.answers.specs.declared.Counted.{Counted}
 use Rattle.answers.specs.Told.{textTold}
 use Rattle.abi.specs.Contracts as forC
+use Rattle.promises.specs.EqualNets.{Bytes}
 
 -- what is told is a refusal's where the slice is shorter, and an acceptance's where it is not
 pub record ByRoom {A : Type 0} (told refused accepted : A) (out : List ℕ) : Type 0 where
@@ -22,6 +23,5 @@ pub record TextRoom : Type 0 where
   pub statement : (input out : List ℕ) (o : Stated × List ℕ) → StatementAllows input out o
       → ByRoom (textTold (o .0) .carried) (carries 10 0 0) (carries 0 0 0) out
   pub statementForC : (input out : List ℕ) (o : Counted × List ℕ) → forC.StatementAllows input out o → ByRoom (o .0 .answer .number) 10 0 out
-  -- a lent slice keeps its length: what is written lies within it
-  pub within : (input out : List ℕ) (o : Stated × List ℕ) → StatementAllows input out o → length (o .1) ≡ length out
-      → (n : ℕ) → textTold (o .0) ≡ yields n → n ≤ length out
+  -- so many bytes hold every text
+  pub longest : (input : List ℕ) → Bytes input → length (replayText input) ≤ 262144
