@@ -31,7 +31,7 @@ pub length-accepted : (o : Option Refusal) (l : ℕ) {n : ℕ} → told (complem
 length-accepted o l e = yielded (λ o. told (complemented o l)) l refl (λ r. refl) o e .0
 
 -- two answers of one length
-length-is : {l n : ℕ} → yields l ≡ yields n → l ≡ n
+pub length-is : {l n : ℕ} → yields l ≡ yields n → l ≡ n
 length-is {l} {n} e = let v : some l ≡ some n = ap (λ r. r .value) e in cc
 
 pub written : (net out : List ℕ) {n : ℕ} → complementingRefusal net (length out) ≡ none → told (complementOf net out) ≡ yields n → WrittenComplement net out n
