@@ -1,8 +1,8 @@
 #!/usr/bin/env python3
-"""Turns the lists of this folder (*.txt, in the order of their names) into what the program `cases` reads and must write: crates/cases/stdin and stdout.
+"""Turns the lists of this folder (*.txt, in the order of their names) into what the program cases.c reads, on standard output.
 
-    python3 tests/cases/make.py           writes both
-    python3 tests/cases/make.py --check   compares them with what is stored, and the longest run with longest_run.py: the gate
+    python3 tests/cases/make.py           every case; compares the longest run with longest_run.py first
+    python3 tests/cases/make.py --wrong   of the first case of each call, one for each number, count and byte that it expects, with that one changed: all must differ
 
 A list has, each with its lines below it, indented; `#` starts a comment, which says where an expected value stands:
 
@@ -20,11 +20,10 @@ A list has, each with its lines below it, indented; `#` starts a comment, which 
     both NET, COMPLEMENT   a row is a marking, `|` and the counts of its complement pairs, a mode, and `to` the marking after, or the refusals: `13 at 0 amount 1 | 11 at 2 amount 1`.
                         Each is tested and fired, in the net and in its complement: four cases.
 
-Sheets at the limits are made by limits.py, those of both versions by versions.py, those that are stripped by stripping.py, damaged movement sheets by damaged.py, texts in PNML by texts.py, by name; `refit` is the net of examples/refit, `blasted` the same stripped of its pigs forward. A call is added in two places: a row of CALLS, and an arm with its number in crates/cases/src/calls.rt, in the
-group that tells what it tells. A call that tells something new gets a group, a function in src/told.rt and a line in answer_of.
+Sheets at the limits are made by limits.py, those of both versions by versions.py, those that are stripped by stripping.py, damaged movement sheets by damaged.py, texts in PNML by texts.py, by name; `refit` is the net of examples/refit, `blasted` the same stripped of its pigs forward. A call is added in two places: a row of CALLS, and a line of cases.c. A call that tells something new gets a function there and a line in answer_of.
 
-A case in stdin is the length of what follows, then eight parts, a length before each: call, number and room; name; first and second run of bytes, where the modes of
-a step and a complement's marking are counts; counts lent; what is told; counts after; bytes written. Lengths and numbers are 4 bytes, big-endian."""
+A case is nine parts, a length before each: call; a number and the room; name; first and second run of bytes, where the modes of a step and a complement's marking are counts;
+counts lent; what is told; counts after; bytes written. Lengths and numbers are 4 bytes, big-endian, those told 8."""
 import pathlib, re, struct, sys
 
 here = pathlib.Path(__file__).resolve().parent
@@ -33,32 +32,32 @@ sys.path[:0] = [str(here), str(top / "examples")]
 import damaged, limits, longest_run, stripping, texts, versions
 from sheets import UNBOUNDED, encode_movements as movements, encode_net as net, encode_weights as weights
 
-# The call's number, and the words that name its first and its second run of bytes.
+# The words that name a call's first and its second run of bytes.
 CALLS = {
-    "begin": (0, "net", ""),
-    "test": (1, "net", ""),
-    "fire": (2, "net", ""),
-    "certify": (3, "net", "movements"),
-    "test_step": (4, "net", "modes"),
-    "fire_step": (5, "net", "modes"),
-    "exclude": (6, "net", "weights"),
-    "read_net": (16, "net", ""),
-    "read_weights": (17, "weights", ""),
-    "read_movements": (18, "movements", ""),
-    "complement": (19, "net", ""),
-    "to_version_2": (20, "net", ""),
-    "to_version_1": (21, "net", ""),
-    "strip": (22, "net", ""),
-    "export_pnml": (23, "net", ""),
-    "import_pnml": (24, "text", ""),
-    "figure": (32, "net", "weights"),
-    "change": (33, "net", "weights"),
-    "is_dead": (48, "net", ""),
-    "first_dead": (49, "net", ""),
-    "audit": (50, "net", "beside"),
-    "run": (64, "net", "movements"),
-    "salvage": (80, "net", "movements"),
-    "salvage_stop": (81, "net", "movements"),
+    "begin": ("net", ""),
+    "test": ("net", ""),
+    "fire": ("net", ""),
+    "certify": ("net", "movements"),
+    "test_step": ("net", "modes"),
+    "fire_step": ("net", "modes"),
+    "exclude": ("net", "weights"),
+    "read_net": ("net", ""),
+    "read_weights": ("weights", ""),
+    "read_movements": ("movements", ""),
+    "complement": ("net", ""),
+    "to_version_2": ("net", ""),
+    "to_version_1": ("net", ""),
+    "strip": ("net", ""),
+    "export_pnml": ("net", ""),
+    "import_pnml": ("text", ""),
+    "figure": ("net", "weights"),
+    "change": ("net", "weights"),
+    "is_dead": ("net", ""),
+    "first_dead": ("net", ""),
+    "audit": ("net", "beside"),
+    "run": ("net", "movements"),
+    "salvage": ("net", "movements"),
+    "salvage_stop": ("net", "movements"),
 }
 
 sheets = dict(limits.SHEETS, **versions.SHEETS, **stripping.SHEETS, **damaged.SHEETS, **texts.SHEETS, **{name: (top / f"examples/refit/{file}.sheet").read_bytes() for name, file in (("refit", "net"), ("blasted", "blasted"))})
@@ -105,7 +104,7 @@ def pack(numbers):
 
 
 def add(name, call, arguments, told, after, written):
-    code, first, second = CALLS[call]
+    first, second = CALLS[call]
     known = {first, second, "marking", "mode", "pair", "pairs", "room"}
     lent = counts(arguments.get("marking", ""))
     left = lent if after is None else after
@@ -113,28 +112,17 @@ def add(name, call, arguments, told, after, written):
     assert len(left) == len(lent) and len(written) <= room and set(arguments) <= known, name
     runs = [pack(counts(arguments[word])) if word in ("modes", "beside") else bytes_of(arguments.get(word, "")) for word in (first, second)]
     argument = int(arguments.get("mode", arguments.get("pair", arguments.get("pairs", 0))))
-    parts = [pack([code, argument, room]), name.encode(), *runs, pack(lent), pack([*told, len(lent), room]), pack(left), written]
-    body = b"".join(pack([len(part)]) + part for part in parts)
-    cases.append((name, pack([len(body)]) + body))
+    cases.append([call.encode(), pack([argument, room]), name.encode(), *runs, pack(lent), struct.pack(">7q", *told), pack(left), written])
 
 
 def answer_of(call, line):
-    """What is told, as src/told.rt puts it."""
+    """Number, thing, position, amount and three numbers more, as cases.c has what is told."""
     found = re.fullmatch(r"(?:accepted|refused by (\d+)(?:, thing (\d+))?(?:, at (\d+))?(?:, amount (\d+))?)(?:, (value -?\d+|yes|no|mode \d+ pair \d+|pair \d+ excess -?\d+|ran \d+ arcs \d+|length \d+ kept \d+ dropped \d+))?", line)
     assert found, line
-    word, *rest = (found[5] or "no").split()
+    yielded = found[5] or "no"
     told = [int(number or 0) for number in found.groups()[:4]]
-    if word == "value":
-        told += [rest[0].startswith("-"), *divmod(abs(int(rest[0])), 2**32)]
-    elif word in ("mode", "ran"):
-        told += [word == "mode", int(rest[0]), int(rest[2])]
-    elif word == "length":
-        told += [int(rest[0]), int(rest[2]), int(rest[4])]
-    elif word == "pair":
-        high, low = divmod(abs(int(rest[2])), 2**32)
-        told += [1 + rest[2].startswith("-"), int(rest[0]) * 65536 + high, low]
-    else:
-        told += [word == "yes"]
+    told += [1] * (yielded == "yes" or yielded.split()[0] in ("mode", "pair"))
+    told += [int(number) for number in re.findall(r"-?\d+", yielded)]
     return [*told, *[0] * (7 - len(told))]
 
 
@@ -193,17 +181,23 @@ for file in sorted(here.glob("*.txt")):
                 block = []
             block.append(line.partition("#")[0])
 
-names = [name for name, _ in cases]
+names = [name for _, _, name, *_ in cases]
 assert len(set(names)) == len(names), [name for name in names if names.count(name) > 1]
-made = {
-    "stdin": b"".join(case for _, case in cases),
-    "stdout": "".join(f"{name}: ok\n" for name in names).encode() + b"%d cases, 0 differ\n" % len(cases),
-}
 longest_run.check(markings)
-for name, data in made.items():
-    stored = top / "crates/cases" / name
-    if sys.argv[1:] != ["--check"]:
-        stored.write_bytes(data)
-    elif not stored.exists() or stored.read_bytes() != data:
-        sys.exit(f"crates/cases/{name} is not what tests/cases/make.py writes")
-print(f"cases: {len(cases)} cases, {len(made['stdin'])} bytes")
+
+
+def wrong(case):
+    """The case with one thing that it expects changed: each number told, each count, each byte; and with the last byte not expected."""
+    *given, told, left, written = case
+    expected, counts_at, bytes_at = told + left + written, len(told), len(told + left)
+    for at in [*range(7, counts_at, 8), *range(counts_at + 3, bytes_at, 4), *range(bytes_at, len(expected))]:
+        changed = expected[:at] + bytes([expected[at] ^ 1]) + expected[at + 1 :]
+        yield [*given, changed[:counts_at], changed[counts_at:bytes_at], changed[bytes_at:]]
+    if written:
+        yield [*given, told, left, written[:-1]]
+
+
+if sys.argv[1:] == ["--wrong"]:
+    firsts = {call: [call, *rest] for call, *rest in reversed(cases)}
+    cases = [changed for case in firsts.values() for changed in wrong(case)]
+sys.stdout.buffer.write(b"".join(pack([len(part)]) + part for case in cases for part in case))
