@@ -57,9 +57,9 @@ use Rattle.fire.specs.Calls.{beginRefusal, testRefusal}
 use Rattle.run.specs.Calls.{beforeRun, runOf, certifyRefusal}
 use Rattle.step.specs.Calls.{stepModes, testStepRefusal}
 use Rattle.weigh.specs.Calls.{figureRefusal, changeRefusal}
-use Rattle.fleet.specs.declared.Fleet.{Fleet}
-use Rattle.fleet.specs.Ships.{Ship, voyageOf, withVoyage}
-use Rattle.fleet.specs.Calls.{recordRefusal, roomRefusal as shipRoom, figureRefusal as shipFigures, shipRefusal}
+use Rattle.ships.specs.declared.Fleet.{Fleet}
+use Rattle.ships.specs.Ships.{Ship, voyageOf, withVoyage}
+use Rattle.ships.specs.Entered.{recordRefusal, roomRefusal as shipRoom, figureRefusal as shipFigures, shipRefusal}
 use Rattle.fleet.proofs.Entering.{by-bounds, by-past}
 use Rattle.exclude.specs.Calls.{excludeRefusal}
 use Rattle.dead.specs.IsDead.{deadRefusal}

@@ -57,9 +57,9 @@ use Rattle.run.specs.Calls.{ranOf, beforeRun, runOf, visitedBy, certifyRefusal}
 use Rattle.step.specs.Calls.{stepModes, testStepRefusal}
 use Rattle.weigh.specs.Calls as weigh
 use Rattle.weigh.specs.Calls.{figured, figureRefusal, changeRefusal}
-use Rattle.fleet.specs.Ships.{ship, addedBy, removedBy, voyageOf, withVoyage}
-use Rattle.fleet.specs.Calls.{recordRefusal, roomRefusal as shipRoom, figureRefusal as shipFigures, shipRefusal, entered}
-use Rattle.fleet.specs.Promises.{zeros}
+use Rattle.ships.specs.Ships.{ship, addedBy, removedBy, voyageOf, withVoyage}
+use Rattle.ships.specs.Entered.{recordRefusal, roomRefusal as shipRoom, figureRefusal as shipFigures, shipRefusal, entered}
+use Rattle.ships.specs.Promises.{zeros}
 use Rattle.exclude.specs.Calls.{excludeRefusal}
 use Rattle.dead.specs.IsDead as one
 use Rattle.dead.specs.IsDead.{deadRefusal}

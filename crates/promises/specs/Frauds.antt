@@ -28,8 +28,8 @@ use Rattle.run.specs.Calls.{beforeRun, runOf}
 use Rattle.run.specs.Contracts.{RunAllows, CertifyAllows}
 use Rattle.step.specs.Calls.{stepModes}
 use Rattle.step.specs.Contracts.{FireStepAllows}
-use Rattle.fleet.specs.declared.Fleet.{Fleet}
-use Rattle.fleet.specs.Ships.{Ship, accepted}
+use Rattle.ships.specs.declared.Fleet.{Fleet}
+use Rattle.ships.specs.Ships.{Ship, accepted}
 use Rattle.fleet.specs.Contracts.{AddShipAllows}
 use Rattle.exclude.specs.Promises.{Excluded}
 use Rattle.exclude.specs.Contracts.{ExcludeAllows}

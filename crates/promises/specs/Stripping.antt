@@ -23,7 +23,7 @@ use Rattle.salvage.specs.Contracts.{SalvageAllows}
 use Rattle.step.specs.Calls.{stepModes}
 use Rattle.step.specs.Contracts.{TestStepAllows, FireStepAllows}
 use Rattle.weigh.specs.Contracts.{FigureAllows, ChangeAllows}
-use Rattle.fleet.specs.declared.Fleet.{Fleet}
+use Rattle.ships.specs.declared.Fleet.{Fleet}
 use Rattle.fleet.specs.Contracts.{AddShipAllows}
 use Rattle.dead.specs.Contracts.{IsDeadAllows, FirstDeadAllows}
 use Rattle.statement.specs.Contracts.{StatementAllows}

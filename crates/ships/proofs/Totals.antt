@@ -13,11 +13,11 @@ use Rattle.model.specs.Figures.{change, changes}
 use Rattle.model.proofs.Figures.{figure-after}
 use Rattle.model.proofs.Integers.{exchange}
 use Rattle.sheets.specs.Decoded.{netOf, weightsOf, movementsOf}
-use Rattle.fleet.specs.declared.Fleet.{Fleet}
-use Rattle.fleet.specs.Ships.{Ship, gained, lost, addedBy, removedBy, accepted, shipAdded, shipRemoved, startFigure, lastFigure, voyageOf, totals, withVoyage}
-use Rattle.fleet.specs.Calls.{shipRefusal, entered}
-use Rattle.fleet.specs.Promises.{zeros, afterAll, keeping, counted, sumOf, FleetStatement, RefusedShip}
-use Rattle.fleet.proofs.Growing.{Grown, grown-zeros, grown-after, grown-within}
+use Rattle.ships.specs.declared.Fleet.{Fleet}
+use Rattle.ships.specs.Ships.{Ship, gained, lost, addedBy, removedBy, accepted, shipAdded, shipRemoved, startFigure, lastFigure, voyageOf, totals, withVoyage}
+use Rattle.ships.specs.Entered.{shipRefusal, entered}
+use Rattle.ships.specs.Promises.{zeros, afterAll, keeping, counted, sumOf, FleetStatement, RefusedShip}
+use Rattle.ships.proofs.Growing.{Grown, grown-zeros, grown-after, grown-within}
 
 total-last : {A : Type 0} (f : A → ℕ) (xs : List A) (x : A) → total (map f (xs ++ x ∷ [])) ≡ total (map f xs) + f x
 total-last f [] x = omega arith

@@ -15,11 +15,11 @@ use Rattle.model.proofs.Runs.{runs}
 use Rattle.sheets.specs.Whole.{wholeMovements}
 use Rattle.sheets.specs.Decoded.{netOf, movementsOf}
 use Rattle.sheets.proofs.Lists.{movements-within}
-use Rattle.fleet.specs.declared.Fleet.{Fleet}
-use Rattle.fleet.specs.declared.voyage.Voyage.{Voyage}
-use Rattle.fleet.specs.Ships.{Ship, shipAdded, shipRemoved, voyageOf, refusedBy, withVoyage}
-use Rattle.fleet.specs.Calls.{mostFigure, isPast, Figure, InBounds, roomRefusal, figureRefusal, shipRefusal, entered}
-use Rattle.fleet.specs.Promises.{zeros, afterAll}
+use Rattle.ships.specs.declared.Fleet.{Fleet}
+use Rattle.ships.specs.declared.Voyage.{Voyage}
+use Rattle.ships.specs.Ships.{Ship, shipAdded, shipRemoved, voyageOf, refusedBy, withVoyage}
+use Rattle.ships.specs.Entered.{mostFigure, isPast, Figure, InBounds, roomRefusal, figureRefusal, shipRefusal, entered}
+use Rattle.ships.specs.Promises.{zeros, afterAll}
 
 pub record Grown (f : Fleet) : Type 0 where
   pub ships : f .ships ≤ 1000
