@@ -44,7 +44,8 @@ use Rattle.strip.specs.Stripped as stripping
 use Rattle.export.specs.Exports.{boundedCapacity, boundedInhibitor}
 use Rattle.export.specs.Exports as exporting
 use Rattle.audit.specs.Audits as auditing
-use Rattle.salvage.specs.Salvaged.{damagedRefusal, modesIn, sheetOfFirst, reportOf, tooShort, salvaged, output, trial, salvageRefusal, salvageOf, outputOf}
+use Rattle.damaged.specs.Damaged.{damagedRefusal, modesIn}
+use Rattle.salvage.specs.Salvaged.{sheetOfFirst, reportOf, tooShort, salvaged, output, trial, salvageRefusal, salvageOf, outputOf}
 use Rattle.statement.specs.Replay.{unlessRefused, weightsText, sheetsText, replayText, stated, statedIn}
 use Rattle.promises.specs.DemandThree.{asWritten}
 use Rattle.promises.specs.EqualNets.{OneNet, OffsetAside, RepliesAlike, Fits, StripFits, Bytes, AlikeBefore, Alike, EqualNets}

@@ -83,10 +83,11 @@ use Rattle.import.proofs.Promises.{imports-exactly}
 use Rattle.audit.specs.Audits as auditing
 use Rattle.audit.specs.Audits.{auditingRefusal}
 use Rattle.audit.proofs.Answers.{told-found}
+use Rattle.damaged.specs.Damaged.{considered}
 use Rattle.salvage.specs.declared.Salvaged.{Salvaged}
 use Rattle.salvage.specs.declared.Salvaged.the-variants.{Written}
 use Rattle.salvage.specs.MovementSheet.{movementSheet}
-use Rattle.salvage.specs.Salvaged.{considered, sheetOfFirst, reportOf, salvaged, output, trial, kept, report, freshSheet, salvageRefusal, salvageOf}
+use Rattle.salvage.specs.Salvaged.{sheetOfFirst, reportOf, salvaged, output, trial, kept, report, freshSheet, salvageRefusal, salvageOf}
 use Rattle.salvage.specs.Salvaged as salvaging
 use Rattle.salvage.specs.Contracts.{SalvageAllows}
 use Rattle.salvage.proofs.Answers.{kept-part, first-length, roomy}

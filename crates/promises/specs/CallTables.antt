@@ -41,7 +41,8 @@ use Rattle.strip.specs.Stripped.{strippedNet, strippedSheet, strippingRefusal}
 use Rattle.export.specs.Exports.{capacityOffset, exportText, exportRefusal}
 use Rattle.import.specs.RefusalTable.{ImportTable}
 use Rattle.audit.specs.Audits.{auditingRefusal}
-use Rattle.salvage.specs.Salvaged.{freshSheet, modesIn, trial, salvageRefusal}
+use Rattle.damaged.specs.Damaged.{modesIn}
+use Rattle.salvage.specs.Salvaged.{freshSheet, trial, salvageRefusal}
 
 -- "A call that takes one sheet as an argument refuses left-over bytes by 3.": the sheet's own table, then the first byte after it
 abbrev pub bytesLeft : ℕ → List ℕ → Table

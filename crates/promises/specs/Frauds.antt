@@ -53,10 +53,11 @@ use Rattle.audit.specs.declared.Found.{Found}
 use Rattle.audit.specs.declared.Found.the-variants.{Nothing}
 use Rattle.audit.specs.Audits as audits
 use Rattle.audit.specs.Contracts.{AuditAllows}
+use Rattle.damaged.specs.Damaged.{considered, modesIn}
 use Rattle.salvage.specs.declared.Report.{Report}
 use Rattle.salvage.specs.declared.Salvaged.{Salvaged}
 use Rattle.salvage.specs.declared.Salvaged.the-variants.{Written}
-use Rattle.salvage.specs.Salvaged.{considered, modesIn, trial}
+use Rattle.salvage.specs.Salvaged.{trial}
 use Rattle.salvage.specs.Contracts.{SalvageAllows}
 use Rattle.abi.specs.Contracts as c
 use Rattle.promises.specs.ConstantAnswers.{NotConstant, ConstantAnswers}

@@ -18,7 +18,7 @@ use Rattle.sheets.specs.Whole.{wholeNet, rest}
 use Rattle.sheets.specs.Decoded.{netOf, movementsOf}
 use Rattle.fire.specs.Contracts.{BeginAllows, TestAllows, FireAllows}
 use Rattle.run.specs.Contracts.{RunAllows, CertifyAllows}
-use Rattle.salvage.specs.Salvaged.{modesIn}
+use Rattle.damaged.specs.Damaged.{modesIn}
 use Rattle.salvage.specs.Contracts.{SalvageAllows}
 use Rattle.step.specs.Calls.{stepModes}
 use Rattle.step.specs.Contracts.{TestStepAllows, FireStepAllows}

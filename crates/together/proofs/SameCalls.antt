@@ -25,7 +25,8 @@ use Rattle.ships.specs.declared.Fleet.{Fleet}
 use Rattle.ships.specs.Ships.{ship, gained, lost, addedBy, removedBy, voyageOf}
 use Rattle.ships.specs.Entered.{shipRefusal, entered}
 use Rattle.ships.specs.Entered as ships
-use Rattle.salvage.specs.Salvaged.{modesIn, trial, kept, salvageRefusal}
+use Rattle.damaged.specs.Damaged.{modesIn}
+use Rattle.salvage.specs.Salvaged.{trial, kept, salvageRefusal}
 use Rattle.promises.specs.TwoRuns.{RunAlike}
 use Rattle.together.specs.Exchanged.{MovesAlike}
 use Rattle.together.proofs.SameMoves.{Same, mode-same, fired-same, run-same, visited-same, step-same, stepped-same, marking-same, certificate-same, figure-same, change-same, claim-same, dead-pair-same, first-dead-same}
