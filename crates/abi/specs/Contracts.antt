@@ -26,9 +26,9 @@ use Rattle.import.specs.Imports as import
 use Rattle.import.specs.Contracts as importing
 use Rattle.audit.specs.Audits as audit
 use Rattle.salvage.specs.Salvaged as salvage
-use Rattle.fleet.specs.declared.Fleet.{Fleet}
-use Rattle.fleet.specs.Ships.{ship}
-use Rattle.fleet.specs.Calls.{entered}
+use Rattle.ships.specs.declared.Fleet.{Fleet}
+use Rattle.ships.specs.Ships.{ship}
+use Rattle.ships.specs.Entered.{entered}
 use Rattle.statement.specs.Replay.{stated, statedIn}
 use Rattle.answers.specs.declared.Answered.{Answered}
 use Rattle.answers.specs.declared.Counted.{Counted}

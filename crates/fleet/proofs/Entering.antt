@@ -20,11 +20,11 @@ use Rattle.model.proofs.Decisions.{Decided}
 use Rattle.model.proofs.First.{none-then, some-then}
 use Rattle.sheets.specs.Whole.{wholeNet, wholeWeights, wholeMovements}
 use Rattle.sheets.specs.Decoded.{netOf}
-use Rattle.fleet.specs.declared.Fleet.{Fleet}
-use Rattle.fleet.specs.declared.Entered.{Entered}
-use Rattle.fleet.specs.declared.voyage.Voyage.{Voyage}
-use Rattle.fleet.specs.Ships.{Ship, voyageOf, withVoyage}
-use Rattle.fleet.specs.Calls.{mostFigure, isPast, isOutside, isOutOfBounds, Figure, Past, InBounds, isTooHeavy, recordRefusal, roomRefusal, figureRefusal, shipRefusal, enteredBy, entered}
+use Rattle.ships.specs.declared.Fleet.{Fleet}
+use Rattle.ships.specs.declared.Entered.{Entered}
+use Rattle.ships.specs.declared.Voyage.{Voyage}
+use Rattle.ships.specs.Ships.{Ship, voyageOf, withVoyage}
+use Rattle.ships.specs.Entered.{mostFigure, isPast, isOutside, isOutOfBounds, Figure, Past, InBounds, isTooHeavy, recordRefusal, roomRefusal, figureRefusal, shipRefusal, enteredBy, entered}
 
 inside : (z : ℤ) → isOutside z ≡ false → Figure z
 inside (pos n) e = (n, refl, ltb-false mostFigure n (or-neither (ltb n 0) _ e .1))

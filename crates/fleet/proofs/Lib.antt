@@ -1,4 +1,2 @@
-pub mod Totals
-pub mod Growing
 pub mod Weighing
 pub mod Entering

@@ -30,8 +30,8 @@ use Rattle.run.proofs.Visiting.{one-more}
 use Rattle.weigh.specs.Parts.{ChangesAre}
 use Rattle.weigh.proofs.Sizes.{fits-size}
 use Rattle.weigh.proofs.Terms.{change-size}
-use Rattle.fleet.specs.declared.voyage.Voyage.{Voyage}
-use Rattle.fleet.specs.Ships.{ship, gained, lost, addedBy, removedBy, voyageOf}
+use Rattle.ships.specs.declared.Voyage.{Voyage}
+use Rattle.ships.specs.Ships.{ship, gained, lost, addedBy, removedBy, voyageOf}
 use Rattle.fleet.specs.Parts.{heaviestMode, heaviest, Light}
 
 -- by the sign that was tested

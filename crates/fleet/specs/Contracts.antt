@@ -3,9 +3,9 @@ use Prim.Native.Nat.{ℕ}
 use mathlib.Core.Path.{_≡_}
 use mathlib.Core.List.{List}
 use Rattle.model.specs.declared.Answer.{Answer}
-use Rattle.fleet.specs.declared.Fleet.{Fleet}
-use Rattle.fleet.specs.Ships.{ship}
-use Rattle.fleet.specs.Calls.{entered}
+use Rattle.ships.specs.declared.Fleet.{Fleet}
+use Rattle.ships.specs.Ships.{ship}
+use Rattle.ships.specs.Entered.{entered}
 
 abbrev pub AddShipAllows : Fleet → List ℕ → List ℕ → List ℕ → Answer × Fleet → Type 0
 AddShipAllows found net weights movements o =

@@ -1,7 +1,7 @@
 -- What the private functions of this crate speak of: how heavy a ship's run can be. A reader of the promises may skip this file.
 use Prim.Native.Nat.{ℕ, _≤_}
 use lib.IntN.{natAbs}
-use Rattle.fleet.specs.declared.voyage.Voyage.{Voyage}
+use Rattle.ships.specs.declared.Voyage.{Voyage}
 
 -- 256 pairs of a weight and a number within 1,000,000 each; and 8,192 movements
 abbrev pub heaviestMode : ℕ

@@ -1,7 +1,7 @@
 // The bounds of a record, and of a figure in it.
-use crate::Fleet;
+use ships::Fleet;
 ghost use mathlib.Core.Path.{_≡_};
-ghost use Rattle.fleet.specs.Calls.{isPast, isOutside, isOutOfBounds};
+ghost use Rattle.ships.specs.Entered.{isPast, isOutside, isOutOfBounds};
 
 // "above 10^18"
 pub(crate) fn is_past(figure: i64) -> bool

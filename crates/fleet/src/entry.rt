@@ -1,7 +1,7 @@
 // A ship's run entered in the record.
-use crate::Fleet;
-use crate::voyage::Voyage;
 use model::Answer;
+use ships::Fleet;
+use ships::Voyage;
 use told::line_of;
 ghost use mathlib.Core.Path.{_≡_};
 ghost use mathlib.Core.Bool.{cond};
@@ -9,8 +9,8 @@ ghost use Prim.Native.Nat.{_+_, _≤_};
 ghost use lib.Dec.{eqb};
 ghost use lib.IntN.{natAbs, _+ℤ_};
 ghost use Rattle.model.specs.Refusals.{number};
-ghost use Rattle.fleet.specs.Ships.{withVoyage};
-ghost use Rattle.fleet.specs.Calls.{Figure, InBounds};
+ghost use Rattle.ships.specs.Ships.{withVoyage};
+ghost use Rattle.ships.specs.Entered.{Figure, InBounds};
 ghost use Rattle.fleet.specs.Parts.{Light, heaviest};
 
 fn number_of(answer: Answer) -> u64

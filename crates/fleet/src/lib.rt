@@ -1,5 +1,5 @@
 // The fleet statement: one ship after another into a running record that the caller lends (document 02, P13).
-// What a ship adds to the record, and what is refused, is said in specs/Calls.antt.
+// What a ship adds to the record, and what is refused, is said in the crate `ships`.
 mod bounds;
 mod entry;
 mod voyage;
@@ -17,35 +17,17 @@ use opened::open_net;
 use opened::shape::NetShape;
 use sheets::whole::whole_movements;
 use sheets::whole::whole_weights;
+use ships::Entered;
+use ships::Fleet;
 ghost use mathlib.Core.Path.{_≡_};
 ghost use Rattle.model.specs.First.{_▸_};
 ghost use Rattle.model.specs.Nets.{pairs as pairsOf};
 ghost use Rattle.sheets.specs.Whole.{wholeWeights, wholeMovements};
 ghost use Rattle.sheets.specs.Decoded.{netOf};
 ghost use Rattle.opened.specs.Shape.{Open};
-ghost use Rattle.fleet.specs.Ships.{ship};
-ghost use Rattle.fleet.specs.Calls.{InBounds, figureRefusal, enteredBy, entered};
+ghost use Rattle.ships.specs.Ships.{ship};
+ghost use Rattle.ships.specs.Entered.{InBounds, figureRefusal, enteredBy, entered};
 ghost use Rattle.fleet.specs.Contracts.{AddShipAllows};
-
-// "one running record that the caller lends": ships counted, movements accepted, movements refused by each number, kilograms added and removed.
-#[repr(C)]
-pub struct Fleet {
-    pub ships: u64,
-    pub movements: u64,
-    pub by6: u64,
-    pub by11: u64,
-    pub by12: u64,
-    pub by13: u64,
-    pub by14: u64,
-    pub added: i64,
-    pub removed: i64,
-}
-
-// The record with one ship more, or as it was found, and the answer.
-pub struct Entered {
-    pub fleet: Fleet,
-    pub answer: Answer,
-}
 
 // Once the net is accepted: the weights, the movements, then 24.
 fn count_open(found: Fleet, s: &[u8], net: NetShape, weights: &[u8], movements: &[u8]) -> Entered

@@ -7,6 +7,7 @@ use opened::shape::NetShape;
 use opened::starts::starts;
 use run::Ran;
 use run::movements::run_listed;
+use ships::Voyage;
 use weigh::changes::write_changes;
 ghost use mathlib.Core.Path.{_≡_};
 ghost use mathlib.Core.Option.{none};
@@ -21,16 +22,8 @@ ghost use Rattle.opened.specs.Read.{Read};
 ghost use Rattle.opened.specs.Shape.{Open};
 ghost use Rattle.opened.specs.Starts.{StartsAre};
 ghost use Rattle.run.specs.Parts.{RunTells};
-ghost use Rattle.fleet.specs.Ships.{ship, gained as gainedBy, lost as lostBy, voyageOf};
+ghost use Rattle.ships.specs.Ships.{ship, gained as gainedBy, lost as lostBy, voyageOf};
 ghost use Rattle.fleet.specs.Parts.{heaviestMode, Light};
-
-// How many movements were accepted, the answer to the first that was not, and the kilograms added and removed.
-pub struct Voyage {
-    pub accepted: usize,
-    pub answer: Answer,
-    pub added: i64,
-    pub removed: i64,
-}
 
 // "the sizes of positive and of negative weight changes"
 fn gained(change: i64) -> i64

@@ -57,9 +57,9 @@ use Rattle.fire.specs.Calls.{beginRefusal, testRefusal}
 use Rattle.run.specs.Calls.{beforeRun, runOf, certifyRefusal}
 use Rattle.step.specs.Calls.{stepModes, testStepRefusal}
 use Rattle.weigh.specs.Calls.{figureRefusal, changeRefusal}
-use Rattle.fleet.specs.declared.Fleet.{Fleet}
-use Rattle.fleet.specs.Ships.{Ship, voyageOf, withVoyage}
-use Rattle.fleet.specs.Calls.{recordRefusal, roomRefusal as shipRoom, figureRefusal as shipFigures, shipRefusal}
+use Rattle.ships.specs.declared.Fleet.{Fleet}
+use Rattle.ships.specs.Ships.{Ship, voyageOf, withVoyage}
+use Rattle.ships.specs.Entered.{recordRefusal, roomRefusal as shipRoom, figureRefusal as shipFigures, shipRefusal}
 use Rattle.fleet.proofs.Entering.{by-bounds, by-past}
 use Rattle.exclude.specs.Calls.{excludeRefusal}
 use Rattle.dead.specs.IsDead.{deadRefusal}
@@ -72,8 +72,9 @@ use Rattle.export.specs.Exports.{boundedCapacity, boundedInhibitor, refusal19, 
 use Rattle.import.proofs.RefusalTable.{import-table}
 use Rattle.audit.specs.Audits.{auditingRefusal}
 use Rattle.promises.specs.CallTables.{bytesLeft, wholeNetTable, wholeWeightTable, wholeMovementTable, markingAfter, movesTable, certificateTable, stepTable, roomTable, convertTable, stripTable, exportTable, RunReads, SalvageReads, CallTables, claimTable, addShipTable}
+use Rattle.damaged.specs.Damaged.{damagedRefusal, modesIn}
 use Rattle.salvage.specs.Salvaged as salvaging
-use Rattle.salvage.specs.Salvaged.{freshSheet, modesIn, trial, salvageRefusal}
+use Rattle.salvage.specs.Salvaged.{freshSheet, trial, salvageRefusal}
 
 -- a sheet's table, then left-over bytes
 whole-reads : (thing : Thing) (s : List ℕ) {table : Table} {o : Option Refusal} → Reads table o → Reads (table then bytesLeft (thingNumber thing) s) (o ▸ bytesAfter thing s)
@@ -330,7 +331,7 @@ module _ (source target : Version) (s : List ℕ) (room : ℕ) where
 
 -- a salvage, and the movement at which it stops
 salvage-reads : (net damaged : List ℕ) → SalvageReads net damaged
-unfolding salvageRefusal salvaging.damagedRefusal salvaging.tooShort trial
+unfolding salvageRefusal damagedRefusal salvaging.tooShort trial
 salvage-reads net damaged =
     record {
       refusal = λ room.

@@ -34,9 +34,9 @@ use Rattle.run.specs.Calls.{beforeRun, runOf, certifyRefusal}
 use Rattle.step.specs.Calls.{testStepRefusal}
 use Rattle.weigh.specs.Calls.{figured, figureRefusal, changeRefusal}
 use Rattle.weigh.specs.Calls as weigh
-use Rattle.fleet.specs.Ships.{ship}
-use Rattle.fleet.specs.Calls.{recordRefusal, roomRefusal, shipRefusal, entered}
-use Rattle.fleet.specs.Promises.{zeros}
+use Rattle.ships.specs.Ships.{ship}
+use Rattle.ships.specs.Entered.{recordRefusal, roomRefusal, shipRefusal, entered}
+use Rattle.ships.specs.Promises.{zeros}
 use Rattle.exclude.specs.Calls.{excludeRefusal}
 use Rattle.dead.specs.IsDead.{deadRefusal}
 use Rattle.dead.specs.IsDead as one

@@ -23,9 +23,9 @@ use Rattle.fire.specs.Calls.{beginRefusal, testRefusal}
 use Rattle.run.specs.Calls.{runOf}
 use Rattle.run.proofs.Promises.{runs-leave}
 use Rattle.step.specs.Calls.{stepModes, testStepRefusal}
-use Rattle.fleet.specs.declared.Fleet.{Fleet}
-use Rattle.fleet.specs.Ships.{Ship, ship, voyageOf, withVoyage}
-use Rattle.fleet.specs.Calls.{shipRefusal, left, entered}
+use Rattle.ships.specs.declared.Fleet.{Fleet}
+use Rattle.ships.specs.Ships.{Ship, ship, voyageOf, withVoyage}
+use Rattle.ships.specs.Entered.{shipRefusal, left, entered}
 use Rattle.complement.specs.Complemented.{complementSheet, complementingRefusal, told, complemented, output, complementOf}
 use Rattle.complement.specs.Complemented as complementing
 use Rattle.convert.specs.Converted.{convertedSheet, convertRefusal, converted, conversionOf, outputOf}

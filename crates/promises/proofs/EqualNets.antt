@@ -33,9 +33,9 @@ use Rattle.fire.specs.Calls.{beginRefusal, testRefusal}
 use Rattle.run.specs.Calls.{beforeRun, runOf, visitedBy, certifyRefusal}
 use Rattle.step.specs.Calls.{testStepRefusal}
 use Rattle.weigh.specs.Calls.{figureRefusal, changeRefusal}
-use Rattle.fleet.specs.declared.Fleet.{Fleet}
-use Rattle.fleet.specs.Ships.{ship, voyageOf}
-use Rattle.fleet.specs.Calls.{figureRefusal as shipFigures, shipRefusal, entered}
+use Rattle.ships.specs.declared.Fleet.{Fleet}
+use Rattle.ships.specs.Ships.{ship, voyageOf}
+use Rattle.ships.specs.Entered.{figureRefusal as shipFigures, shipRefusal, entered}
 use Rattle.exclude.specs.Calls.{excludeRefusal}
 use Rattle.dead.specs.IsDead.{deadRefusal}
 use Rattle.complement.specs.Complemented as complementing
@@ -44,7 +44,8 @@ use Rattle.strip.specs.Stripped as stripping
 use Rattle.export.specs.Exports.{boundedCapacity, boundedInhibitor}
 use Rattle.export.specs.Exports as exporting
 use Rattle.audit.specs.Audits as auditing
-use Rattle.salvage.specs.Salvaged.{damagedRefusal, modesIn, sheetOfFirst, reportOf, tooShort, salvaged, output, trial, salvageRefusal, salvageOf, outputOf}
+use Rattle.damaged.specs.Damaged.{damagedRefusal, modesIn}
+use Rattle.salvage.specs.Salvaged.{sheetOfFirst, reportOf, tooShort, salvaged, output, trial, salvageRefusal, salvageOf, outputOf}
 use Rattle.statement.specs.Replay.{unlessRefused, weightsText, sheetsText, replayText, stated, statedIn}
 use Rattle.promises.specs.DemandThree.{asWritten}
 use Rattle.promises.specs.EqualNets.{OneNet, OffsetAside, RepliesAlike, Fits, StripFits, Bytes, AlikeBefore, Alike, EqualNets}

@@ -57,9 +57,9 @@ use Rattle.run.specs.Calls.{ranOf, beforeRun, runOf, visitedBy, certifyRefusal}
 use Rattle.step.specs.Calls.{stepModes, testStepRefusal}
 use Rattle.weigh.specs.Calls as weigh
 use Rattle.weigh.specs.Calls.{figured, figureRefusal, changeRefusal}
-use Rattle.fleet.specs.Ships.{ship, addedBy, removedBy, voyageOf, withVoyage}
-use Rattle.fleet.specs.Calls.{recordRefusal, roomRefusal as shipRoom, figureRefusal as shipFigures, shipRefusal, entered}
-use Rattle.fleet.specs.Promises.{zeros}
+use Rattle.ships.specs.Ships.{ship, addedBy, removedBy, voyageOf, withVoyage}
+use Rattle.ships.specs.Entered.{recordRefusal, roomRefusal as shipRoom, figureRefusal as shipFigures, shipRefusal, entered}
+use Rattle.ships.specs.Promises.{zeros}
 use Rattle.exclude.specs.Calls.{excludeRefusal}
 use Rattle.dead.specs.IsDead as one
 use Rattle.dead.specs.IsDead.{deadRefusal}
@@ -83,10 +83,11 @@ use Rattle.import.proofs.Promises.{imports-exactly}
 use Rattle.audit.specs.Audits as auditing
 use Rattle.audit.specs.Audits.{auditingRefusal}
 use Rattle.audit.proofs.Answers.{told-found}
+use Rattle.damaged.specs.Damaged.{considered}
 use Rattle.salvage.specs.declared.Salvaged.{Salvaged}
 use Rattle.salvage.specs.declared.Salvaged.the-variants.{Written}
 use Rattle.salvage.specs.MovementSheet.{movementSheet}
-use Rattle.salvage.specs.Salvaged.{considered, sheetOfFirst, reportOf, salvaged, output, trial, kept, report, freshSheet, salvageRefusal, salvageOf}
+use Rattle.salvage.specs.Salvaged.{sheetOfFirst, reportOf, salvaged, output, trial, kept, report, freshSheet, salvageRefusal, salvageOf}
 use Rattle.salvage.specs.Salvaged as salvaging
 use Rattle.salvage.specs.Contracts.{SalvageAllows}
 use Rattle.salvage.proofs.Answers.{kept-part, first-length, roomy}

@@ -40,7 +40,7 @@ use Rattle.weigh.proofs.Promises.{figure-is-sum, change-is-sum, figure-fired}
 use Rattle.dead.proofs.Promises.{says-dead, names-first}
 use Rattle.audit.proofs.Promises.{says-audited}
 use Rattle.exclude.proofs.Promises.{excluded-exactly}
-use Rattle.fleet.proofs.Totals.{fleet-statement, refused-ship}
+use Rattle.ships.proofs.Totals.{fleet-statement, refused-ship}
 use Rattle.promises.specs.Promises.{Promises}
 use Rattle.promises.proofs.DemandOne.{demand-one, demand-one-for-c}
 use Rattle.promises.proofs.DemandThree.{over-bytes}

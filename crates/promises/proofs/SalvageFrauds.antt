@@ -13,12 +13,13 @@ use Rattle.model.specs.Firing.{modeRefusal}
 use Rattle.model.specs.Runs.{run}
 use Rattle.model.proofs.Runs.{runs}
 use Rattle.sheets.specs.Decoded.{netOf}
+use Rattle.damaged.specs.Damaged.{modesIn}
+use Rattle.damaged.proofs.Considered.{modes-length}
 use Rattle.salvage.specs.declared.Report.{Report}
 use Rattle.salvage.specs.declared.Salvaged.{Salvaged}
 use Rattle.salvage.specs.declared.Salvaged.the-variants.{Written}
-use Rattle.salvage.specs.Salvaged.{modesIn, trial, kept, salvageRefusal}
+use Rattle.salvage.specs.Salvaged.{trial, kept, salvageRefusal}
 use Rattle.salvage.specs.Contracts.{SalvageAllows}
-use Rattle.salvage.proofs.Considered.{modes-length}
 use Rattle.salvage.proofs.Promises.{report-told}
 use Rattle.promises.specs.Frauds.{SalvageFrauds}
 use Rattle.promises.proofs.DemandOne.{stays-is}

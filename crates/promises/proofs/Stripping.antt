@@ -39,10 +39,11 @@ use Rattle.fire.specs.Contracts.{FireAllows}
 use Rattle.run.specs.Calls.{beforeRun, runOf, visitedBy, certifyRefusal}
 use Rattle.step.specs.Calls.{stepModes, testStepRefusal}
 use Rattle.weigh.specs.Calls.{figureRefusal, changeRefusal}
-use Rattle.salvage.specs.Salvaged.{modesIn, trial}
-use Rattle.fleet.specs.declared.Fleet.{Fleet}
-use Rattle.fleet.specs.Ships.{gained, lost, addedBy, removedBy, ship, voyageOf}
-use Rattle.fleet.specs.Calls.{figureRefusal as shipFigures, shipRefusal, entered}
+use Rattle.damaged.specs.Damaged.{modesIn}
+use Rattle.salvage.specs.Salvaged.{trial}
+use Rattle.ships.specs.declared.Fleet.{Fleet}
+use Rattle.ships.specs.Ships.{gained, lost, addedBy, removedBy, ship, voyageOf}
+use Rattle.ships.specs.Entered.{figureRefusal as shipFigures, shipRefusal, entered}
 use Rattle.dead.specs.IsDead.{deadRefusal}
 use Rattle.statement.specs.Replay.{linesFrom, runText, movementsText, weightsText, replayText, stated, statedIn}
 use Rattle.strip.specs.Strip.{newMode, strip, boundOf, stripRefusal}

@@ -29,9 +29,9 @@ use Rattle.fire.specs.Calls.{beginRefusal, testRefusal}
 use Rattle.run.specs.Calls.{beforeRun, runOf, certifyRefusal}
 use Rattle.step.specs.Calls.{stepModes, testStepRefusal}
 use Rattle.weigh.specs.Calls.{figureRefusal, changeRefusal}
-use Rattle.fleet.specs.declared.Fleet.{Fleet}
-use Rattle.fleet.specs.Ships.{Ship, shipAdded, shipRemoved}
-use Rattle.fleet.specs.Calls.{Past, InBounds, shipRefusal}
+use Rattle.ships.specs.declared.Fleet.{Fleet}
+use Rattle.ships.specs.Ships.{Ship, shipAdded, shipRemoved}
+use Rattle.ships.specs.Entered.{Past, InBounds, shipRefusal}
 use Rattle.exclude.specs.Calls.{excludeRefusal}
 use Rattle.dead.specs.IsDead.{deadRefusal}
 use Rattle.complement.specs.Complemented.{complementSheet, complementingRefusal}
@@ -41,7 +41,8 @@ use Rattle.strip.specs.Stripped.{strippedNet, strippedSheet, strippingRefusal}
 use Rattle.export.specs.Exports.{capacityOffset, exportText, exportRefusal}
 use Rattle.import.specs.RefusalTable.{ImportTable}
 use Rattle.audit.specs.Audits.{auditingRefusal}
-use Rattle.salvage.specs.Salvaged.{freshSheet, modesIn, trial, salvageRefusal}
+use Rattle.damaged.specs.Damaged.{modesIn}
+use Rattle.salvage.specs.Salvaged.{freshSheet, trial, salvageRefusal}
 
 -- "A call that takes one sheet as an argument refuses left-over bytes by 3.": the sheet's own table, then the first byte after it
 abbrev pub bytesLeft : ℕ → List ℕ → Table

@@ -15,7 +15,7 @@ use Rattle.fire.specs.Contracts.{BeginAllows, FireAllows}
 use Rattle.run.specs.declared.Ran.{Ran}
 use Rattle.run.specs.Contracts.{RunAllows}
 use Rattle.step.specs.Contracts.{FireStepAllows}
-use Rattle.fleet.specs.declared.Fleet.{Fleet}
+use Rattle.ships.specs.declared.Fleet.{Fleet}
 use Rattle.fleet.specs.Contracts.{AddShipAllows}
 use Rattle.complement.specs.declared.Complemented.{Complemented}
 use Rattle.complement.specs.Complemented.{told}

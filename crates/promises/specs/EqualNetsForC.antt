@@ -9,7 +9,7 @@ use Rattle.model.specs.Refusals.{Carried, carriesBy}
 use Rattle.answers.specs.declared.Answered.{Answered}
 use Rattle.answers.specs.declared.Counted.{Counted}
 use Rattle.answers.specs.declared.Audited.{Audited}
-use Rattle.fleet.specs.declared.Fleet.{Fleet}
+use Rattle.ships.specs.declared.Fleet.{Fleet}
 use Rattle.abi.specs.Contracts as c
 use Rattle.promises.specs.EqualNets.{OneNet, Within, OffsetAside, Fits, StripFits, Bytes}
 

@@ -7,10 +7,10 @@ use lib.IntN.{_+ℤ_, _-ℤ_}
 use lib.ListN.{length}
 use Rattle.model.specs.declared.Answer.{Answer}
 use Rattle.model.specs.Refusals.{number}
-use Rattle.fleet.specs.declared.Fleet.{Fleet}
-use Rattle.fleet.specs.Ships.{Ship, startFigure, lastFigure, totals}
-use Rattle.fleet.specs.Calls.{InBounds}
-use Rattle.fleet.specs.Promises.{zeros, sumOf}
+use Rattle.ships.specs.declared.Fleet.{Fleet}
+use Rattle.ships.specs.Ships.{Ship, startFigure, lastFigure, totals}
+use Rattle.ships.specs.Entered.{InBounds}
+use Rattle.ships.specs.Promises.{zeros, sumOf}
 use Rattle.fleet.specs.Contracts.{AddShipAllows}
 
 -- calls for the ships of a list, by outcomes that the contract allows: the record that the first is given, those of the ships that were counted, and the record

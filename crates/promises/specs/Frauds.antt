@@ -28,8 +28,8 @@ use Rattle.run.specs.Calls.{beforeRun, runOf}
 use Rattle.run.specs.Contracts.{RunAllows, CertifyAllows}
 use Rattle.step.specs.Calls.{stepModes}
 use Rattle.step.specs.Contracts.{FireStepAllows}
-use Rattle.fleet.specs.declared.Fleet.{Fleet}
-use Rattle.fleet.specs.Ships.{Ship, accepted}
+use Rattle.ships.specs.declared.Fleet.{Fleet}
+use Rattle.ships.specs.Ships.{Ship, accepted}
 use Rattle.fleet.specs.Contracts.{AddShipAllows}
 use Rattle.exclude.specs.Promises.{Excluded}
 use Rattle.exclude.specs.Contracts.{ExcludeAllows}
@@ -53,10 +53,11 @@ use Rattle.audit.specs.declared.Found.{Found}
 use Rattle.audit.specs.declared.Found.the-variants.{Nothing}
 use Rattle.audit.specs.Audits as audits
 use Rattle.audit.specs.Contracts.{AuditAllows}
+use Rattle.damaged.specs.Damaged.{considered, modesIn}
 use Rattle.salvage.specs.declared.Report.{Report}
 use Rattle.salvage.specs.declared.Salvaged.{Salvaged}
 use Rattle.salvage.specs.declared.Salvaged.the-variants.{Written}
-use Rattle.salvage.specs.Salvaged.{considered, modesIn, trial}
+use Rattle.salvage.specs.Salvaged.{trial}
 use Rattle.salvage.specs.Contracts.{SalvageAllows}
 use Rattle.abi.specs.Contracts as c
 use Rattle.promises.specs.ConstantAnswers.{NotConstant, ConstantAnswers}

@@ -20,8 +20,8 @@ use Rattle.step.specs.Contracts.{TestStepAllows, FireStepAllows}
 use Rattle.weigh.specs.declared.Figured.{Figured}
 use Rattle.weigh.specs.Calls as weigh
 use Rattle.weigh.specs.Contracts.{FigureAllows, ChangeAllows}
-use Rattle.fleet.specs.declared.Fleet.{Fleet}
-use Rattle.fleet.specs.Promises.{zeros}
+use Rattle.ships.specs.declared.Fleet.{Fleet}
+use Rattle.ships.specs.Promises.{zeros}
 use Rattle.fleet.specs.Contracts.{AddShipAllows}
 use Rattle.exclude.specs.Contracts.{ExcludeAllows}
 use Rattle.dead.specs.declared.Deadness.{Deadness}

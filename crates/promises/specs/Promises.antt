@@ -24,7 +24,7 @@ use Rattle.dead.specs.Promises.{SaysDead, NamesFirst}
 use Rattle.audit.specs.Promises.{SaysAudited}
 use Rattle.exclude.specs.Promises.{ExcludedExactly}
 use Rattle.salvage.specs.Promises as salvage
-use Rattle.fleet.specs.Promises.{FleetStatement, RefusedShip}
+use Rattle.ships.specs.Promises.{FleetStatement, RefusedShip}
 use Rattle.promises.specs.DemandOne.{DemandOne, DemandOneForC}
 use Rattle.promises.specs.DemandThree.{OverBytes}
 use Rattle.text.specs.Promises.{Decimals}

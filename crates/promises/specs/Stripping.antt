@@ -18,12 +18,12 @@ use Rattle.sheets.specs.Whole.{wholeNet, rest}
 use Rattle.sheets.specs.Decoded.{netOf, movementsOf}
 use Rattle.fire.specs.Contracts.{BeginAllows, TestAllows, FireAllows}
 use Rattle.run.specs.Contracts.{RunAllows, CertifyAllows}
-use Rattle.salvage.specs.Salvaged.{modesIn}
+use Rattle.damaged.specs.Damaged.{modesIn}
 use Rattle.salvage.specs.Contracts.{SalvageAllows}
 use Rattle.step.specs.Calls.{stepModes}
 use Rattle.step.specs.Contracts.{TestStepAllows, FireStepAllows}
 use Rattle.weigh.specs.Contracts.{FigureAllows, ChangeAllows}
-use Rattle.fleet.specs.declared.Fleet.{Fleet}
+use Rattle.ships.specs.declared.Fleet.{Fleet}
 use Rattle.fleet.specs.Contracts.{AddShipAllows}
 use Rattle.dead.specs.Contracts.{IsDeadAllows, FirstDeadAllows}
 use Rattle.statement.specs.Contracts.{StatementAllows}

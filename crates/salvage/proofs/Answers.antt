@@ -24,12 +24,13 @@ use Rattle.written.proofs.Puts.{from-start}
 use Rattle.run.specs.declared.Ran.{Ran}
 use Rattle.run.specs.Calls.{ranOf}
 use Rattle.run.specs.Parts.{Reports}
+use Rattle.damaged.specs.Damaged.{damagedRefusal, considered, modesIn}
+use Rattle.damaged.proofs.Considered.{modes-are, modes-length, first-long}
 use Rattle.salvage.specs.declared.Report.{Report}
 use Rattle.salvage.specs.declared.Salvaged.{Salvaged}
 use Rattle.salvage.specs.declared.Salvaged.the-variants.{Written, Refused}
-use Rattle.salvage.specs.Salvaged.{damagedRefusal, considered, modesIn, sheetOfFirst, reportOf, tooShort, salvaged, output, trial, kept, report, freshSheet}
+use Rattle.salvage.specs.Salvaged.{sheetOfFirst, reportOf, tooShort, salvaged, output, trial, kept, report, freshSheet}
 use Rattle.salvage.specs.Parts.{ranOn}
-use Rattle.salvage.proofs.Considered.{modes-are, modes-length, first-long}
 use Rattle.salvage.proofs.MovementSheets.{sheet-length}
 
 -- the run of the modes that stand there, from the first marking

@@ -1,4 +1,3 @@
-pub mod Considered
 pub mod MovementSheets
 pub mod Answers
 pub mod Promises

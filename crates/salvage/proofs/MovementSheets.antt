@@ -26,10 +26,11 @@ use Rattle.written.proofs.Stands.{Stands, stands-both, stands-left, stands-righ
 use Rattle.written.proofs.BigEndian.{length16, length32, every-byte, read16, read32, stand16, stand32}
 use Rattle.written.proofs.Sections.{table-is, section-length, section-each, section-stands}
 use Rattle.written.proofs.Puts.{part-is}
+use Rattle.damaged.specs.Damaged.{considered, modesIn}
+use Rattle.damaged.proofs.Considered.{first-long, first-modes}
 use Rattle.salvage.specs.MovementSheet.{listedBytes, movementSheet}
-use Rattle.salvage.specs.Salvaged.{considered, modesIn, sheetOfFirst}
+use Rattle.salvage.specs.Salvaged.{sheetOfFirst}
 use Rattle.salvage.specs.Promises.{ListWrittenThenRead, ListReadThenWritten}
-use Rattle.salvage.proofs.Considered.{first-long, first-modes}
 
 listed-length : (t : Mode) → length (listedBytes t) ≡ 2
 listed-length t = length16 (t .0)

@@ -31,12 +31,13 @@ use Rattle.written.proofs.BigEndian.{every-byte}
 use Rattle.fire.proofs.Promises.{start-marks}
 use Rattle.run.specs.Calls.{beforeRun, runOf}
 use Rattle.run.proofs.Promises.{runs-leave}
+use Rattle.damaged.specs.Damaged.{damagedRefusal, considered, modesIn}
+use Rattle.damaged.proofs.Considered.{modes-are, modes-length, first-modes, most-considered}
 use Rattle.salvage.specs.declared.Report.{Report}
 use Rattle.salvage.specs.declared.Salvaged.the-variants.{Written}
 use Rattle.salvage.specs.MovementSheet.{movementSheet}
-use Rattle.salvage.specs.Salvaged.{damagedRefusal, considered, modesIn, salvaged, output, trial, kept, report, freshSheet, salvageRefusal}
+use Rattle.salvage.specs.Salvaged.{salvaged, output, trial, kept, report, freshSheet, salvageRefusal}
 use Rattle.salvage.specs.Promises.{AllBytes, ListBack, RunStops, Salvages, SalvagedRuns, WholeComesBack}
-use Rattle.salvage.proofs.Considered.{modes-are, modes-length, first-modes, most-considered}
 use Rattle.salvage.proofs.MovementSheets.{list-written-then-read, list-read-then-written, Listed, listed}
 use Rattle.salvage.proofs.Answers.{kept-part, first-length, roomy}
 

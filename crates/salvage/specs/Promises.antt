@@ -14,10 +14,10 @@ use Rattle.lists.specs.Movements.{mostMovements}
 use Rattle.sheets.specs.Whole.{wholeMovements}
 use Rattle.sheets.specs.Decoded.{netOf, movementsOf}
 use Rattle.run.specs.Calls.{runOf}
+use Rattle.damaged.specs.Damaged.{considered, modesIn}
 use Rattle.salvage.specs.declared.Report.{Report}
 use Rattle.salvage.specs.declared.Salvaged.the-variants.{Written}
 use Rattle.salvage.specs.MovementSheet.{movementSheet}
-use Rattle.salvage.specs.Salvaged.{considered, modesIn}
 use Rattle.salvage.specs.Contracts.{SalvageAllows}
 
 abbrev pub AllBytes : List ℕ → Type 0

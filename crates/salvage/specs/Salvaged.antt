@@ -1,51 +1,27 @@
 -- Salvage of a cut movement sheet (document 02, P11): what the call answers, and what it leaves in the output slice.
 -- "Refusals: net, 1 for fewer than 5 bytes, 3 for L = 0, 2, 10 for a short output."
-use Prim.Native.Nat.{ℕ, _-_, _/_, min}
-use mathlib.Core.Bool.{not}
+use Prim.Native.Nat.{ℕ, _-_}
 use mathlib.Core.List.{List, _++_}
 use mathlib.Core.Option.{Option, none, some}
-use lib.Dec.{ltb, eqb}
+use lib.Dec.{ltb}
 use lib.ListN.{length, take, drop}
-use Rattle.model.specs.declared.Mode.{Mode}
-use Rattle.model.specs.declared.Thing.the-variants.{Net, Movements}
-use Rattle.model.specs.declared.Fault.the-variants.{CutShort, WrongLength, WrongVersion, NoRoom}
+use Rattle.model.specs.declared.Thing.the-variants.{Net}
+use Rattle.model.specs.declared.Fault.the-variants.{NoRoom}
 use Rattle.model.specs.declared.Refusal.{Refusal}
 use Rattle.model.specs.declared.Answer.{Answer}
 use Rattle.model.specs.First.{_▸_, onlyIf}
-use Rattle.model.specs.Lists.{table}
-use Rattle.model.specs.Nets.{modeNo}
 use Rattle.model.specs.Refusals.{answer, wrong}
 use Rattle.model.specs.Replies.{Reply, yields, refuses}
 use Rattle.model.specs.Runs.{Outcome, run}
-use Rattle.heads.specs.Bytes.{u16At}
-use Rattle.heads.specs.Layout.{bodyLength, sheetEnd, version, movementsAt, movementAt}
-use Rattle.lists.specs.Movements.{mostMovements}
 use Rattle.sheets.specs.Whole.{wholeNet}
 use Rattle.sheets.specs.Decoded.{netOf}
+use Rattle.damaged.specs.Damaged.{damagedRefusal, considered, modesIn}
 use Rattle.salvage.specs.declared.Report.{Report}
 use Rattle.salvage.specs.declared.Salvaged.{Salvaged}
 use Rattle.salvage.specs.declared.Salvaged.the-variants.{Written, Refused}
 use Rattle.salvage.specs.MovementSheet.{movementSheet}
 
--- what is refused of the damaged bytes
-unfoldable pub damagedRefusal : List ℕ → Option Refusal
-damagedRefusal s =
-    onlyIf (ltb (length s) 5) (wrong Movements CutShort)
-    ▸ onlyIf (eqb (bodyLength s) 0) (wrong Movements (WrongLength 0))
-    ▸ onlyIf (not (eqb (version s) 1)) (wrong Movements (WrongVersion 4))
-
--- "ignores bytes past the declared length, uses what is there when the length claims more": where the modes end
-abbrev pub modesEnd : List ℕ → ℕ
-modesEnd s = min (sheetEnd s) (length s)
-
--- "drops a lone last byte, and considers at most 8,192 modes": how many, and which
-unfoldable pub considered : List ℕ → ℕ
-considered s = min mostMovements ((modesEnd s - movementsAt) / 2)
-
-unfoldable pub modesIn : List ℕ → List Mode
-modesIn s = table (considered s) (λ k. modeNo (u16At s (movementAt k)))
-
--- a fresh sheet with the first k of them
+-- a fresh sheet with the first k of the modes considered
 abbrev pub sheetOfFirst : List ℕ → ℕ → List ℕ
 sheetOfFirst s k = movementSheet (take k (modesIn s))
 

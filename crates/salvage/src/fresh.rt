@@ -3,8 +3,9 @@ use written::put_part;
 use written::put32;
 ghost use Prim.Native.Nat.{_≤_};
 ghost use Rattle.written.specs.Puts.{Room, Puts};
-ghost use Rattle.salvage.specs.Salvaged.{considered, sheetOfFirst};
-ghost use Rattle.salvage.specs.Parts.{Legible};
+ghost use Rattle.damaged.specs.Damaged.{considered};
+ghost use Rattle.damaged.specs.Parts.{Legible};
+ghost use Rattle.salvage.specs.Salvaged.{sheetOfFirst};
 
 pub(crate) fn put_fresh(damaged: &[u8], kept: usize, out: &mut [u8]) -> usize
     requires { ⌜ Legible (now damaged) ⌝ }

@@ -1,12 +1,11 @@
 // Salvage of a cut movement sheet (document 02, P11): a fresh sheet with the longest run of leading modes that the net accepts from its first marking.
-mod damaged;
 mod fresh;
 mod trial;
 
-use crate::damaged::count_considered;
-use crate::damaged::read_damaged;
 use crate::fresh::put_fresh;
 use crate::trial::run_considered;
+use damaged::count_considered;
+use damaged::read_damaged;
 use model::Answer;
 use model::Fault;
 use model::Refusal;
@@ -19,8 +18,9 @@ ghost use Prim.Native.Nat.{_≤_};
 ghost use lib.ListN.{length};
 ghost use Rattle.model.specs.First.{_▸_};
 ghost use Rattle.opened.specs.Shape.{Open};
-ghost use Rattle.salvage.specs.Salvaged.{damagedRefusal, considered, sheetOfFirst, reportOf, tooShort, salvaged, output, kept as keptBy, report, freshSheet};
-ghost use Rattle.salvage.specs.Parts.{Legible};
+ghost use Rattle.damaged.specs.Damaged.{damagedRefusal, considered};
+ghost use Rattle.damaged.specs.Parts.{Legible};
+ghost use Rattle.salvage.specs.Salvaged.{sheetOfFirst, reportOf, tooShort, salvaged, output, kept as keptBy, report, freshSheet};
 ghost use Rattle.salvage.specs.Contracts.{SalvageAllows};
 
 // How long the fresh sheet is, how many movements it keeps, how many more were considered, and the first refusal among these.

@@ -9,8 +9,9 @@ use run::movements::run_modes;
 ghost use mathlib.Core.Path.{_≡_};
 ghost use lib.ListN.{length};
 ghost use Rattle.opened.specs.Shape.{Open};
-ghost use Rattle.salvage.specs.Salvaged.{considered};
-ghost use Rattle.salvage.specs.Parts.{Legible, ranOn};
+ghost use Rattle.damaged.specs.Damaged.{considered};
+ghost use Rattle.damaged.specs.Parts.{Legible};
+ghost use Rattle.salvage.specs.Parts.{ranOn};
 
 fn run_from_first(s: &[u8], net: NetShape, damaged: &[u8], count: usize, marking: &mut [u32]) -> Ran
     requires { ⌜ Open (now s) net ⌝ }

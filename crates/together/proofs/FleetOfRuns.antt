@@ -26,9 +26,9 @@ use Rattle.fire.proofs.Promises.{start-marks}
 use Rattle.run.specs.Calls.{beforeRun, runOf}
 use Rattle.run.proofs.Promises.{runs-keep}
 use Rattle.weigh.specs.Calls.{told, figureRefusal, changeRefusal}
-use Rattle.fleet.specs.declared.Fleet.{Fleet}
-use Rattle.fleet.specs.Ships.{Ship, gained, lost, outcome, startFigure, lastFigure, addedBy, removedBy, voyageOf, totals}
-use Rattle.fleet.specs.Calls.{shipRefusal, entered}
+use Rattle.ships.specs.declared.Fleet.{Fleet}
+use Rattle.ships.specs.Ships.{Ship, gained, lost, outcome, startFigure, lastFigure, addedBy, removedBy, voyageOf, totals}
+use Rattle.ships.specs.Entered.{shipRefusal, entered}
 use Rattle.fleet.specs.Contracts.{AddShipAllows}
 use Rattle.promises.specs.FleetOfCalls.{Calls, none as noShip, counts, refuses}
 use Rattle.promises.proofs.Accepting.{number-none}

@@ -20,10 +20,10 @@ use Rattle.sheets.specs.Decoded.{netOf}
 use Rattle.run.specs.declared.Ran.{Ran}
 use Rattle.step.specs.Calls.{stepModes, testStepRefusal}
 use Rattle.dead.specs.IsDead.{told, deadness, deadRefusal}
-use Rattle.fleet.specs.declared.Fleet.{Fleet}
-use Rattle.fleet.specs.declared.voyage.Voyage.{Voyage}
-use Rattle.fleet.specs.Ships.{Ship, refusedBy, voyageOf, withVoyage}
-use Rattle.fleet.specs.Calls.{shipRefusal, entered}
+use Rattle.ships.specs.declared.Fleet.{Fleet}
+use Rattle.ships.specs.declared.Voyage.{Voyage}
+use Rattle.ships.specs.Ships.{Ship, refusedBy, voyageOf, withVoyage}
+use Rattle.ships.specs.Entered.{shipRefusal, entered}
 use Rattle.fleet.specs.Contracts.{AddShipAllows}
 use Rattle.promises.proofs.Accepting.{number-none}
 use Rattle.promises.proofs.StepFrauds.{step-accepted-in}

@@ -18,12 +18,13 @@ use Rattle.run.specs.declared.Ran.{Ran}
 use Rattle.run.specs.Calls.{runOf}
 use Rattle.run.specs.Contracts.{RunAllows}
 use Rattle.run.proofs.Promises.{runs-leave}
+use Rattle.damaged.specs.Damaged.{considered, modesIn}
+use Rattle.damaged.proofs.Considered.{modes-length}
 use Rattle.salvage.specs.declared.Report.{Report}
 use Rattle.salvage.specs.declared.Salvaged.{Salvaged}
-use Rattle.salvage.specs.Salvaged.{told, salvaged, considered, modesIn, sheetOfFirst, trial, kept, report, freshSheet, salvageRefusal}
+use Rattle.salvage.specs.Salvaged.{told, salvaged, sheetOfFirst, trial, kept, report, freshSheet, salvageRefusal}
 use Rattle.salvage.specs.Contracts.{SalvageAllows}
 use Rattle.salvage.specs.Promises.{AllBytes, Salvages}
-use Rattle.salvage.proofs.Considered.{modes-length}
 use Rattle.promises.specs.TwoRuns.{RunsAgree}
 use Rattle.together.specs.Wrote.{ComplementWrote, SalvageWrote}
 use Rattle.together.specs.Reached.{ran}

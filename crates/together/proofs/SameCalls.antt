@@ -21,11 +21,12 @@ use Rattle.weigh.specs.Calls.{figureRefusal, changeRefusal}
 use Rattle.exclude.specs.Calls.{excludeRefusal}
 use Rattle.dead.specs.IsDead.{deadRefusal}
 use Rattle.size.specs.Sizes.{measured, measuredOf}
-use Rattle.fleet.specs.declared.Fleet.{Fleet}
-use Rattle.fleet.specs.Ships.{ship, gained, lost, addedBy, removedBy, voyageOf}
-use Rattle.fleet.specs.Calls.{shipRefusal, entered}
-use Rattle.fleet.specs.Calls as fleet
-use Rattle.salvage.specs.Salvaged.{modesIn, trial, kept, salvageRefusal}
+use Rattle.ships.specs.declared.Fleet.{Fleet}
+use Rattle.ships.specs.Ships.{ship, gained, lost, addedBy, removedBy, voyageOf}
+use Rattle.ships.specs.Entered.{shipRefusal, entered}
+use Rattle.ships.specs.Entered as ships
+use Rattle.damaged.specs.Damaged.{modesIn}
+use Rattle.salvage.specs.Salvaged.{trial, kept, salvageRefusal}
 use Rattle.promises.specs.TwoRuns.{RunAlike}
 use Rattle.together.specs.Exchanged.{MovesAlike}
 use Rattle.together.proofs.SameMoves.{Same, mode-same, fired-same, run-same, visited-same, step-same, stepped-same, marking-same, certificate-same, figure-same, change-same, claim-same, dead-pair-same, first-dead-same}
@@ -106,7 +107,7 @@ module _ (back sheet : List ℕ) (w : wholeNet back ≡ none) (w′ : wholeNet s
       λ i. record { accepted = accepted i; answer = answered i; added = added i; removed = removed i }
 
   entered-same : (found : Fleet) (weights movements : List ℕ) → entered found (ship back weights movements) ≡ entered found (ship sheet weights movements)
-  unfolding entered shipRefusal fleet.figureRefusal
+  unfolding entered shipRefusal ships.figureRefusal
   entered-same found weights movements = rw (w, w′, same .samePairs, voyage-same weights movements)
 
   dead-refusal-same : (t : Mode) → deadRefusal back t ≡ deadRefusal sheet t

@@ -17,9 +17,9 @@ use Rattle.run.specs.Contracts.{RunAllows}
 use Rattle.weigh.specs.declared.Figured.{Figured}
 use Rattle.weigh.specs.Calls.{told}
 use Rattle.weigh.specs.Contracts.{FigureAllows, ChangeAllows}
-use Rattle.fleet.specs.declared.Fleet.{Fleet}
-use Rattle.fleet.specs.Ships.{Ship, gained, lost}
-use Rattle.fleet.specs.Promises.{zeros, sumOf}
+use Rattle.ships.specs.declared.Fleet.{Fleet}
+use Rattle.ships.specs.Ships.{Ship, gained, lost}
+use Rattle.ships.specs.Promises.{zeros, sumOf}
 use Rattle.promises.specs.FleetOfCalls.{Calls}
 
 -- a ship's own numbers: movements accepted, the answer, the figures before and after, and the weight change of each accepted movement

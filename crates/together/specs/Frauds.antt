@@ -21,8 +21,8 @@ use Rattle.step.specs.Contracts.{TestStepAllows}
 use Rattle.dead.specs.declared.Deadness.{Deadness}
 use Rattle.dead.specs.IsDead as dead
 use Rattle.dead.specs.Contracts.{IsDeadAllows}
-use Rattle.fleet.specs.declared.Fleet.{Fleet}
-use Rattle.fleet.specs.Ships.{Ship}
+use Rattle.ships.specs.declared.Fleet.{Fleet}
+use Rattle.ships.specs.Ships.{Ship}
 use Rattle.fleet.specs.Contracts.{AddShipAllows}
 
 -- A step's test that asks its first member alone (P1): at some pair the members together lack what the first has.

@@ -11,9 +11,10 @@ use Rattle.model.specs.DemandThree.{becomes}
 use Rattle.sheets.specs.Decoded.{netOf}
 use Rattle.run.specs.declared.Ran.{Ran}
 use Rattle.run.specs.Contracts.{RunAllows}
+use Rattle.damaged.specs.Damaged.{modesIn}
 use Rattle.salvage.specs.declared.Report.{Report}
 use Rattle.salvage.specs.declared.Salvaged.{Salvaged}
-use Rattle.salvage.specs.Salvaged.{told, modesIn, trial}
+use Rattle.salvage.specs.Salvaged.{told, trial}
 use Rattle.salvage.specs.Contracts.{SalvageAllows}
 use Rattle.salvage.specs.Promises.{AllBytes}
 use Rattle.together.specs.Wrote.{ComplementWrote, SalvageWrote}

@@ -41,14 +41,14 @@ use denote.Triple.Spec.{Meets, tripleOf}
 use denote.Triple.Table.{entered, cited}
 use denote.Triple.Walked.{says, Stays, stay-ref, stay-none-slice, walkOf, AllGo, goes-ref, goes-none-slice, Walks, ends-at, walked, walk-meets}
 use denote.Exit.{yes}
-use Rattle.fleet.specs.Ships.{ship}
-use Rattle.fleet.specs.Calls.{entered as given}
-use Rattle.fleet.specs.declared.Fleet.{Fleet}
-use Rattle.fleet.specs.declared.Entered.{Entered}
-use Rattle.fleet.proofs.Fleet as T
-use Rattle.fleet.proofs.Fleet.Laws as T′
-use Rattle.fleet.proofs.Entered as K
-use Rattle.fleet.proofs.Entered.Laws as K′
+use Rattle.ships.specs.Ships.{ship}
+use Rattle.ships.specs.Entered.{entered as given}
+use Rattle.ships.specs.declared.Fleet.{Fleet}
+use Rattle.ships.specs.declared.Entered.{Entered}
+use Rattle.ships.proofs.Fleet as T
+use Rattle.ships.proofs.Fleet.Laws as T′
+use Rattle.ships.proofs.Entered as K
+use Rattle.ships.proofs.Entered.Laws as K′
 use Rattle.model.proofs.Answer as N
 use Rattle.model.proofs.Answer.Laws as N′
 use Rattle.fleet.proofs.count_ship as count

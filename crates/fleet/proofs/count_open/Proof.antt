@@ -7,7 +7,7 @@ use Rattle.model.proofs.First.{left-none}
 use Rattle.model.proofs.Refusals.{answer-none, answer-refused}
 use Rattle.sheets.specs.Whole.{wholeMovements}
 use Rattle.weigh.proofs.Answers.{weights-refused, weights-pass, weights-accepted}
-use Rattle.fleet.specs.Calls.{isPast}
+use Rattle.ships.specs.Entered.{isPast}
 use Rattle.fleet.proofs.Entering.{stops, goes-on, too-heavy, enters}
 use Rattle.fleet.proofs.count_open.Statement.{statement}
 use Rattle.fleet.proofs.count_open.Tie as tie

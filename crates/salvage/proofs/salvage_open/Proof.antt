@@ -4,7 +4,7 @@ use mathlib.Core.Path.{sym, _∙_, ap}
 use native.Mathlib.Omega.{arith}
 use Rattle.model.proofs.First.{some-then}
 use Rattle.model.proofs.Refusals.{answer-none, answer-refused}
-use Rattle.salvage.proofs.Considered.{legible}
+use Rattle.damaged.proofs.Considered.{legible}
 use Rattle.salvage.proofs.Answers.{kept-part, refused, goes-on}
 use Rattle.salvage.proofs.salvage_open.Statement.{statement}
 use Rattle.salvage.proofs.salvage_open.Tie as tie

@@ -38,13 +38,13 @@ use denote.Triple.Table.{entered, cited}
 use denote.Triple.Walked.{says, Stays, gave-ref, stay-none-slice, walkOf, AllGo, goes-gave-ref, goes-none-slice, Walks, ends-at, walked, walk-meets}
 use denote.Exit.{yes}
 use Rattle.model.specs.declared.Answer.{Answer}
-use Rattle.fleet.specs.declared.Fleet.{Fleet}
-use Rattle.fleet.specs.declared.Entered.{Entered}
-use Rattle.fleet.specs.Ships.{ship}
-use Rattle.fleet.specs.Calls.{entered as given}
+use Rattle.ships.specs.declared.Fleet.{Fleet}
+use Rattle.ships.specs.declared.Entered.{Entered}
+use Rattle.ships.specs.Ships.{ship}
+use Rattle.ships.specs.Entered.{entered as given}
 use Rattle.answers.specs.declared.Answered.{Answered}
 use Rattle.answers.specs.Told.{answered}
-use Rattle.fleet.proofs.Fleet as T
+use Rattle.ships.proofs.Fleet as T
 use Rattle.model.proofs.Answer as N
 use Rattle.model.proofs.Answer.Laws as N′
 use Rattle.answers.proofs.Answered as S

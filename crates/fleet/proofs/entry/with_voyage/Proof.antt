@@ -2,7 +2,7 @@
 use borrow.Author.Needs.{needs}
 use mir.Syntax.{w64}
 use mir.Facts.{toZ-ofZ}
-use Rattle.fleet.specs.Ships.{withVoyage}
+use Rattle.ships.specs.Ships.{withVoyage}
 use Rattle.fleet.proofs.entry.with_voyage.Statement.{statement}
 use Rattle.fleet.proofs.entry.with_voyage.Tie as tie
 

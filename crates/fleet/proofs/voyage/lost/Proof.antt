@@ -4,7 +4,7 @@ use mir.Facts.{toZ-ofZ}
 use lib.IntN.{pos}
 use native.Mathlib.Omega.{arith}
 use Rattle.weigh.proofs.Sizes.{fits-size}
-use Rattle.fleet.specs.Ships.{lost}
+use Rattle.ships.specs.Ships.{lost}
 use Rattle.fleet.proofs.Weighing.{lost-below, lost-else, lost-size}
 use Rattle.fleet.proofs.voyage.lost.Statement.{statement}
 use Rattle.fleet.proofs.voyage.lost.Tie as tie

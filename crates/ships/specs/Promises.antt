@@ -6,9 +6,9 @@ use mathlib.Core.Option.{Option, none, some}
 use lib.ListN.{length}
 use lib.IntN.{ℤ, pos, _+ℤ_, _-ℤ_}
 use Rattle.model.specs.declared.Refusal.{Refusal}
-use Rattle.fleet.specs.declared.Fleet.{Fleet}
-use Rattle.fleet.specs.Ships.{Ship, startFigure, lastFigure, totals}
-use Rattle.fleet.specs.Calls.{InBounds, shipRefusal, entered}
+use Rattle.ships.specs.declared.Fleet.{Fleet}
+use Rattle.ships.specs.Ships.{Ship, startFigure, lastFigure, totals}
+use Rattle.ships.specs.Entered.{InBounds, shipRefusal, entered}
 
 -- "a record of zeros"
 abbrev pub zeros : Fleet

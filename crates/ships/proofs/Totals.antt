@@ -13,20 +13,35 @@ use Rattle.model.specs.Figures.{change, changes}
 use Rattle.model.proofs.Figures.{figure-after}
 use Rattle.model.proofs.Integers.{exchange}
 use Rattle.sheets.specs.Decoded.{netOf, weightsOf, movementsOf}
-use Rattle.fleet.specs.declared.Fleet.{Fleet}
-use Rattle.fleet.specs.Ships.{Ship, gained, lost, addedBy, removedBy, accepted, shipAdded, shipRemoved, startFigure, lastFigure, voyageOf, totals, withVoyage}
-use Rattle.fleet.specs.Calls.{shipRefusal, entered}
-use Rattle.fleet.specs.Promises.{zeros, afterAll, keeping, counted, sumOf, FleetStatement, RefusedShip}
-use Rattle.fleet.proofs.Growing.{Grown, grown-zeros, grown-after, grown-within}
+use Rattle.ships.specs.declared.Fleet.{Fleet}
+use Rattle.ships.specs.Ships.{Ship, gained, lost, addedBy, removedBy, accepted, shipAdded, shipRemoved, startFigure, lastFigure, voyageOf, refusedBy, totals, withVoyage}
+use Rattle.ships.specs.Entered.{shipRefusal, entered}
+use Rattle.ships.specs.Promises.{zeros, afterAll, keeping, counted, sumOf, FleetStatement, RefusedShip}
+use Rattle.ships.proofs.Growing.{Grown, grown-zeros, grown-after, grown-within}
 
 total-last : {A : Type 0} (f : A → ℕ) (xs : List A) (x : A) → total (map f (xs ++ x ∷ [])) ≡ total (map f xs) + f x
 total-last f [] x = omega arith
 total-last f (y ∷ xs) x = omega (arith, total-last f xs x)
 
+-- a record is its nine numbers
+same-record : {f g : Fleet} → f .ships ≡ g .ships → f .movements ≡ g .movements → f .by6 ≡ g .by6 → f .by11 ≡ g .by11 → f .by12 ≡ g .by12 → f .by13 ≡ g .by13
+    → f .by14 ≡ g .by14 → f .added ≡ g .added → f .removed ≡ g .removed → f ≡ g
+same-record a b c d e f g h j i = record { ships = a i; movements = b i; by6 = c i; by11 = d i; by12 = e i; by13 = f i; by14 = g i; added = h i; removed = j i }
+
 -- one ship more in the record is one ship more in the list
 with-ship : (ships : List Ship) (s : Ship) → withVoyage (totals ships) (voyageOf s) ≡ totals (ships ++ s ∷ [])
 unfolding withVoyage totals voyageOf
-with-ship ships s = simp (total-last, length-append)
+with-ship ships s =
+    same-record
+    (omega (arith, length-append ships (s ∷ [])))
+    (omega (arith, total-last (λ s. voyageOf s .accepted) ships s))
+    (omega (arith, total-last (λ s. refusedBy 6 (voyageOf s)) ships s))
+    (omega (arith, total-last (λ s. refusedBy 11 (voyageOf s)) ships s))
+    (omega (arith, total-last (λ s. refusedBy 12 (voyageOf s)) ships s))
+    (omega (arith, total-last (λ s. refusedBy 13 (voyageOf s)) ships s))
+    (omega (arith, total-last (λ s. refusedBy 14 (voyageOf s)) ships s))
+    (ap pos (omega (arith, total-last shipAdded ships s)))
+    (ap pos (omega (arith, total-last shipRemoved ships s)))
 
 after-totals : (before ships : List Ship) → afterAll (totals before) ships ≡ totals (before ++ counted (totals before) ships)
 unfolding afterAll counted entered

@@ -11,8 +11,8 @@ use Rattle.model.specs.Nets.{PNet, total}
 use Rattle.model.specs.Runs.{Outcome, run}
 use Rattle.model.specs.Figures.{figure, change}
 use Rattle.sheets.specs.Decoded.{netOf, weightsOf, movementsOf}
-use Rattle.fleet.specs.declared.Fleet.{Fleet}
-use Rattle.fleet.specs.declared.voyage.Voyage.{Voyage}
+use Rattle.ships.specs.declared.Fleet.{Fleet}
+use Rattle.ships.specs.declared.Voyage.{Voyage}
 
 -- "one ship after another: a net, weights and movements", as sheets
 pub record Ship : Type 0 where

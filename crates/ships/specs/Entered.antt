@@ -16,9 +16,9 @@ use Rattle.model.specs.Nets.{pairs}
 use Rattle.model.specs.Refusals.{wrong, answer}
 use Rattle.sheets.specs.Whole.{wholeNet, wholeWeights, wholeMovements}
 use Rattle.sheets.specs.Decoded.{netOf}
-use Rattle.fleet.specs.declared.Fleet.{Fleet}
-use Rattle.fleet.specs.declared.Entered.{Entered}
-use Rattle.fleet.specs.Ships.{Ship, voyageOf, withVoyage}
+use Rattle.ships.specs.declared.Fleet.{Fleet}
+use Rattle.ships.specs.declared.Entered.{Entered}
+use Rattle.ships.specs.Ships.{Ship, voyageOf, withVoyage}
 
 -- "10^18"
 abbrev pub mostFigure : ℕ

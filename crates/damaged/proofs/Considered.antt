@@ -15,8 +15,8 @@ use Rattle.heads.specs.Layout.{bodyLength, sheetEnd, version, movementsAt}
 use Rattle.lists.specs.Movements.{mostMovements}
 use Rattle.sheets.specs.Listed.{modeAt, modesFrom, ModesStand}
 use Rattle.sheets.proofs.Lists.{modes-from-length}
-use Rattle.salvage.specs.Salvaged.{damagedRefusal, considered, modesIn}
-use Rattle.salvage.specs.Parts.{Legible}
+use Rattle.damaged.specs.Damaged.{damagedRefusal, considered, modesIn}
+use Rattle.damaged.specs.Parts.{Legible}
 
 -- bytes that are not refused
 pub legible : (s : List ℕ) → damagedRefusal s ≡ none → Legible s

@@ -7,11 +7,11 @@ use model::Thing;
 ghost use mathlib.Core.Path.{_≡_};
 ghost use Prim.Native.Nat.{min};
 ghost use Rattle.model.specs.Refusals.{answer};
-ghost use Rattle.salvage.specs.Salvaged.{damagedRefusal, considered};
-ghost use Rattle.salvage.specs.Parts.{Legible};
+ghost use Rattle.damaged.specs.Damaged.{damagedRefusal, considered};
+ghost use Rattle.damaged.specs.Parts.{Legible};
 
 // "1 for fewer than 5 bytes, 3 for L = 0, 2".
-pub(crate) fn read_damaged(s: &[u8]) -> Answer
+pub fn read_damaged(s: &[u8]) -> Answer
     ensures { λ r. ⌜ r ≡ answer (damagedRefusal (now (s .entry))) ⌝ }
 {
     if s.len() < 5 {
@@ -33,7 +33,7 @@ fn lesser(a: usize, b: usize) -> usize
 }
 
 // A length above what is there does not wrap: it has 32 bits.
-pub(crate) fn count_considered(s: &[u8]) -> usize
+pub fn count_considered(s: &[u8]) -> usize
     requires { ⌜ Legible (now s) ⌝ }
     ensures { λ r. ⌜ r ≡ considered (now (s .entry)) ⌝ }
 {

@@ -1,11 +1,11 @@
 -- What a record from zeros has grown to, ship by ship: 25 never refuses it.
 use Prim.Native.Nat.{ℕ, _+_, _*_, _≤_}
-use mathlib.Core.Path.{_≡_, refl}
+use mathlib.Core.Path.{_≡_, refl, ap}
 use mathlib.Core.Bool.{Bool, true, false, cond}
 use mathlib.Core.List.{List, [], _∷_}
 use mathlib.Core.Option.{Option, none, some}
 use lib.Dec.{eqb}
-use lib.IntN.{ℤ, pos, _+ℤ_}
+use lib.IntN.{ℤ, pos}
 use native.Mathlib.Omega.{arith}
 use borrow.Author.Tests.{ltb-false}
 use Rattle.model.specs.declared.Refusal.{Refusal}
@@ -15,11 +15,11 @@ use Rattle.model.proofs.Runs.{runs}
 use Rattle.sheets.specs.Whole.{wholeMovements}
 use Rattle.sheets.specs.Decoded.{netOf, movementsOf}
 use Rattle.sheets.proofs.Lists.{movements-within}
-use Rattle.fleet.specs.declared.Fleet.{Fleet}
-use Rattle.fleet.specs.declared.voyage.Voyage.{Voyage}
-use Rattle.fleet.specs.Ships.{Ship, shipAdded, shipRemoved, voyageOf, refusedBy, withVoyage}
-use Rattle.fleet.specs.Calls.{mostFigure, isPast, Figure, InBounds, roomRefusal, figureRefusal, shipRefusal, entered}
-use Rattle.fleet.specs.Promises.{zeros, afterAll}
+use Rattle.ships.specs.declared.Fleet.{Fleet}
+use Rattle.ships.specs.declared.Voyage.{Voyage}
+use Rattle.ships.specs.Ships.{Ship, shipAdded, shipRemoved, voyageOf, refusedBy, withVoyage}
+use Rattle.ships.specs.Entered.{mostFigure, isPast, Figure, InBounds, roomRefusal, figureRefusal, shipRefusal, entered}
+use Rattle.ships.specs.Promises.{zeros, afterAll}
 
 pub record Grown (f : Fleet) : Type 0 where
   pub ships : f .ships ≤ 1000
@@ -53,9 +53,9 @@ at-most-one n v = go (eqb _ n)
     go true = omega arith
     go false = omega arith
 
--- a figure that grows, and is not past 10^18
-still-inside : {z : ℤ} (n : ℕ) → Figure z → isPast (z +ℤ pos n) ≡ false → Figure (z +ℤ pos n)
-still-inside n h p = (h .0 + n, rw (h .1), ltb-false mostFigure (h .0 + n) (rw (h .1) at p))
+-- a figure that has grown to n, and is not past 10^18
+still-inside : {z : ℤ} (n : ℕ) → z ≡ pos n → isPast z ≡ false → Figure z
+still-inside n e p = (n, e, ltb-false mostFigure n (rw e at p))
 
 module _ (f : Fleet) (s : Ship) (grown : Grown f) (e : shipRefusal f s ≡ none) where
   grown-more : Grown (withVoyage f (voyageOf s))
@@ -65,7 +65,7 @@ module _ (f : Fleet) (s : Ship) (grown : Grown f) (e : shipRefusal f s ≡ none)
       let listed = right-none _ _ (right-none _ _ (right-none _ _ room)) in
       let ship1001 = ltb-false 1000 (f .ships + 1) (only-if-none _ _ (left-none _ _ room)) in
       let few = movements-within (s .movements) (left-none _ _ (left-none _ _ listed)) in
-      let heavy = or-neither (isPast (f .added +ℤ pos (shipAdded s))) (isPast (f .removed +ℤ pos (shipRemoved s))) (only-if-none _ _ (right-none _ _ listed)) in
+      let heavy = or-neither (isPast (withVoyage f (voyageOf s) .added)) (isPast (withVoyage f (voyageOf s) .removed)) (only-if-none _ _ (right-none _ _ listed)) in
       record {
         ships = omega (arith, ship1001);
         movements = omega (arith, grown .movements, few, runs (netOf (s .net)) (movementsOf (s .movements)) (netOf (s .net) .start) .part);
@@ -74,8 +74,8 @@ module _ (f : Fleet) (s : Ship) (grown : Grown f) (e : shipRefusal f s ≡ none)
         by12 = omega (arith, grown .by12, at-most-one 12 (voyageOf s));
         by13 = omega (arith, grown .by13, at-most-one 13 (voyageOf s));
         by14 = omega (arith, grown .by14, at-most-one 14 (voyageOf s));
-        added = still-inside (shipAdded s) (grown .added) (heavy .0);
-        removed = still-inside (shipRemoved s) (grown .removed) (heavy .1);
+        added = still-inside (grown .added .0 + shipAdded s) (rw (grown .added .1) (ap pos (omega arith))) (heavy .0);
+        removed = still-inside (grown .removed .0 + shipRemoved s) (rw (grown .removed .1) (ap pos (omega arith))) (heavy .1);
       }
 
 grown-entered : (f : Fleet) (s : Ship) → Grown f → Grown (entered f s .fleet)

@@ -1,8 +1,8 @@
 -- The lesser of two, twice.
 use borrow.Author.Needs.{needs}
-use Rattle.salvage.proofs.Considered.{considered-are}
-use Rattle.salvage.proofs.damaged.count_considered.Statement.{statement}
-use Rattle.salvage.proofs.damaged.count_considered.Tie as tie
+use Rattle.damaged.proofs.Considered.{considered-are}
+use Rattle.damaged.proofs.count_considered.Statement.{statement}
+use Rattle.damaged.proofs.count_considered.Tie as tie
 
 returns : tie.Need-returns
 returns c =

@@ -1,0 +1,3 @@
+pub mod Ships
+pub mod Entered
+pub mod Promises
