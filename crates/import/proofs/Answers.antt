@@ -1,57 +1,30 @@
 -- 4, then 10, or the sheet, of whatever net's export the text is.
 use Prim.Native.Nat.{ℕ, _≤_, _<_}
 use mathlib.Core.Path.{_≡_, refl, ap, subst}
-use mathlib.Core.Bool.{Bool, true, false, _||_}
 use mathlib.Core.List.{List}
 use mathlib.Core.Logic.{_⊎_, inl, inr, ⊎-elim}
 use mathlib.Core.Option.{Option, none, some}
-use lib.Dec.{ltb}
 use lib.ListN.{length}
 use native.Mathlib.Omega.{arith}
-use borrow.Author.Tests.{lt-ltb, le-ltb}
 use Rattle.model.specs.declared.Thing.the-variants.{Net, Argument}
 use Rattle.model.specs.declared.Fault.the-variants.{CountOutside, NoRoom}
 use Rattle.model.specs.declared.Refusal.{Refusal}
 use Rattle.model.specs.declared.Version.the-variants.{One}
-use Rattle.model.specs.Nets.{PNet, pairs, modes}
+use Rattle.model.specs.Nets.{PNet}
 use Rattle.model.specs.Refusals.{wrong}
-use Rattle.model.proofs.First.{none-then, some-then}
 use Rattle.written.specs.Puts.{sheetSize}
 use Rattle.written.proofs.Puts.{from-start}
 use Rattle.pnml.specs.Pnml.{pnml, Exportable}
+use Rattle.pnml.specs.Singles.{importedSheet}
+use Rattle.pnml.proofs.ImportRefusal.{too-many, short, roomy}
 use Rattle.grammar.specs.declared.State.{State}
 use Rattle.scan.specs.declared.Checked.{Checked}
 use Rattle.scan.specs.Kinds.{ExportOf, CheckAllows, CheckedAs}
 use Rattle.import.specs.declared.Imported.{Imported}
 use Rattle.import.specs.declared.Imported.the-variants.{Length, Refused}
-use Rattle.import.specs.Imports.{importedSheet, tooMany, tooShort, importRefusal, imported, output}
+use Rattle.import.specs.Imports.{imported, output}
 use Rattle.import.specs.Parts.{SheetPut, ImportedAs}
 use Rattle.import.proofs.Singles.{size-is}
-
-or-true : (a : Bool) → a || true ≡ true
-or-true true = refl
-or-true false = refl
-
-many : (net : PNet) → (64 < pairs net) ⊎ (64 < modes net) → tooMany net ≡ some (wrong Argument (CountOutside 0))
-many net (inl h) = rw (lt-ltb 64 (pairs net) h) refl
-many net (inr h) = rw (lt-ltb 64 (modes net) h, or-true (ltb 64 (pairs net))) refl
-
--- 4 whatever the room
-pub too-many : (net : PNet) (room : ℕ) → (64 < pairs net) ⊎ (64 < modes net) → importRefusal net room ≡ some (wrong Argument (CountOutside 0))
-unfolding importRefusal
-too-many net room h = some-then (tooShort net room) (many net h)
-
-module _ (net : PNet) (room : ℕ) (few : pairs net ≤ 64) (some-modes : modes net ≤ 64) where
-  not-many : tooMany net ≡ none
-  not-many = rw (le-ltb 64 (pairs net) few, le-ltb 64 (modes net) some-modes) refl
-
-  pub short : room < length (importedSheet net) → importRefusal net room ≡ some (wrong Net NoRoom)
-  unfolding importRefusal
-  short h = none-then not-many (rw (lt-ltb room (length (importedSheet net)) h) refl)
-
-  pub roomy : length (importedSheet net) ≤ room → importRefusal net room ≡ none
-  unfolding importRefusal
-  roomy h = none-then not-many (rw (le-ltb room (length (importedSheet net)) h) refl)
 
 refused : {o : Option Refusal} {r : Refusal} {a : Imported} (n : ℕ) (sheet found : List ℕ) → a ≡ Refused r → o ≡ some r → (a ≡ imported o n) × (found ≡ output o sheet found)
 refused n sheet found i e = rw (e, i) (refl, refl)

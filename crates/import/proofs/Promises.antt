@@ -2,12 +2,12 @@
 use Prim.Native.Nat.{ℕ, zero, suc, _≤_, _<_}
 use mathlib.Core.Path.{_≡_, refl, sym, _∙_, ap, ap₂, subst}
 use mathlib.Core.List.{List, [], _++_}
-use mathlib.Core.Logic.{_⊎_, inl, inr, ⊎-elim, _≢_}
-use mathlib.Core.Option.{Option, none, some}
+use mathlib.Core.Logic.{inl, inr, ⊎-elim, _≢_}
+use mathlib.Core.Option.{Option}
 use lib.ListN.{length, drop, length-append}
 use native.Mathlib.Omega.{arith}
-use Rattle.model.specs.declared.Thing.the-variants.{Net, Argument}
-use Rattle.model.specs.declared.Fault.the-variants.{NotAnExport, CountOutside, NoRoom}
+use Rattle.model.specs.declared.Thing.the-variants.{Net}
+use Rattle.model.specs.declared.Fault.the-variants.{NotAnExport}
 use Rattle.model.specs.declared.Refusal.{Refusal}
 use Rattle.model.specs.declared.Version.the-variants.{One}
 use Rattle.model.specs.Lists.{joined}
@@ -17,14 +17,15 @@ use Rattle.model.proofs.First.{below-or}
 use Rattle.written.proofs.RoundTrip.{written-then-read}
 use Rattle.pnml.specs.Agrees.{FirstNone}
 use Rattle.pnml.specs.Pnml.{opening, closing, placeText, modeText, body, pnml, Exportable, Refused20}
+use Rattle.pnml.specs.Singles.{singles, importedSheet, importRefusal}
+use Rattle.pnml.proofs.ImportRefusal.{roomy, Way, many, full, whole, way}
 use Rattle.parts.proofs.Steps.{agrees-fewer}
 use Rattle.grammar.proofs.Generated.{total-some}
 use Rattle.import.specs.declared.Imported.{Imported}
 use Rattle.import.specs.declared.Imported.the-variants.{Length, Refused}
-use Rattle.import.specs.Imports.{singles, importedSheet, importRefusal, imported, output, importOf, outputOf, told}
+use Rattle.import.specs.Imports.{imported, output, importOf, outputOf, told}
 use Rattle.import.specs.Contracts.{ImportPnmlAllows}
 use Rattle.import.specs.Promises.{RefusedExactly, Small, ImportsExactly, ImportedReads}
-use Rattle.import.proofs.Answers.{too-many, short, roomy}
 use Rattle.import.proofs.Singles.{pairs-same, modes-same, singles-well, no-bound}
 
 -- there is one place from which no export agrees
@@ -57,23 +58,6 @@ numberOf a = told a .carried .number
 
 abbrev positionOf : Imported → ℕ
 positionOf a = told a .carried .position
-
--- what an export is refused by, if it is: 4, else 10
-pub data Way (net : PNet) (room : ℕ) : Type 0 where
-  many : (64 < pairs net) ⊎ (64 < modes net) → importRefusal net room ≡ some (wrong Argument (CountOutside 0)) → Way net room
-  full : pairs net ≤ 64 → modes net ≤ 64 → room < length (importedSheet net) → importRefusal net room ≡ some (wrong Net NoRoom) → Way net room
-  whole : pairs net ≤ 64 → modes net ≤ 64 → length (importedSheet net) ≤ room → importRefusal net room ≡ none → Way net room
-
-pub way : (net : PNet) (room : ℕ) → Way net room
-way net room =
-    ⊎-elim (λ (l : 64 < pairs net). many (inl l) (too-many net room (inl l)))
-    (λ (p : pairs net ≤ 64).
-    ⊎-elim (λ (l : 64 < modes net). many (inr l) (too-many net room (inr l)))
-    (λ (m : modes net ≤ 64).
-    ⊎-elim (λ (l : room < length (importedSheet net)). full p m l (short net room p m l)) (λ (l : length (importedSheet net) ≤ room). whole p m l (roomy net room p m l))
-    (below-or room (length (importedSheet net))))
-    (below-or 64 (modes net)))
-    (below-or 64 (pairs net))
 
 pub answered : (net : PNet) (out : List ℕ) {a : Imported} {o : Option Refusal} → a ≡ importOf net out → importRefusal net (length out) ≡ o → a ≡ imported o (length (importedSheet net))
 answered net out e f = e ∙ ap (λ o. imported o (length (importedSheet net))) f

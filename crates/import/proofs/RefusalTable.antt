@@ -13,12 +13,13 @@ use Rattle.model.specs.Nets.{PNet, pairs, modes}
 use Rattle.model.specs.Refusals.{answer, wrong, Carried, carries, carried}
 use Rattle.model.specs.RefusalTables.{Table, row, _then_, each, Silent, Gives, Reads}
 use Rattle.pnml.specs.Pnml.{pnml, Exportable, Refused20}
+use Rattle.pnml.specs.Singles.{importedSheet, importRefusal}
+use Rattle.pnml.proofs.ImportRefusal.{too-many, Way, many, full, whole, way}
 use Rattle.import.specs.declared.Imported.{Imported}
-use Rattle.import.specs.Imports.{importedSheet, importRefusal, imported, refusalOf}
+use Rattle.import.specs.Imports.{imported, refusalOf}
 use Rattle.import.specs.Contracts.{OfExport, OfNone}
 use Rattle.import.specs.RefusalTable.{ExportOfSome, importTable, ImportTable}
-use Rattle.import.proofs.Answers.{too-many}
-use Rattle.import.proofs.Promises.{once, Way, many, full, whole, way, answered}
+use Rattle.import.proofs.Promises.{once, answered}
 
 some-not : {o : Option Refusal} {r : Refusal} → o ≡ some r → o ≢ none
 some-not e f = let x = sym e ∙ f in let z : _≡_ {A = ℕ} 0 1 = cc in absurd (omega arith)

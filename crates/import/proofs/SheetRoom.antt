@@ -11,9 +11,9 @@ use Rattle.written.specs.Written.{bytes16, headBytes, lengthOf}
 use Rattle.written.specs.Puts.{Put, Room, Puts, sheetSize}
 use Rattle.written.proofs.Puts.{put-length, puts-as, puts-both}
 use Rattle.pnml.specs.Pnml.{pnml, Exportable}
+use Rattle.pnml.specs.Singles.{singles, importedSheet}
 use Rattle.grammar.specs.declared.State.{State}
 use Rattle.scan.specs.Kinds.{ExportOf}
-use Rattle.import.specs.Imports.{singles, importedSheet}
 use Rattle.import.specs.Parts.{countsBytes, marksBytes, PlacesPut, ArcsPut, SheetPut}
 use Rattle.import.proofs.Answers.{arcs-few}
 use Rattle.import.proofs.Singles.{head-five, counts-length, marks-length, sheet-parts, size-is, length-is}

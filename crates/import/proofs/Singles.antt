@@ -19,8 +19,8 @@ use Rattle.written.proofs.Sections.{section-list, section-length, joined-length
 use Rattle.written.proofs.SheetLength.{sheet-length, sheet-size, version-size}
 use Rattle.written.proofs.ByMode.{by-mode}
 use Rattle.pnml.specs.Pnml.{Exportable}
+use Rattle.pnml.specs.Singles.{singles, importedSheet}
 use Rattle.grammar.proofs.Generated.{total-some}
-use Rattle.import.specs.Imports.{singles, importedSheet}
 use Rattle.import.specs.Parts.{marksBytes, arcsBytes, onesBytes, countsBytes}
 
 total-ones : (n : ℕ) → total (replicate n 1) ≡ n

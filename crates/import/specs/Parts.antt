@@ -15,13 +15,14 @@ use Rattle.written.specs.Written.{bytes16, bytes32, pairBytes, arcBytes}
 use Rattle.written.specs.Puts.{Written, Put, Puts}
 use Rattle.pnml.specs.Agrees.{Agrees}
 use Rattle.pnml.specs.Pnml.{pnml, Exportable}
+use Rattle.pnml.specs.Singles.{importedSheet}
 use Rattle.parts.specs.Stands.{Stands, Stops}
 use Rattle.grammar.specs.declared.State.{State}
 use Rattle.grammar.specs.Lines.{Line, place, after, AllowedNext, nextText, Valid, textFrom}
 use Rattle.grammar.specs.Gathered.{Gathered, arc, gather, finish, Tells}
 use Rattle.grammar.proofs.Made.{Made}
 use Rattle.scan.specs.Kinds.{Sound}
-use Rattle.import.specs.Imports.{importedSheet, importOf, outputOf}
+use Rattle.import.specs.Imports.{importOf, outputOf}
 use Rattle.import.specs.declared.Imported.{Imported}
 use Rattle.import.specs.declared.Wrote.{Wrote}
 use Rattle.import.specs.declared.Wrote.the-variants.{On, End}

@@ -9,8 +9,9 @@ use Rattle.model.specs.Nets.{PNet, pairs, modes}
 use Rattle.model.specs.Refusals.{carries}
 use Rattle.model.specs.RefusalTables.{Table, row, _then_, each, Reads}
 use Rattle.pnml.specs.Pnml.{pnml, Exportable, Refused20}
+use Rattle.pnml.specs.Singles.{importedSheet}
 use Rattle.import.specs.declared.Imported.{Imported}
-use Rattle.import.specs.Imports.{importedSheet, refusalOf}
+use Rattle.import.specs.Imports.{refusalOf}
 use Rattle.import.specs.Contracts.{ImportPnmlAllows}
 
 -- the text is the export of such a net

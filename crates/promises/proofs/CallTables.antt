@@ -65,7 +65,7 @@ use Rattle.exclude.specs.Calls.{excludeRefusal}
 use Rattle.dead.specs.IsDead.{deadRefusal}
 use Rattle.complement.specs.Complemented.{complementSheet, roomRefusal, complementingRefusal}
 use Rattle.convert.specs.Converted.{ofVersion, convertedSheet, lostRule, tooShort, openRefusal, convertRefusal}
-use Rattle.strip.specs.Strip.{boundOf, stripRefusal}
+use Rattle.bare.specs.Strip.{boundOf, stripRefusal}
 use Rattle.strip.specs.Stripped.{strippedNet, strippedSheet, strippingRefusal}
 use Rattle.strip.specs.Stripped as stripping
 use Rattle.export.specs.Exports.{boundedCapacity, boundedInhibitor, refusal19, roomRefusal as exportRoom, exportRefusal, exportText}

@@ -47,7 +47,7 @@ use Rattle.complement.specs.Complemented as complementing
 use Rattle.convert.specs.Converted.{ofVersion, convertedSheet, lostRule, convertRefusal, conversionOf}
 use Rattle.convert.specs.Converted as converting
 use Rattle.convert.specs.Promises.{SameNet}
-use Rattle.strip.specs.Strip.{strip, stripRefusal}
+use Rattle.bare.specs.Strip.{strip, stripRefusal}
 use Rattle.strip.specs.Stripped.{strippedSheet, strippingRefusal, strippedOf}
 use Rattle.strip.specs.Stripped as stripping
 use Rattle.convert.proofs.Answers.{own-rule, roomy}

@@ -39,7 +39,7 @@ use Rattle.ships.specs.Entered.{figureRefusal as shipFigures, shipRefusal, ente
 use Rattle.exclude.specs.Calls.{excludeRefusal}
 use Rattle.dead.specs.IsDead.{deadRefusal}
 use Rattle.complement.specs.Complemented as complementing
-use Rattle.strip.specs.Strip.{strip, boundOf, stripRefusal}
+use Rattle.bare.specs.Strip.{strip, boundOf, stripRefusal}
 use Rattle.strip.specs.Stripped as stripping
 use Rattle.export.specs.Exports.{boundedCapacity, boundedInhibitor}
 use Rattle.export.specs.Exports as exporting

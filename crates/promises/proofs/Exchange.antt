@@ -20,6 +20,8 @@ use Rattle.sheets.specs.Whole.{wholeNet}
 use Rattle.sheets.specs.Decoded.{netOf}
 use Rattle.complement.specs.Complemented as complementing
 use Rattle.pnml.specs.Pnml.{body, pnml, Exportable}
+use Rattle.pnml.specs.Singles.{singles, importedSheet}
+use Rattle.pnml.proofs.ImportRefusal.{too-many, short}
 use Rattle.export.specs.declared.Exported.{Exported}
 use Rattle.export.specs.Exports.{exportText, roomRefusal, exportRefusal, exported, output}
 use Rattle.export.specs.Exports as exporting
@@ -27,11 +29,10 @@ use Rattle.export.specs.Contracts.{ExportPnmlAllows}
 use Rattle.export.proofs.Promises.{exports-exactly, complements-exportable}
 use Rattle.import.specs.declared.Imported.{Imported}
 use Rattle.import.specs.declared.Imported.the-variants.{Length, Refused}
-use Rattle.import.specs.Imports.{singles, importedSheet, imported}
+use Rattle.import.specs.Imports.{imported}
 use Rattle.import.specs.Imports as importing
 use Rattle.import.specs.Promises.{Small}
 use Rattle.import.specs.Contracts.{ImportPnmlAllows}
-use Rattle.import.proofs.Answers.{too-many, short}
 use Rattle.import.proofs.Singles.{pairs-same, modes-same, singles-well, no-bound, size-is}
 use Rattle.import.proofs.Promises.{of-net, imports-exactly, imported-reads}
 use Rattle.promises.specs.Exchange.{singleBytes, ComesBack, ImportAnswers, ExportThenImport, ExportAnswers, ImportThenExport, ComplementThenExport}

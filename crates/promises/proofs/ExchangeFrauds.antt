@@ -10,10 +10,11 @@ use Rattle.model.specs.WorkedExamples.{ownExample}
 use Rattle.sheets.specs.Decoded.{netOf}
 use Rattle.pnml.specs.Agrees.{Agrees}
 use Rattle.pnml.specs.Pnml.{opening, closing, pnml}
+use Rattle.pnml.proofs.ImportRefusal.{Way, many, full, whole, way}
 use Rattle.import.specs.declared.Imported.{Imported}
 use Rattle.import.specs.Imports as importing
 use Rattle.import.specs.Contracts.{ImportPnmlAllows}
-use Rattle.import.proofs.Promises.{of-net, Way, many, full, whole, way, answered, between}
+use Rattle.import.proofs.Promises.{of-net, answered, between}
 use Rattle.abi.specs.Contracts as c
 use Rattle.promises.specs.ConstantAnswers.{Varies}
 use Rattle.promises.specs.Frauds.{ExchangeFrauds}

@@ -69,12 +69,12 @@ use Rattle.complement.specs.Complemented as complementing
 use Rattle.complement.specs.Complemented.{roomRefusal, complementingRefusal}
 use Rattle.text.specs.Decimals.{decimalWithin, decimal}
 use Rattle.pnml.specs.Pnml.{opening, closing, three, placeText, transitionText, weightText, preText, postText, arcText, modeText, body, pnml, Exportable}
+use Rattle.pnml.specs.Singles.{singles, importedSheet}
 use Rattle.export.specs.declared.Exported.{Exported}
 use Rattle.export.specs.Exports as exporting
 use Rattle.export.specs.Contracts.{ExportPnmlAllows}
 use Rattle.export.proofs.Promises.{complements-exportable}
 use Rattle.import.specs.declared.Imported.{Imported}
-use Rattle.import.specs.Imports.{singles, importedSheet}
 use Rattle.import.specs.Imports as importing
 use Rattle.import.specs.Promises.{Small}
 use Rattle.import.specs.Contracts.{ImportPnmlAllows}

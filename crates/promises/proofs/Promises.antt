@@ -28,9 +28,9 @@ use Rattle.written.proofs.RoundTrip.{written-then-read, read-then-written}
 use Rattle.salvage.proofs.MovementSheets.{list-written-then-read, list-read-then-written}
 use Rattle.salvage.proofs.Promises.{salvaged-runs, whole-comes-back}
 use Rattle.convert.proofs.Promises.{source-only, converted-reads, there-and-back}
+use Rattle.bare.proofs.Bare.{bare-after}
+use Rattle.bare.proofs.OldModes.{old-modes, no-new-dead}
 use Rattle.strip.proofs.Promises.{stripped-reads}
-use Rattle.strip.proofs.Bare.{bare-after}
-use Rattle.strip.proofs.OldModes.{old-modes, no-new-dead}
 use Rattle.export.proofs.Promises.{exports-exactly, complements-exportable}
 use Rattle.import.proofs.Promises.{refused-exactly, imports-exactly, imported-reads}
 use Rattle.written.proofs.Largest.{largest-sheet, example-lengths}

@@ -18,9 +18,9 @@ use Rattle.sheets.specs.Decoded.{netOf}
 use Rattle.sheets.proofs.Accepted.{well-formed}
 use Rattle.written.proofs.NetStands.{transitions-of}
 use Rattle.written.proofs.RoundTrip.{written-then-read}
-use Rattle.strip.specs.Strip.{boundOf}
+use Rattle.bare.specs.Strip.{boundOf}
+use Rattle.bare.proofs.Arcs.{transitions-many}
 use Rattle.strip.specs.Stripped.{strippedNet, strippedSheet, strippingRefusal, stripped, told, strippedOf, outputOf}
-use Rattle.strip.proofs.Arcs.{transitions-many}
 use Rattle.strip.proofs.Promises.{has-sheet}
 use Rattle.promises.specs.Frauds.{StripFrauds}
 use Rattle.promises.proofs.Accepting.{unrefused}

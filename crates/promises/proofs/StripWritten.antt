@@ -10,7 +10,7 @@ use Rattle.model.specs.Replies.{yields}
 use Rattle.model.proofs.First.{left-none, right-none}
 use Rattle.sheets.specs.Whole.{wholeNet}
 use Rattle.sheets.specs.Decoded.{netOf}
-use Rattle.strip.specs.Strip.{stripRefusal}
+use Rattle.bare.specs.Strip.{stripRefusal}
 use Rattle.strip.specs.Stripped.{strippedSheet, roomRefusal, strippingRefusal, stripped, told, output, strippedOf, outputOf}
 use Rattle.strip.specs.Promises.{StripReads}
 use Rattle.strip.proofs.Promises.{stripped-reads}

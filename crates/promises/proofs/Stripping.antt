@@ -46,12 +46,12 @@ use Rattle.ships.specs.Ships.{gained, lost, addedBy, removedBy, ship, voyageOf}
 use Rattle.ships.specs.Entered.{figureRefusal as shipFigures, shipRefusal, entered}
 use Rattle.dead.specs.IsDead.{deadRefusal}
 use Rattle.statement.specs.Replay.{linesFrom, runText, movementsText, weightsText, replayText, stated, statedIn}
-use Rattle.strip.specs.Strip.{newMode, strip, boundOf, stripRefusal}
+use Rattle.bare.specs.Strip.{newMode, strip, boundOf, stripRefusal}
+use Rattle.bare.specs.Promises.{Old, OldModesStay, StripsBare}
+use Rattle.bare.proofs.Arcs.{modes-many}
+use Rattle.bare.proofs.OldModes.{each-old, old-modes, no-new-dead}
+use Rattle.bare.proofs.Bare.{bare-after}
 use Rattle.strip.specs.Stripped.{strippedSheet, told as answered}
-use Rattle.strip.specs.Promises.{Old, OldModesStay, StripsBare}
-use Rattle.strip.proofs.Arcs.{modes-many}
-use Rattle.strip.proofs.OldModes.{each-old, old-modes, no-new-dead}
-use Rattle.strip.proofs.Bare.{bare-after}
 use Rattle.strip.proofs.Promises.{has-sheet}
 use Rattle.promises.specs.EqualNets.{Bytes}
 use Rattle.promises.specs.Stripping.{BareCalls, OldCalls, Stripping}

@@ -36,7 +36,7 @@ use Rattle.exclude.specs.Calls.{excludeRefusal}
 use Rattle.dead.specs.IsDead.{deadRefusal}
 use Rattle.complement.specs.Complemented.{complementSheet, complementingRefusal}
 use Rattle.convert.specs.Converted.{convertedSheet, convertRefusal}
-use Rattle.strip.specs.Strip.{boundOf}
+use Rattle.bare.specs.Strip.{boundOf}
 use Rattle.strip.specs.Stripped.{strippedNet, strippedSheet, strippingRefusal}
 use Rattle.export.specs.Exports.{capacityOffset, exportText, exportRefusal}
 use Rattle.import.specs.RefusalTable.{ImportTable}

@@ -14,7 +14,8 @@ use Rattle.sheets.specs.Accepted.{AcceptedNet, AcceptedMovements, AcceptedWeigh
 use Rattle.lists.specs.Promises.{SignedWeights}
 use Rattle.written.specs.Promises.{WrittenThenRead, ReadThenWritten, LargestSheet, ExampleLengths}
 use Rattle.convert.specs.Promises.{SourceOnly, ConvertedReads, ThereAndBack}
-use Rattle.strip.specs.Promises.{StrippedReads, BareAfter, OldModes, NoNewDead}
+use Rattle.bare.specs.Promises.{BareAfter, OldModes, NoNewDead}
+use Rattle.strip.specs.Promises.{StrippedReads}
 use Rattle.export.specs.Promises.{ExportsExactly, ComplementsExportable}
 use Rattle.import.specs.Promises.{RefusedExactly, ImportsExactly, ImportedReads}
 use Rattle.fire.specs.Promises.{AcceptedBegin, AcceptedFire, MarkingStays}

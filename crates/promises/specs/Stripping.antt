@@ -27,10 +27,10 @@ use Rattle.ships.specs.declared.Fleet.{Fleet}
 use Rattle.fleet.specs.Contracts.{AddShipAllows}
 use Rattle.dead.specs.Contracts.{IsDeadAllows, FirstDeadAllows}
 use Rattle.statement.specs.Contracts.{StatementAllows}
+use Rattle.bare.specs.Strip.{newMode, boundOf}
+use Rattle.bare.specs.Promises.{Old}
 use Rattle.strip.specs.declared.Stripped.{Stripped}
-use Rattle.strip.specs.Strip.{newMode, boundOf}
 use Rattle.strip.specs.Stripped.{strippedNet, told}
-use Rattle.strip.specs.Promises.{Old}
 use Rattle.strip.specs.Contracts.{StripAllows}
 use Rattle.promises.specs.EqualNets.{Within, Bytes}
 

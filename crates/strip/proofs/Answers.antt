@@ -28,11 +28,11 @@ use Rattle.opened.specs.Shape.{Open}
 use Rattle.opened.proofs.Shapes.{sizes}
 use Rattle.written.specs.Puts.{Puts}
 use Rattle.written.proofs.Puts.{from-start}
+use Rattle.bare.specs.Strip.{stripLimits, stripRefusal}
+use Rattle.bare.proofs.StripWellFormed.{few, well-formed-strip}
 use Rattle.strip.specs.declared.Stripped.the-variants.{Length, Refused}
-use Rattle.strip.specs.Strip.{stripLimits, stripRefusal}
 use Rattle.strip.specs.Stripped.{strippedSheet, tooShort, roomRefusal, stripped, output}
 use Rattle.strip.specs.Parts.{inLimits, Numbers, newSize, sizesRefusal, Strips}
-use Rattle.strip.proofs.StripWellFormed.{few, well-formed-strip}
 use Rattle.strip.proofs.Parts.{transitions-are, modes-are, arcs-are, size-is, sheet-is}
 
 -- a K that is a number is the number that the sheet writes

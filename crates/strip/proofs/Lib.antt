@@ -1,7 +1,4 @@
-pub mod Arcs
-pub mod Bare
-pub mod StripWellFormed
+pub mod ByMode
 pub mod Parts
 pub mod Answers
-pub mod OldModes
 pub mod Promises

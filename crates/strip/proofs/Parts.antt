@@ -34,11 +34,12 @@ use Rattle.written.proofs.ByMode.{by-mode}
 use Rattle.written.proofs.NetStands.{fields-stand}
 use Rattle.convert.specs.Parts.{modeGroup}
 use Rattle.convert.proofs.Parts.{common-there, rule-is}
-use Rattle.strip.specs.Strip.{stripEntry, strip, boundOf, stripLimits, stripRefusal}
+use Rattle.bare.specs.Strip.{stripEntry, strip, boundOf, stripLimits, stripRefusal}
+use Rattle.bare.proofs.Arcs.{transitions-many, modes-many, arcs-many}
+use Rattle.bare.proofs.StripWellFormed.{Few, few, well-formed-strip}
 use Rattle.strip.specs.Stripped.{strippedSheet}
 use Rattle.strip.specs.Parts.{countsBytes, numbersBytes, recordsBytes, newGroup, Numbers, newSize, Strips}
-use Rattle.strip.proofs.Arcs.{transitions-many, modes-many, arcs-many, old-of, new-of}
-use Rattle.strip.proofs.StripWellFormed.{Few, few, well-formed-strip}
+use Rattle.strip.proofs.ByMode.{old-of, new-of}
 
 module _ (v : Version) (net : PNet) (p : Pair) (k : ℕ) where
   colours-same : flatMap bytes16 (strip net p k .colours) ≡ flatMap bytes16 (net .colours)

@@ -12,10 +12,10 @@ use Rattle.sheets.proofs.Accepted.{well-formed}
 use Rattle.heads.specs.Version.{versionOf}
 use Rattle.written.specs.Promises.{HasSheet, ReadBack}
 use Rattle.written.proofs.RoundTrip.{own-sheet, written-then-read}
-use Rattle.strip.specs.Strip.{strip, boundOf, stripRefusal}
+use Rattle.bare.specs.Strip.{strip, boundOf, stripRefusal}
+use Rattle.bare.proofs.StripWellFormed.{few, well-formed-strip}
 use Rattle.strip.specs.Stripped.{strippedNet}
 use Rattle.strip.specs.Promises.{StrippedReads}
-use Rattle.strip.proofs.StripWellFormed.{few, well-formed-strip}
 
 same-rule : (net : PNet) (p : Pair) (k : ℕ) → strip net p k .rule ≡ net .rule
 unfolding strip

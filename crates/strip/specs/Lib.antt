@@ -1,4 +1,3 @@
-pub mod Strip
 pub mod Stripped
 pub mod Contracts
 pub mod Parts

@@ -21,7 +21,7 @@ use Rattle.opened.specs.declared.shape.NetShape.{NetShape}
 use Rattle.opened.specs.Shape.{Open}
 use Rattle.written.specs.Written.{bytes16, headBytes, pairsBytes, lengthOf, groupBytes}
 use Rattle.written.specs.Puts.{sheetSize}
-use Rattle.strip.specs.Strip.{stripEntry, stripRefusal}
+use Rattle.bare.specs.Strip.{stripEntry, stripRefusal}
 
 module _ (net : PNet) where
   -- "a 4-byte length L .., a version byte ..; Place count ..; transition count"

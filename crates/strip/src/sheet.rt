@@ -13,7 +13,7 @@ use written::put_total;
 ghost use Rattle.sheets.specs.Decoded.{netOf};
 ghost use Rattle.written.specs.Written.{sectionBytes, sheetOf};
 ghost use Rattle.written.specs.Puts.{Room, Puts};
-ghost use Rattle.strip.specs.Strip.{strip};
+ghost use Rattle.bare.specs.Strip.{strip};
 ghost use Rattle.strip.specs.Parts.{countsBytes, recordsBytes, Strips};
 
 // The length, the version, the rule and the counts of places and transitions.

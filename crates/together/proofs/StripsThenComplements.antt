@@ -19,9 +19,9 @@ use Rattle.model.proofs.First.{left-none, only-if-none}
 use Rattle.model.proofs.ComplementNet.{capacity-complement}
 use Rattle.sheets.specs.Decoded.{netOf}
 use Rattle.fire.specs.Calls.{testRefusal, firedBy}
-use Rattle.strip.specs.Strip.{newMode, strip, boundOf, stripRefusal}
+use Rattle.bare.specs.Strip.{newMode, strip, boundOf, stripRefusal}
+use Rattle.bare.proofs.OldModes.{old-modes}
 use Rattle.strip.specs.Stripped.{strippedNet, roomRefusal, strippingRefusal, told}
-use Rattle.strip.proofs.OldModes.{old-modes}
 use Rattle.promises.specs.Stripping.{BareCalls, StripWritten}
 use Rattle.promises.proofs.Accepting.{number-none}
 use Rattle.promises.proofs.StripWritten.{pair-accepted}

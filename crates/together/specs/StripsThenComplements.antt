@@ -12,8 +12,8 @@ use Rattle.model.specs.Nets.{pairs, K, count}
 use Rattle.model.specs.Complement.{complementPair}
 use Rattle.sheets.specs.Decoded.{netOf}
 use Rattle.fire.specs.Contracts.{TestAllows, FireAllows}
+use Rattle.bare.specs.Strip.{newMode}
 use Rattle.strip.specs.declared.Stripped.{Stripped}
-use Rattle.strip.specs.Strip.{newMode}
 use Rattle.strip.specs.Stripped.{told}
 use Rattle.strip.specs.Contracts.{StripAllows}
 use Rattle.promises.specs.TwoRuns.{RunAlike}

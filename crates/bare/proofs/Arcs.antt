@@ -2,7 +2,7 @@
 use Prim.Native.Nat.{ℕ, zero, suc, _+_, _≤_, _<_}
 use mathlib.Core.Path.{_≡_, refl, _∙_, ap, fun-ext}
 use mathlib.Core.Bool.{cond}
-use mathlib.Core.List.{List, [], _∷_, _++_, append-nil}
+use mathlib.Core.List.{List, [], _∷_, _++_}
 use mathlib.Core.Logic.{⊎-elim}
 use lib.Dec.{eqb}
 use lib.ListN.{length, length-append}
@@ -13,14 +13,11 @@ use Rattle.model.specs.declared.Pair.{Pair}
 use Rattle.model.specs.declared.Mode.{Mode}
 use Rattle.model.specs.Lists.{table}
 use Rattle.model.specs.Rows.{noArc}
-use Rattle.model.specs.Nets.{NetArc, PNet, pairs, modes, arcNo, stands, entryAt, row}
+use Rattle.model.specs.Nets.{NetArc, PNet, total, pairs, modes, arcNo, stands, entryAt, row}
 use Rattle.model.specs.WellFormed.{WellFormed}
 use Rattle.model.proofs.Each.{Each, each-append, at-each}
 use Rattle.model.proofs.Tables.{table-length}
-use Rattle.fields.proofs.RunningTotals.{total-snoc}
-use Rattle.written.specs.Written.{ofMode}
-use Rattle.written.proofs.ByMode.{of-append, of-own, of-other}
-use Rattle.strip.specs.Strip.{stripEntry, newMode, stripArc, strip}
+use Rattle.bare.specs.Strip.{stripEntry, newMode, stripArc, strip}
 
 -- what two lists of arcs write for a mode that one of them does not name
 module _ (t : Mode) (q : ℕ) where
@@ -52,19 +49,9 @@ module _ (net : PNet) (p : Pair) where
   each-new P zero h = tt
   each-new P (suc c) h = each-append P (newArcs c) (stripArc net p c ∷ []) (each-new P c (λ i l. h i (omega arith))) (h c (omega arith), tt)
 
-  -- no arc of another new mode
-  below-new : (n : ℕ) → Each (λ a. ¬ (a .mode .0 ≡ modes net + n)) (newArcs n)
+  -- no arc of another mode
+  pub below-new : (n : ℕ) → Each (λ a. ¬ (a .mode .0 ≡ modes net + n)) (newArcs n)
   below-new n = each-new (λ a. ¬ (a .mode .0 ≡ modes net + n)) n (λ i l e. omega arith)
-
-  of-new : (c n : ℕ) → n < c → ofMode (newArcs c) (modes net + n) ≡ stripArc net p n ∷ []
-  unfolding table
-  of-new zero n h = absurd (not-suc-le-zero h)
-  of-new (suc c) n h =
-      of-append (newArcs c) (stripArc net p c ∷ []) (modes net + n)
-      ∙ ⊎-elim
-      (λ (e : n ≡ c). rw (e, of-other (newArcs c) (modes net + c) (below-new c), of-own (stripArc net p c ∷ []) (modes net + c) (refl, tt)))
-      (λ (b : n < c). rw (of-new c n b, of-other (stripArc net p c ∷ []) (modes net + n) (λ e. omega arith, tt)))
-      (eq-or-lt-of-le (le-of-suc-le-suc h))
 
   entry-new : (c n q : ℕ) → n < c → entryAt (newArcs c) (newMode net n) q ≡ entryAt (stripArc net p n ∷ []) (newMode net n) q
   unfolding table
@@ -75,7 +62,7 @@ module _ (net : PNet) (p : Pair) where
       (eq-or-lt-of-le (le-of-suc-le-suc h))
 
   module _ (k : ℕ) where
-    none-old : (t : ℕ) → t < modes net → Each (λ a. ¬ (a .mode .0 ≡ t)) (newArcs (k + 1))
+    pub none-old : (t : ℕ) → t < modes net → Each (λ a. ¬ (a .mode .0 ≡ t)) (newArcs (k + 1))
     none-old t h = each-new (λ a. ¬ (a .mode .0 ≡ t)) (k + 1) (λ i l e. omega arith)
 
     -- how many there are
@@ -89,7 +76,11 @@ module _ (net : PNet) (p : Pair) where
 
     pub modes-many : modes (strip net p k) ≡ modes net + (k + 1)
     unfolding strip
-    modes-many = total-snoc (net .modesOf) (k + 1)
+    modes-many = go (net .modesOf)
+      where
+        go : (counts : List ℕ) → total (counts ++ (k + 1) ∷ []) ≡ total counts + (k + 1)
+        go [] = omega arith
+        go (c ∷ counts) = rw (go counts) (omega arith)
 
     pub arcs-many : length (strip net p k .arcs) ≡ length (net .arcs) + (k + 1)
     unfolding strip
@@ -100,12 +91,8 @@ module _ (net : PNet) (p : Pair) where
     unfolding strip
     old-row t h = fun-ext (λ q. entry-before t q (net .arcs) (newArcs (k + 1)) (none-old (t .0) h))
 
-    pub old-of : (t : ℕ) → t < modes net → ofMode (strip net p k .arcs) t ≡ ofMode (net .arcs) t
-    unfolding strip
-    old-of t h = of-append (net .arcs) (newArcs (k + 1)) t ∙ rw (of-other (newArcs (k + 1)) t (none-old t h)) (append-nil (ofMode (net .arcs) t))
-
     module _ (well : WellFormed net) where
-      none-new : (n : ℕ) → Each (λ a. ¬ (a .mode .0 ≡ modes net + n)) (net .arcs)
+      pub none-new : (n : ℕ) → Each (λ a. ¬ (a .mode .0 ≡ modes net + n)) (net .arcs)
       none-new n = at-each (λ a. ¬ (a .mode .0 ≡ modes net + n)) (arcNo [] 0) (net .arcs) (λ j l e. omega (arith, well .eachArc j l .mode))
 
       pub new-row : (n q : ℕ) → n ≤ k → row (strip net p k) (newMode net n) q ≡ cond (eqb (p .0) q) (stripEntry n) noArc
@@ -114,8 +101,3 @@ module _ (net : PNet) (p : Pair) where
           entry-past (newMode net n) q (net .arcs) (newArcs (k + 1)) (none-new n)
           ∙ entry-new (k + 1) n q (omega arith)
           ∙ rw (eq-eqb (modes net + n) (modes net + n) refl) refl
-
-      pub new-of : (n : ℕ) → n ≤ k → ofMode (strip net p k .arcs) (modes net + n) ≡ stripArc net p n ∷ []
-      unfolding strip
-      new-of n h =
-          of-append (net .arcs) (newArcs (k + 1)) (modes net + n) ∙ rw (of-other (net .arcs) (modes net + n) (none-new n)) (of-new (k + 1) n (omega arith))

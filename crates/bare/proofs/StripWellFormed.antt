@@ -1,26 +1,25 @@
 -- A net with a transition appended, within the limits of a sheet, is one that a sheet can hold.
-use Prim.Native.Nat.{ℕ, zero, suc, _+_, _≤_, _<_}
-use mathlib.Core.Path.{_≡_, refl, sym, _∙_, ap}
+use Prim.Native.Nat.{ℕ, _+_, _-_, _≤_, _<_}
+use mathlib.Core.Path.{_≡_, _∙_, ap}
 use mathlib.Core.Bool.{true, _&&_}
 use mathlib.Core.List.{List, [], _∷_, _++_}
-use mathlib.Core.Logic.{inl}
+use mathlib.Core.Logic.{inl, ⊎-elim}
 use lib.Dec.{leb}
-use lib.ListN.{length}
+use lib.ListN.{length, List·getD-append}
+use lib.Seq.{getD-append-add}
 use native.Mathlib.Omega.{arith}
-use native.Mathlib.Nat.{not-suc-le-zero}
 use borrow.Author.Tests.{leb-true}
 use Rattle.model.specs.declared.Pair.{Pair}
-use Rattle.model.specs.Lists.{table, joined}
 use Rattle.model.specs.Nets.{NetArc, PNet, pairs, modes, arcNo}
 use Rattle.model.specs.Markings.{Marking}
-use Rattle.model.specs.WellFormed.{Rises, ArcOf, WellFormed}
+use Rattle.model.specs.WellFormed.{ArcOf, WellFormed}
 use Rattle.model.proofs.Both.{and-both}
-use Rattle.model.proofs.Nets.{rises-all}
-use Rattle.model.proofs.Each.{Each, each-append, each-at, at-each, Below, Sorted, sorted-joined, sorted-rising}
-use Rattle.model.proofs.Joined.{joined-front}
-use Rattle.sheets.proofs.GroupArcs.{all-sorted}
-use Rattle.strip.specs.Strip.{stripArc, strip, stripLimits}
-use Rattle.strip.proofs.Arcs.{newArcs, each-new, modes-many}
+use Rattle.model.proofs.First.{below-or}
+use Rattle.model.proofs.Nets.{Rising}
+use Rattle.model.proofs.Tables.{table-at}
+use Rattle.model.proofs.Each.{Each, each-append, each-at, at-each}
+use Rattle.bare.specs.Strip.{stripArc, strip, stripLimits}
+use Rattle.bare.proofs.Arcs.{newArcs, each-new, modes-many, arcs-many}
 
 -- the limits, one by one
 pub record Few (net : PNet) (p : Pair) (k : ℕ) : Type 0 where
@@ -46,38 +45,32 @@ pub marking-same : {net : PNet} (p : Pair) (k : ℕ) {m : List ℕ} → Marking 
 unfolding strip
 marking-same p k h = record { oneEach = h .oneEach; inRange = h .inRange; within = h .within }
 
--- the old arcs, then those of each new mode
-unfoldable part : PNet → Pair → ℕ → List NetArc
-part net p zero = net .arcs
-part net p (suc n) = stripArc net p n ∷ []
-
-table-joined : {A : Type 0} (c : ℕ) (f : ℕ → A) → table c f ≡ joined c (λ i. f i ∷ [])
-unfolding table joined
-table-joined zero f = refl
-table-joined (suc c) f = ap (λ xs. xs ++ f c ∷ []) (table-joined c f)
-
 abbrev Countable : ℕ → Type 0
 Countable c = (1 ≤ c) × (c ≤ 64)
 
 module _ (net : PNet) (p : Pair) (k : ℕ) (well : WellFormed net) (there : p .0 < pairs net) (within : Few net p k) where
-  arcs-joined : strip net p k .arcs ≡ joined (suc (k + 1)) (part net p)
-  unfolding strip part
-  arcs-joined = ap (λ xs. net .arcs ++ xs) (table-joined (k + 1) (stripArc net p)) ∙ sym (joined-front (k + 1) (part net p))
+  -- the old arcs, then those of the new modes
+  abbrev all : List NetArc
+  all = net .arcs ++ newArcs net p (k + 1)
 
-  part-sorted : (i : ℕ) → Sorted (part net p i)
-  unfolding part
-  part-sorted zero = all-sorted (net .arcs) (rises-all (net .arcs) (well .rising))
-  part-sorted (suc i) = (tt, tt)
+  old-at : (j : ℕ) → j < length (net .arcs) → arcNo all j ≡ arcNo (net .arcs) j
+  old-at j l = List·getD-append (net .arcs) (newArcs net p (k + 1)) _ j l
 
-  parts-rise : (i j : ℕ) → i < j → Below (part net p i) (part net p j)
-  unfolding part
-  parts-rise i zero h = absurd (not-suc-le-zero h)
-  parts-rise zero (suc j) h =
-      at-each (λ a. Each (Rises a) (stripArc net p j ∷ [])) (arcNo [] 0) (net .arcs) (λ n l. (inl (omega (arith, well .eachArc n l .mode)), tt))
-  parts-rise (suc i) (suc j) h = ((inl (omega arith), tt), tt)
+  new-at : (j n : ℕ) → j ≡ length (net .arcs) + n → n < k + 1 → arcNo all j ≡ stripArc net p n
+  new-at j n e l = ap (arcNo all) e ∙ getD-append-add (net .arcs) (newArcs net p (k + 1)) n _ ∙ table-at (k + 1) (stripArc net p) _ n l
 
-  all-sorted-arcs : Sorted (strip net p k .arcs)
-  all-sorted-arcs = rw arcs-joined (sorted-joined (suc (k + 1)) (part net p) (λ i l. part-sorted i) (λ i j l h. parts-rise i j l))
+  still-rising : Rising (strip net p k .arcs)
+  unfolding strip
+  still-rising j l =
+      let many = arcs-many net p k in
+      ⊎-elim (λ (h : j + 1 < length (net .arcs)). rw (old-at j (omega arith), old-at (j + 1) h) (well .rising j h))
+      (λ (h : length (net .arcs) ≤ j + 1).
+      ⊎-elim (λ (b : j < length (net .arcs)). rw (old-at j b, new-at (j + 1) 0 (omega arith) (omega arith)) (inl (omega (arith, well .eachArc j b .mode))))
+      (λ (b : length (net .arcs) ≤ j).
+      let n : ℕ = j - length (net .arcs) in
+      rw (new-at j n (omega arith) (omega arith), new-at (j + 1) (n + 1) (omega arith) (omega arith)) (inl (omega arith)))
+      (below-or j (length (net .arcs))))
+      (below-or (j + 1) (length (net .arcs)))
 
   old-arc : (a : NetArc) → ArcOf net a → ArcOf (strip net p k) a
   unfolding strip
@@ -119,5 +112,5 @@ module _ (net : PNet) (p : Pair) (k : ℕ) (well : WellFormed net) (there : p .0
         start = marking-same p k (well .start);
         arcCount = within .arcs;
         eachArc = each-at (ArcOf (strip net p k)) _ (strip net p k .arcs) each-arc;
-        rising = sorted-rising (strip net p k .arcs) all-sorted-arcs;
+        rising = still-rising;
       }

@@ -31,9 +31,9 @@ use Rattle.model.proofs.First.{then-none, first-ext, first-all, first-split}
 use Rattle.model.proofs.Numbers.{false-above, below-least}
 use Rattle.model.proofs.Each.{Each}
 use Rattle.model.proofs.Firing.{mode-there, there}
-use Rattle.strip.specs.Strip.{stripEntry, newMode, strip}
-use Rattle.strip.specs.Promises.{Old, OldModes, NoNewDead}
-use Rattle.strip.proofs.Arcs.{newArcs, each-new, same-pairs, modes-many, old-row, new-row}
+use Rattle.bare.specs.Strip.{stripEntry, newMode, strip}
+use Rattle.bare.specs.Promises.{Old, OldModes, NoNewDead}
+use Rattle.bare.proofs.Arcs.{newArcs, each-new, same-pairs, modes-many, old-row, new-row}
 
 -- arcs of other modes do not count
 arcs-none : (ys : List NetArc) (t : Mode) → Each (λ a. ¬ (a .mode .0 ≡ t .0)) ys → arcsAmong ys t ≡ 0
@@ -57,7 +57,7 @@ no-arc-lives rule b = rw (false-above 0 (highestPre rule noArc b) (zero-below (h
 -- Pre n and I n within K
 strip-lives : (rule : CapacityRule) (n k : ℕ) → n ≤ k → kills rule (stripEntry n) (fin k) ≡ false
 strip-lives rule n k h =
-    rw (false-above n (highestPre rule (stripEntry n) (fin k)) (below-least n (preRoom rule (stripEntry n) (fin k)) n .1 (within rule, omega arith)), false-above 0 (fin k) (omega arith))
+    rw (false-above n (highestPre rule (stripEntry n) (fin k)) (below-least n (preRoom rule (stripEntry n) (fin k)) _ .1 (within rule, omega arith)), false-above 0 (fin k) (omega arith))
   where
     within : (rule : CapacityRule) → n ≤∞ preRoom rule (stripEntry n) (fin k)
     within Strong = omega arith

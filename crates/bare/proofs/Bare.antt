@@ -22,9 +22,9 @@ use Rattle.model.proofs.Numbers.{le-le∞}
 use Rattle.model.proofs.Rooms.{within-room}
 use Rattle.model.proofs.Firing.{accepted-passes, passes-accepted}
 use Rattle.model.proofs.Markings.{fired-at, fired-length}
-use Rattle.strip.specs.Strip.{stripEntry, newMode, strip}
-use Rattle.strip.specs.Promises.{BareAfter}
-use Rattle.strip.proofs.Arcs.{same-pairs, modes-many, new-row}
+use Rattle.bare.specs.Strip.{stripEntry, newMode, strip}
+use Rattle.bare.specs.Promises.{BareAfter}
+use Rattle.bare.proofs.Arcs.{same-pairs, modes-many, new-row}
 
 module _ (net : PNet) (p : Pair) (k : ℕ) (well : WellFormed net) (there : p .0 < pairs net) (m : List ℕ) (marking : Marking net m) where
   -- what holds of Pre n and I n at the pair, and of no arc elsewhere, holds of the new mode's row
@@ -51,8 +51,8 @@ module _ (net : PNet) (p : Pair) (k : ℕ) (well : WellFormed net) (there : p .0
         let passes = accepted-passes about (strip net p k) (newMode net n) m e in
         let inside = still-there (p .0) there in
         let enough : n ≤ count m (p .0) = subst (λ entry. entry .pre ≤ count m (p .0)) (own-entry n h) (passes .enough (p .0) inside) in
-        let low : count m (p .0) ≤ n = subst (λ entry. count m (p .0) ≤∞ entry .inhibitor) (own-entry n h) (passes .low (p .0) inside) in
-        omega arith
+        let low = subst (λ entry. count m (p .0) ≤∞ entry .inhibitor) (own-entry n h) (passes .low (p .0) inside) in
+        omega (arith, enough, low)
 
     counted-enabled : n ≡ count m (p .0) → modeRefusal about (strip net p k) (newMode net n) m ≡ none
     unfolding strip

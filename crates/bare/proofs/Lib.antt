@@ -1,0 +1,4 @@
+pub mod Arcs
+pub mod Bare
+pub mod OldModes
+pub mod StripWellFormed
