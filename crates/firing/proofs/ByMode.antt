@@ -31,9 +31,9 @@ use Rattle.opened.specs.Starts.{ModeArcs, SegmentOf}
 use Rattle.opened.proofs.Shapes.{sizes}
 use Rattle.opened.proofs.Segments.{mode-lists}
 use Rattle.firing.specs.AtMode.{Free, Writable, writtenAt, AtMode, stopAt, stopOf, refusalOf, Decides}
-use Rattle.firing.specs.Leaving.{Leaves}
+use Rattle.leaving.specs.Leaving.{Leaves}
 use Rattle.rule.proofs.FourTests.{clash}
-use Rattle.firing.proofs.Leaving.{leaves-some, leaves-written}
+use Rattle.leaving.proofs.Leaving.{leaves-some, leaves-written}
 
 module _ {s : List ℕ} {net : NetShape} {arcs : Segment} {m : List ℕ} (h : AtMode s net arcs m) (t : Mode)
     (own : ModeArcs (netOf s .arcs) t (arcs .start) (arcs .count)) where

@@ -2,7 +2,7 @@
 use Prim.Native.Nat.{ℕ, _+_, _*_, _≤_, _<_}
 use mathlib.Core.Path.{_≡_, refl, sym, _∙_, ap}
 use mathlib.Core.List.{List}
-use mathlib.Core.Bool.{Bool, true, false}
+use mathlib.Core.Bool.{Bool, true, false, false≢true}
 use mathlib.Core.Option.{Option, none, some}
 use lib.ListN.{length, drop, getD, drop-of-length-le}
 use lib.Seq.{drop-cons}
@@ -25,10 +25,9 @@ use Rattle.sheets.specs.Listed.{modeAt, modesFrom}
 use Rattle.sheets.proofs.Lists.{modes-from-length, modes-from-at}
 use Rattle.opened.specs.declared.starts.Segment.{Segment}
 use Rattle.progress.specs.declared.Progress.{Progress}
-use Rattle.firing.specs.Leaving.{written, Makes}
+use Rattle.leaving.specs.Leaving.{written, Makes}
 use Rattle.firing.specs.AtMode.{refusalOf}
-use Rattle.rule.proofs.FourTests.{clash}
-use Rattle.firing.proofs.Leaving.{makes-not, makes-after}
+use Rattle.leaving.proofs.Leaving.{makes-not, makes-after}
 use Rattle.firing.proofs.ByMode.{mode-refusal}
 use Rattle.progress.specs.Progress.{Tries, Accepts}
 use Rattle.progress.proofs.Visiting.{tries-own, visitedTo, visits-more, visits-stop, visits-end}
@@ -123,4 +122,4 @@ module _ {net : PNet} {s : List ℕ} {start count : ℕ} {m₀ : List ℕ} where
 
     pub along-stops : {done : Progress} → done .accepted ≡ k → done .visited ≡ v + arcs .count → made ≡ false
         → Accepts net (modesFrom s start count) m₀ done left
-    along-stops c a e = stops c a _ refl (λ n. clash (sym (move .decides .1 n) ∙ e))
+    along-stops c a e = stops c a _ refl (λ n. false≢true (sym e ∙ move .decides .1 n))

@@ -14,7 +14,7 @@ ghost use Rattle.lists.specs.Movements.{mostMovements};
 ghost use Rattle.opened.specs.Shape.{Open};
 ghost use Rattle.opened.specs.Starts.{StartsAre};
 ghost use Rattle.sheets.specs.Listed.{modesFrom, ModesStand};
-ghost use Rattle.firing.specs.Leaving.{Makes};
+ghost use Rattle.leaving.specs.Leaving.{Makes};
 ghost use Rattle.numbers.specs.Numbers.{Numbered};
 ghost use Rattle.progress.specs.Progress.{Tables, Tries, Accepts};
 
