@@ -9,17 +9,15 @@ use Rattle.model.specs.declared.Mode.{Mode}
 use Rattle.model.specs.declared.Thing.{Thing}
 use Rattle.model.specs.declared.Answer.{Answer}
 use Rattle.model.specs.declared.Answer.the-variants.{Accepted}
-use Rattle.model.specs.First.{_▸_}
 use Rattle.model.specs.Refusals.{answer}
 use Rattle.model.specs.Nets.{pairs}
-use Rattle.model.specs.Firing.{modeRefusal, absent}
+use Rattle.model.specs.Firing.{absent}
 use Rattle.model.proofs.First.{only-if-none}
 use Rattle.model.proofs.Refusals.{answer-none}
 use Rattle.opened.specs.declared.shape.NetShape.{NetShape}
 use Rattle.sheets.specs.Decoded.{netOf}
 use Rattle.opened.specs.Shape.{Open}
 use Rattle.opened.proofs.Shapes.{sizes}
-use Rattle.firing.specs.AtMode.{refusalOf}
 
 module _ {s : List ℕ} {net : NetShape} (o : Open s net) where
   -- 17: "marking or weights not one for each pair"
@@ -28,12 +26,6 @@ module _ {s : List ℕ} {net : NetShape} (o : Open s net) where
 
   pub not-one-each : (n : ℕ) → (n ≡ net .pairs → ⊥) → not (eqb n (pairs (netOf s))) ≡ true
   not-one-each n e = ap not (ne-eqb n (pairs (netOf s)) (λ q. e (q ∙ sym (sizes o .pairs))))
-
-  -- 6 is met before the arcs of a mode are looked for
-  pub mode-refusal : (thing : Thing) (t : Mode) (m : List ℕ)
-      → absent thing (net .modes) t ▸ refusalOf thing (netOf s) m t ≡ modeRefusal thing (netOf s) t m
-  unfolding modeRefusal refusalOf
-  mode-refusal thing t m = rw (sizes o .modes)
 
 pub is-there : {a : Answer} (thing : Thing) (n : ℕ) (t : Mode) → a ≡ answer (absent thing n t) → a ≡ Accepted → t .0 < n
 is-there thing n t e h = leb-false n (t .0) (only-if-none _ _ (answer-none _ e h))

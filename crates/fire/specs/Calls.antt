@@ -12,7 +12,7 @@ use Rattle.model.specs.Markings.{unequal, markingRefusal}
 use Rattle.model.specs.Firing.{modeRefusal, fired}
 use Rattle.sheets.specs.Whole.{wholeNet}
 use Rattle.sheets.specs.Decoded.{netOf}
-use Rattle.firing.specs.Leaving.{written}
+use Rattle.leaving.specs.Leaving.{written}
 
 -- begin: net, then 17; it writes the net's first marking
 unfoldable pub beginRefusal : List ℕ → List ℕ → Option Refusal

@@ -20,7 +20,7 @@ ghost use Rattle.model.specs.Firing.{fired};
 ghost use Rattle.sheets.specs.Decoded.{netOf};
 ghost use Rattle.opened.specs.Shape.{Open};
 ghost use Rattle.fire.specs.Calls.{argumentRefusal};
-ghost use Rattle.firing.specs.Leaving.{Leaves};
+ghost use Rattle.leaving.specs.Leaving.{Leaves};
 ghost use Rattle.model.specs.Markings.{unequal};
 ghost use Rattle.fire.specs.Contracts.{BeginAllows, TestAllows, FireAllows};
 

@@ -17,7 +17,7 @@ use Rattle.model.specs.Refusals.{answer}
 use Rattle.model.specs.Numbers.{ℕ∞, _≤∞_}
 use Rattle.model.specs.Nets.{NetArc, PNet, pairs, K, count, arcNo, row}
 use Rattle.model.specs.Markings.{markingRefusal}
-use Rattle.model.specs.Firing.{ruleRefusal, rowRefusal, rooms, roomAt, fired}
+use Rattle.model.specs.Firing.{ruleRefusal, rowRefusal, modeRefusal, absent, rooms, roomAt, fired}
 use Rattle.model.proofs.First.{then-assoc}
 use Rattle.model.proofs.Markings.{marking-test}
 use Rattle.model.proofs.Refusals.{answer-none}
@@ -31,9 +31,9 @@ use Rattle.opened.specs.Starts.{ModeArcs, SegmentOf}
 use Rattle.opened.proofs.Shapes.{sizes}
 use Rattle.opened.proofs.Segments.{mode-lists}
 use Rattle.firing.specs.AtMode.{Free, Writable, writtenAt, AtMode, stopAt, stopOf, refusalOf, Decides}
-use Rattle.firing.specs.Leaving.{Leaves}
+use Rattle.leaving.specs.Leaving.{Leaves}
 use Rattle.rule.proofs.FourTests.{clash}
-use Rattle.firing.proofs.Leaving.{leaves-some, leaves-written}
+use Rattle.leaving.proofs.Leaving.{leaves-some, leaves-written}
 
 module _ {s : List ℕ} {net : NetShape} {arcs : Segment} {m : List ℕ} (h : AtMode s net arcs m) (t : Mode)
     (own : ModeArcs (netOf s .arcs) t (arcs .start) (arcs .count)) where
@@ -101,6 +101,12 @@ pub in-order : {a : Answer} (thing : Thing) (net : PNet) (m : List ℕ) (t : Mod
     → a ≡ answer (refusalOf thing net m t)
 unfolding stopOf refusalOf rowRefusal ruleRefusal
 in-order thing net m t e = rw (then-assoc, then-assoc) e
+
+-- 6 is met before the arcs of a mode are looked for
+pub mode-refusal : {s : List ℕ} {net : NetShape} → Open s net → (thing : Thing) (t : Mode) (m : List ℕ)
+    → absent thing (net .modes) t ▸ refusalOf thing (netOf s) m t ≡ modeRefusal thing (netOf s) t m
+unfolding modeRefusal refusalOf
+mode-refusal o thing t m = rw (sizes o .modes)
 
 -- tested first, then written
 module _ {test : Bool} {net : PNet} {m : List ℕ} {t : Mode} (decides : Decides test net m t) (thing : Thing) {new : List ℕ} where

@@ -23,7 +23,7 @@ ghost use Rattle.sheets.specs.Decoded.{netOf};
 ghost use Rattle.opened.specs.Shape.{Open};
 ghost use Rattle.opened.specs.Starts.{OwnArc};
 ghost use Rattle.firing.specs.AtMode.{Free, Writable, writtenAt, AtMode, OfMode, stopAt, stopOf, refusalOf, Decides};
-ghost use Rattle.firing.specs.Leaving.{Leaves};
+ghost use Rattle.leaving.specs.Leaving.{Leaves};
 
 fn arc_stop(
     s: &[u8],

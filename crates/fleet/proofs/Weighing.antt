@@ -26,7 +26,7 @@ use Rattle.opened.proofs.Shapes.{sizes}
 use Rattle.sheets.specs.Decoded.{netOf, weightsOf, movementsOf}
 use Rattle.sheets.proofs.Lists.{movements-within}
 use Rattle.run.specs.Parts.{RunTells}
-use Rattle.run.proofs.Visiting.{one-more}
+use Rattle.progress.proofs.Visiting.{one-more}
 use Rattle.weigh.specs.Parts.{ChangesAre}
 use Rattle.weigh.proofs.Sizes.{fits-size}
 use Rattle.weigh.proofs.Terms.{change-size}

@@ -27,7 +27,7 @@ use Rattle.rule.specs.AtPair.{Unstopped}
 use Rattle.firing.specs.AtMode.{Free, Writable, writtenAt, AtMode}
 use Rattle.rule.proofs.FourTests.{clash}
 use Rattle.firing.proofs.Meets.{written-is}
-use Rattle.firing.proofs.Leaving.{makes-not, makes-so}
+use Rattle.leaving.proofs.Leaving.{makes-not, makes-so}
 use Rattle.firing.proofs.ByMode.{listing, one-not-free, all-free, writable, fires}
 use Rattle.numbers.specs.OnePass.{Passes, writtenTo, PassedAndWritten, Through, Fires}
 

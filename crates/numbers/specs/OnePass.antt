@@ -12,7 +12,7 @@ use Rattle.model.specs.Markings.{Marking}
 use Rattle.model.specs.Firing.{fired}
 use Rattle.opened.specs.declared.starts.Segment.{Segment}
 use Rattle.firing.specs.AtMode.{Free, writtenAt, refusalOf}
-use Rattle.firing.specs.Leaving.{Makes}
+use Rattle.leaving.specs.Leaving.{Makes}
 
 -- where the k-th arc of a net stands: whether it lets its mode pass, and what is left of a marking
 pub record Passes (passed : Bool) (net : PNet) (m : List ℕ) (k : ℕ) (left : List ℕ) : Type 0 where

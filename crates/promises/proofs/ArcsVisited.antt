@@ -22,7 +22,7 @@ use Rattle.model.proofs.Visits.{visits-bounded}
 use Rattle.sheets.specs.Decoded.{netOf, movementsOf}
 use Rattle.run.specs.Calls.{beforeRun, runOf, visitedBy}
 use Rattle.run.specs.Contracts.{RunAllows}
-use Rattle.run.proofs.Visiting.{one-more}
+use Rattle.progress.proofs.Visiting.{one-more}
 use Rattle.abi.specs.Contracts as c
 use Rattle.promises.specs.ArcsVisited.{Reported, ArcsVisited}
 use Rattle.promises.specs.ConstantAnswers.{Varies}

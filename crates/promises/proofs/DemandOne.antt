@@ -18,7 +18,7 @@ use Rattle.model.specs.Promises.{Leads, stays}
 use Rattle.model.specs.Firing.{fired}
 use Rattle.model.specs.Steps.{firedTogether}
 use Rattle.sheets.specs.Decoded.{netOf, movementsOf}
-use Rattle.firing.specs.Leaving.{written}
+use Rattle.leaving.specs.Leaving.{written}
 use Rattle.fire.specs.Calls.{beginRefusal, testRefusal}
 use Rattle.run.specs.Calls.{runOf}
 use Rattle.run.proofs.Promises.{runs-leave}

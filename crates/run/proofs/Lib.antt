@@ -2,4 +2,3 @@ pub mod Certifying
 pub mod Promises
 pub mod Reporting
 pub mod Running
-pub mod Visiting

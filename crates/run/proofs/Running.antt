@@ -1,136 +1,28 @@
--- A run on its way: what is left from here is the whole.
-use Prim.Native.Nat.{ℕ, _+_, _*_, _≤_, _<_}
-use mathlib.Core.Path.{_≡_, refl, sym, _∙_, ap}
+-- What a run reports of the movements that it accepts, and that it keeps a marking one.
+use Prim.Native.Nat.{ℕ, _≤_, _<_}
+use mathlib.Core.Path.{_≡_, sym, _∙_, ap}
 use mathlib.Core.List.{List}
-use mathlib.Core.Bool.{Bool, true, false}
-use mathlib.Core.Option.{Option, none, some}
-use lib.ListN.{length, drop, getD, drop-of-length-le}
-use lib.Seq.{drop-cons}
-use native.Mathlib.Numerals.{add-one}
+use lib.ListN.{length, getD}
 use native.Mathlib.Omega.{arith}
-use borrow.Author.Tests.{leb-false, lt-leb}
 use Rattle.model.specs.declared.Mode.{Mode}
 use Rattle.model.specs.declared.Thing.the-variants.{Movements}
-use Rattle.model.specs.declared.Refusal.{Refusal}
 use Rattle.model.specs.declared.Answer.{Answer}
 use Rattle.model.specs.declared.Answer.the-variants.{Accepted}
 use Rattle.model.specs.Nets.{PNet, modeNo}
 use Rattle.model.specs.Markings.{Marking}
-use Rattle.model.specs.Firing.{modeRefusal, fired, absent}
-use Rattle.model.specs.Runs.{Outcome, runFrom, run}
+use Rattle.model.specs.Firing.{modeRefusal}
+use Rattle.model.specs.Runs.{run}
 use Rattle.model.specs.Visits.{visited}
 use Rattle.model.proofs.Markings.{marking-kept}
 use Rattle.model.specs.Promises.{Leads, stays, moves}
 use Rattle.model.specs.Refusals.{answer}
-use Rattle.model.proofs.First.{left-none, only-if-none}
 use Rattle.model.proofs.Runs.{runs}
-use Rattle.opened.specs.declared.shape.NetShape.{NetShape}
-use Rattle.opened.specs.Shape.{Open}
-use Rattle.sheets.specs.Decoded.{netOf}
 use Rattle.sheets.specs.Listed.{modeAt, modesFrom}
 use Rattle.sheets.proofs.Lists.{modes-from-length, modes-from-at}
-use Rattle.opened.specs.declared.starts.Segment.{Segment}
 use Rattle.run.specs.declared.Ran.{Ran}
-use Rattle.run.specs.declared.movements.Progress.{Progress}
-use Rattle.firing.specs.Leaving.{written, Makes}
-use Rattle.firing.specs.AtMode.{refusalOf}
-use Rattle.rule.proofs.FourTests.{clash}
-use Rattle.firing.proofs.Leaving.{makes-not, makes-after}
-use Rattle.fire.proofs.Opened.{mode-refusal}
-use Rattle.run.specs.Parts.{Tries, Accepts, Reports}
-use Rattle.run.proofs.Visiting.{tries-own, visitedTo, visits-more, visits-stop, visits-end}
-
-abbrev ended : ℕ → List ℕ → Outcome
-ended k m = record { accepted = k; refusal = none; marking = m }
-
-abbrev stopped : ℕ → Refusal → List ℕ → Outcome
-stopped k r m = record { accepted = k; refusal = some r; marking = m }
-
-module _ (net : PNet) (ts : List Mode) (k : ℕ) (m : List ℕ) where
-  run-ends : length ts ≤ k → runFrom net k (drop k ts) m ≡ ended k m
-  unfolding runFrom
-  run-ends h = rw (drop-of-length-le ts h)
-
-  module _ (t : Mode) (h : k < length ts) (q : getD ts k (modeNo 0) ≡ t) where
-    run-on : modeRefusal Movements net t m ≡ none → runFrom net k (drop k ts) m ≡ runFrom net (k + 1) (drop (k + 1) ts) (fired net t m)
-    unfolding runFrom
-    run-on e = rw (drop-cons ts k (modeNo 0) h, q, e, add-one)
-
-    run-stops : (r : Refusal) → modeRefusal Movements net t m ≡ some r → runFrom net k (drop k ts) m ≡ stopped k r m
-    unfolding runFrom
-    run-stops r e = rw (drop-cons ts k (modeNo 0) h, q, e)
-
--- a movement whose mode is not there is not made; one whose mode is there is made where none of 11 to 14 is found
-module _ {s : List ℕ} {net : NetShape} (o : Open s net) (t : Mode) {m new : List ℕ} where
-  pub absent-makes : net .modes ≤ t .0 → Makes (modeRefusal Movements (netOf s) t m) new m false m
-  absent-makes h =
-      rw (← mode-refusal o)
-      (makes-not _ (λ e. let l = leb-false (net .modes) (t .0) (only-if-none _ _ (left-none (absent Movements (net .modes) t) _ e)) in absurd (omega arith)))
-
-  pub there-makes : {made : Bool} {left : List ℕ} → t .0 < net .modes → Makes (refusalOf Movements (netOf s) m t) new m made left
-      → Makes (modeRefusal Movements (netOf s) t m) new m made left
-  there-makes h makes =
-      let there : absent Movements (net .modes) t ≡ none = simp (lt-leb (net .modes) (t .0) h) in
-      rw (← mode-refusal o) (makes-after (absent Movements (net .modes) t) _ there makes)
-
--- k of the count movements that stand in s from `start` on have led from m₀ to m, and visited v arcs
-pub record Along (net : PNet) (s : List ℕ) (start count : ℕ) (m₀ : List ℕ) (k v : ℕ) (m : List ℕ) : Type 0 where
-  pub marking : Marking net m
-  pub rest : runFrom net k (drop k (modesFrom s start count)) m ≡ run net (modesFrom s start count) m₀
-  pub visits : v ≡ visitedTo net (modesFrom s start count) k
-  pub few : v ≤ k * 2048
-
-abbrev progress : ℕ → ℕ → Progress
-progress k v = record { accepted = k; visited = v }
-
-module _ {net : PNet} {s : List ℕ} {start count : ℕ} {m₀ : List ℕ} where
-  pub along-none : Marking net m₀ → Along net s start count m₀ 0 0 m₀
-  along-none h = record { marking = h; rest = refl; visits = refl; few = omega arith }
-
-  pub along-ends : {k v : ℕ} {m : List ℕ} → Along net s start count m₀ k v m → count ≤ k → Accepts net (modesFrom s start count) m₀ (progress k v) m
-  along-ends {k} {v} {m} along h =
-      let past : length (modesFrom s start count) ≤ k = rw modes-from-length h in
-      let e : ended k m ≡ run net (modesFrom s start count) m₀ = sym (run-ends net _ k m past) ∙ along .rest in
-      let accepted : k ≡ run net (modesFrom s start count) m₀ .accepted = ap (λ o. o .accepted) e in
-      record { accepted = accepted; visits = along .visits ∙ visits-end net _ m₀ k past accepted; leaves = ap (λ o. o .marking) e }
-
-  module _ {k v : ℕ} {m : List ℕ} {t : Mode} {arcs : Segment} {made : Bool} {left : List ℕ} (along : Along net s start count m₀ k v m) (h : k < count)
-      (q : t ≡ modeAt s start k) (tries : Tries net t arcs) (move : Makes (modeRefusal Movements net (arcs .mode) m) (fired net (arcs .mode) m) m made left) where
-    there : k < length (modesFrom s start count)
-    there = rw modes-from-length h
-
-    this : getD (modesFrom s start count) k (modeNo 0) ≡ arcs .mode
-    this = modes-from-at s start count (modeNo 0) k h ∙ sym q ∙ sym (tries .mode)
-
-    tried : v + arcs .count ≡ visitedTo net (modesFrom s start count) (k + 1)
-    tried = visits-more net _ k there this (tries-own tries) (along .visits)
-
-    pub along-more : {v′ : ℕ} → v′ ≡ v + arcs .count → made ≡ true → Along net s start count m₀ (k + 1) v′ left
-    along-more a e =
-        let n : modeRefusal Movements net (arcs .mode) m ≡ none = move .decides .0 e in
-        let l : left ≡ fired net (arcs .mode) m = move .leaves ∙ ap (λ o. written o (fired net (arcs .mode) m) m) n in
-        record {
-          marking = rw l (marking-kept Movements net (arcs .mode) m (along .marking) n);
-          rest = rw l (sym (run-on net _ k m (arcs .mode) there this n) ∙ along .rest);
-          visits = a ∙ tried;
-          few = omega (arith, along .few, tries .few);
-        }
-
-    stops : {done : Progress} → done .accepted ≡ k → done .visited ≡ v + arcs .count
-        → (o : Option Refusal) → modeRefusal Movements net (arcs .mode) m ≡ o → ¬ (o ≡ none) → Accepts net (modesFrom s start count) m₀ done left
-    stops c a none n f = absurd (f refl)
-    stops c a (some r) n f =
-        let o : stopped k r m ≡ run net (modesFrom s start count) m₀ = sym (run-stops net _ k m (arcs .mode) there this r n) ∙ along .rest in
-        let accepted : k ≡ run net (modesFrom s start count) m₀ .accepted = ap (λ o. o .accepted) o in
-        record {
-          accepted = c ∙ accepted;
-          visits = a ∙ tried ∙ visits-stop net _ m₀ k accepted;
-          leaves = move .leaves ∙ ap (λ o. written o (fired net (arcs .mode) m) m) n ∙ ap (λ o. o .marking) o;
-        }
-
-    pub along-stops : {done : Progress} → done .accepted ≡ k → done .visited ≡ v + arcs .count → made ≡ false
-        → Accepts net (modesFrom s start count) m₀ done left
-    along-stops c a e = stops c a _ refl (λ n. clash (sym (move .decides .1 n) ∙ e))
+use Rattle.progress.specs.declared.Progress.{Progress}
+use Rattle.progress.specs.Progress.{Accepts}
+use Rattle.run.specs.Parts.{Reports}
 
 abbrev pub told : ℕ → ℕ → Answer → Ran
 told k v a = record { accepted = k; visited = v; answer = a }

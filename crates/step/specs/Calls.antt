@@ -11,7 +11,7 @@ use Rattle.model.specs.Markings.{markingRefusal}
 use Rattle.model.specs.Steps.{stepRefusal, firedTogether}
 use Rattle.sheets.specs.Whole.{wholeNet}
 use Rattle.sheets.specs.Decoded.{netOf}
-use Rattle.firing.specs.Leaving.{written}
+use Rattle.leaving.specs.Leaving.{written}
 
 -- the modes, lent as their numbers
 abbrev pub stepModes : List ℕ → List Mode

@@ -15,7 +15,7 @@ ghost use Rattle.model.specs.Markings.{Marking};
 ghost use Rattle.model.specs.Steps.{firedTogether};
 ghost use Rattle.sheets.specs.Decoded.{netOf};
 ghost use Rattle.opened.specs.Shape.{Open};
-ghost use Rattle.firing.specs.Leaving.{Leaves};
+ghost use Rattle.leaving.specs.Leaving.{Leaves};
 ghost use Rattle.step.specs.Calls.{stepModes};
 ghost use Rattle.step.specs.Parts.{Members, argumentRefusal, sumsRefusal};
 ghost use Rattle.step.specs.Contracts.{TestStepAllows, FireStepAllows};

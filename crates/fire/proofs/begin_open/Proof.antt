@@ -1,7 +1,7 @@
 -- 17, or the first marking.
 use borrow.Author.Needs.{needs}
 use mathlib.Core.Path.{refl}
-use Rattle.firing.proofs.Leaving.{leaves-refused, leaves-written}
+use Rattle.leaving.proofs.Leaving.{leaves-refused, leaves-written}
 use Rattle.fire.proofs.Opened.{one-each, not-one-each}
 use Rattle.fire.proofs.begin_open.Statement.{statement}
 use Rattle.fire.proofs.begin_open.Tie as tie

@@ -4,7 +4,7 @@ use mathlib.Core.Path.{refl, sym, _∙_, ap}
 use native.Mathlib.Omega.{arith}
 use Rattle.model.specs.Refusals.{answer}
 use Rattle.opened.proofs.Shapes.{sizes}
-use Rattle.firing.proofs.Leaving.{leaves-refused, leaves-written}
+use Rattle.leaving.proofs.Leaving.{leaves-refused, leaves-written}
 use Rattle.step.proofs.Summing.{sums-none, tabled, sums-below, sums-refusal, sums-fired}
 use Rattle.step.proofs.fire_members.Statement.{statement}
 use Rattle.step.proofs.fire_members.Tie as tie

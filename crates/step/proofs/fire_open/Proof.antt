@@ -2,7 +2,7 @@
 use borrow.Author.Needs.{needs}
 use Rattle.model.proofs.Refusals.{answer-none}
 use Rattle.model.proofs.Markings.{marking-test}
-use Rattle.firing.proofs.Leaving.{leaves-stops, leaves-goes-on}
+use Rattle.leaving.proofs.Leaving.{leaves-stops, leaves-goes-on}
 use Rattle.step.proofs.Summing.{members-met, step-refusal}
 use Rattle.step.proofs.fire_open.Statement.{statement}
 use Rattle.step.proofs.fire_open.Tie as tie

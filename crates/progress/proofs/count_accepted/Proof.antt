@@ -5,10 +5,10 @@ use Prim.Native.Nat.{_≤_, _-_}
 use native.Mathlib.Omega.{arith}
 use mathlib.Core.Path.{sym, _∙_}
 use Rattle.sheets.specs.Decoded.{netOf}
-use Rattle.run.proofs.Visiting.{tries-own}
-use Rattle.run.proofs.Running.{Along, along-none, along-more, along-stops, along-ends}
-use Rattle.run.proofs.movements.count_accepted.Statement.{statement}
-use Rattle.run.proofs.movements.count_accepted.Tie as tie
+use Rattle.progress.proofs.Visiting.{tries-own}
+use Rattle.progress.proofs.Along.{Along, along-none, along-more, along-stops, along-ends}
+use Rattle.progress.proofs.count_accepted.Statement.{statement}
+use Rattle.progress.proofs.count_accepted.Tie as tie
 
 abbrev Inv-loop : tie.InvT-loop
 Inv-loop s net starts numbers movements start count marking₀ k₀ visited₀ marking k visited =

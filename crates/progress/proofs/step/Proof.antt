@@ -1,9 +1,9 @@
 -- Not there; or what firing the mode's arcs gives.
 use borrow.Author.Needs.{needs}
-use Rattle.run.proofs.Running.{absent-makes, there-makes}
-use Rattle.run.proofs.Visiting.{tries-at}
-use Rattle.run.proofs.movements.step.Statement.{statement}
-use Rattle.run.proofs.movements.step.Tie as tie
+use Rattle.progress.proofs.Along.{absent-makes, there-makes}
+use Rattle.progress.proofs.Visiting.{tries-at}
+use Rattle.progress.proofs.step.Statement.{statement}
+use Rattle.progress.proofs.step.Tie as tie
 
 returns : tie.Need-returns
 returns c = absent-makes (c .before .before .before .before .before .before .pre .0 .opened) _ (c .if1 .taken)

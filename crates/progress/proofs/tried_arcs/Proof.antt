@@ -1,8 +1,8 @@
 -- None where the mode is not there; or what the table says.
 use borrow.Author.Needs.{needs}
-use Rattle.run.proofs.Visiting.{tries-absent, tries-there}
-use Rattle.run.proofs.movements.tried_arcs.Statement.{statement}
-use Rattle.run.proofs.movements.tried_arcs.Tie as tie
+use Rattle.progress.proofs.Visiting.{tries-absent, tries-there}
+use Rattle.progress.proofs.tried_arcs.Statement.{statement}
+use Rattle.progress.proofs.tried_arcs.Tie as tie
 
 returns : tie.Need-returns
 returns c = tries-absent (c .before .before .before .before .pre .0) _ (c .if1 .taken)

@@ -1,7 +1,7 @@
 -- What a call leaves, test by test: "Other refused calls write nothing."
 use Prim.Native.Nat.{ℕ}
 use mathlib.Core.Path.{_≡_, refl, sym, _∙_, ap, subst}
-use mathlib.Core.Bool.{Bool, true, false}
+use mathlib.Core.Bool.{Bool, true, false, false≢true}
 use mathlib.Core.List.{List}
 use mathlib.Core.Option.{Option, none, some}
 use Rattle.model.specs.declared.Refusal.{Refusal}
@@ -11,8 +11,7 @@ use Rattle.model.specs.First.{_▸_}
 use Rattle.model.specs.Refusals.{answer}
 use Rattle.model.proofs.First.{none-then}
 use Rattle.model.proofs.Refusals.{answer-refused, answer-none, answer-stops}
-use Rattle.firing.specs.Leaving.{written, Leaves, Makes}
-use Rattle.rule.proofs.FourTests.{clash}
+use Rattle.leaving.specs.Leaving.{written, Leaves, Makes}
 
 module _ {new found : List ℕ} where
   pub leaves-refused : {a : Answer} {r : Refusal} (o : Option Refusal) → a ≡ answer o → a ≡ Refused r → Leaves o new found a found
@@ -39,7 +38,7 @@ module _ {new found : List ℕ} where
   -- not made, or made
   pub makes-not : (o : Option Refusal) → ¬ (o ≡ none) → Makes o new found false found
   makes-not none h = absurd (h refl)
-  makes-not (some r) h = record { decides = (λ z. clash (sym z), λ e. absurd (h e)); leaves = refl }
+  makes-not (some r) h = record { decides = (λ z. absurd (false≢true z), λ e. absurd (h e)); leaves = refl }
 
   pub makes-so : {left : List ℕ} (o : Option Refusal) → o ≡ none → left ≡ new → Makes o new found true left
   makes-so o e q = record { decides = (λ _. e, λ _. refl); leaves = q ∙ sym (ap (λ o. written o new found) e) }

@@ -25,7 +25,7 @@ use Rattle.opened.proofs.Shapes.{sizes}
 use Rattle.opened.proofs.Segments.{segment-own}
 use Rattle.sheets.specs.Decoded.{netOf}
 use Rattle.firing.specs.AtMode.{AtMode}
-use Rattle.run.specs.Parts.{Tries}
+use Rattle.progress.specs.Progress.{Tries}
 
 -- the arcs of a mode stand from `low` on and before `high`, and no other does
 record Stand (arcs : List NetArc) (t : Mode) (low high : ℕ) : Type 0 where
