@@ -2,10 +2,9 @@
 use borrow.Author.Needs.{needs}
 use borrow.Author.Tests.{not-true, not-false}
 use Prim.Native.Nat.{_≤_}
-use mathlib.Core.Path.{_≡_, refl, sym, _∙_}
+use mathlib.Core.Path.{refl, sym, _∙_}
 use native.Mathlib.Omega.{arith}
 use Rattle.model.specs.Numbers.{limit}
-use Rattle.model.specs.Complement.{complementPre}
 use Rattle.model.proofs.ComplementRow.{claim-within, claimed, reserve-within}
 use Rattle.fields.specs.Numbers.{unbounded}
 use Rattle.fields.proofs.Bounds.{bound-unbounded}
@@ -19,22 +18,19 @@ returns c = rw (unbounded-is _ (sym (c .before .is-finite .ensures) ∙ not-true
 
 given-back-requires : tie.Need-given-back-requires
 given-back-requires c κs =
-    let start = c .before .before .before .before .before .before in
+    let start = c .before .before .before .before in
     let k = start .args .capacity in
     let rule = start .args .rule in
     let entry = netArc (start .args .arc) .entry in
-    let within : k ≤ limit = rw (finite-is k (sym (c .before .before .before .before .is-finite .ensures) ∙ not-false _ (c .before .before .before .if1 .left))) at (start .pre .capacity) in
-    let pre : c .larger .result ≡ complementPre rule k entry = rw (← c .before .before .claimed .ensures, ← c .before .reserved .ensures) (c .larger .ensures) in
-    omega (arith, pre, claim-within rule entry, claimed rule k entry, reserve-within k (entry .inhibitor))
+    let within : k ≤ limit = rw (finite-is k (sym (c .before .before .is-finite .ensures) ∙ not-false _ (c .before .if1 .left))) at (start .pre .capacity) in
+    omega (arith, c .taken .ensures, claim-within rule entry, claimed rule k entry, reserve-within k (entry .inhibitor))
 
 returns-2 : tie.Need-returns-2
 returns-2 c =
     rw (
-      finite-is _ (sym (c .before .before .before .before .before .is-finite .ensures) ∙ not-false _ (c .before .before .before .before .if1 .left)),
+      finite-is _ (sym (c .before .before .before .is-finite .ensures) ∙ not-false _ (c .before .before .if1 .left)),
       bound-unbounded unbounded refl,
-      ← c .before .before .before .claimed .ensures,
-      ← c .before .before .reserved .ensures,
-      ← c .before .larger .ensures,
+      ← c .before .taken .ensures,
       c .given-back .ensures,
     )
 
@@ -44,8 +40,6 @@ complement-arc-spec =
     (tie.spec
     (λ c κs. search needs)
     returns
-    (λ c κs. search needs)
-    (λ c κs. search needs)
     (λ c κs. search needs)
     given-back-requires
     returns-2)

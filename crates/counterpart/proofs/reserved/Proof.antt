@@ -2,9 +2,9 @@
 use borrow.Author.Needs.{needs}
 use mathlib.Core.Path.{_∙_}
 use native.Mathlib.Omega.{arith}
-use Rattle.halves.proofs.Entries.{reserve-less}
-use Rattle.halves.proofs.entry.reserved.Statement.{statement}
-use Rattle.halves.proofs.entry.reserved.Tie as tie
+use Rattle.counterpart.proofs.Entries.{reserve-less}
+use Rattle.counterpart.proofs.reserved.Statement.{statement}
+use Rattle.counterpart.proofs.reserved.Tie as tie
 
 returns : tie.Need-returns
 returns c = c .less .ensures ∙ reserve-less _ _ (omega (arith, c .before .fits .capacity))

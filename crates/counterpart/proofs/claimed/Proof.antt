@@ -1,7 +1,7 @@
 -- By each rule.
 use borrow.Author.Needs.{needs}
-use Rattle.halves.proofs.entry.claimed.Statement.{statement}
-use Rattle.halves.proofs.entry.claimed.Tie as tie
+use Rattle.counterpart.proofs.claimed.Statement.{statement}
+use Rattle.counterpart.proofs.claimed.Tie as tie
 
 returns : tie.Need-returns
 returns c = rw (c .enum-told .given .1)

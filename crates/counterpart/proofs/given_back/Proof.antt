@@ -1,8 +1,8 @@
 -- What a dead mode takes it gives back.
 use borrow.Author.Needs.{needs}
 use native.Mathlib.Omega.{arith}
-use Rattle.halves.proofs.entry.given_back.Statement.{statement}
-use Rattle.halves.proofs.entry.given_back.Tie as tie
+use Rattle.counterpart.proofs.given_back.Statement.{statement}
+use Rattle.counterpart.proofs.given_back.Tie as tie
 
 returns-2 : tie.Need-returns-2
 returns-2 c = rw (c .before .before .if1 .left) (omega arith)
