@@ -18,16 +18,16 @@ use pnml::TO_TRANSITION;
 use pnml::TRANSITION;
 use pnml::TRANSITION_END;
 use pnml::WEIGHT;
-use text::twos::write_to_eight;
-use text::writes::write_byte;
-use text::writes::write_bytes;
+use twos::write_to_eight;
+use writes::write_byte;
+use writes::write_bytes;
 ghost use mathlib.Core.List.{_++_};
 ghost use Prim.Native.Nat.{_+_, _≤_, _<_};
 ghost use lib.ListN.{length};
 ghost use Rattle.model.specs.Numbers.{limit};
 ghost use Rattle.text.specs.Ascii.{ascii};
-ghost use Rattle.text.specs.Puts.{Writes};
-ghost use Rattle.text.specs.Twos.{TwosAre};
+ghost use Rattle.writes.specs.Writes.{Writes};
+ghost use Rattle.twos.specs.Twos.{TwosAre};
 ghost use Rattle.pnml.specs.Pnml.{three, placeText, transitionText, weightText, preText, postText};
 
 // "identifiers have three digits"

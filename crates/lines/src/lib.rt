@@ -8,17 +8,17 @@ use crate::words::next_decimal;
 use crate::words::write_answer;
 use model::Mode;
 use model::Refusal;
-use text::twos::write_decimal_by;
-use text::twos::write_signed_by;
-use text::twos::write_to_eight;
-use text::writes::write_byte;
-use text::writes::write_bytes;
 use told::line_of;
 use told::thing_of;
+use twos::write_decimal_by;
+use twos::write_signed_by;
+use twos::write_to_eight;
+use writes::write_byte;
+use writes::write_bytes;
 ghost use Prim.Native.Nat.{_+_, _≤_};
 ghost use lib.ListN.{length};
-ghost use Rattle.text.specs.Puts.{Writes};
-ghost use Rattle.text.specs.Twos.{TwosAre};
+ghost use Rattle.writes.specs.Writes.{Writes};
+ghost use Rattle.twos.specs.Twos.{TwosAre};
 ghost use Rattle.lines.specs.Lines.{startLine, acceptedLine, refusedLine, endLine, badLine, longLine};
 
 pub fn put_start(out: &mut [u8], at: usize, figure: i64) -> usize

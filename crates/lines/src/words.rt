@@ -1,14 +1,14 @@
 // A number as a word after another.
-use text::writes::write_byte;
-use text::writes::write_decimal;
-use text::writes::write_signed;
+use text::digits::write_decimal;
+use text::digits::write_signed;
+use writes::write_byte;
 ghost use mathlib.Core.List.{[], _∷_, _++_};
 ghost use Prim.Native.Nat.{_+_, _≤_};
 ghost use lib.ListN.{length};
 ghost use Rattle.model.specs.declared.Answer.the-variants.{Accepted};
 ghost use Rattle.model.specs.Refusals.{number};
 ghost use Rattle.text.specs.Decimals.{decimal, signedDecimal};
-ghost use Rattle.text.specs.Puts.{Writes};
+ghost use Rattle.writes.specs.Writes.{Writes};
 ghost use Rattle.text.specs.Ascii.{space, newline};
 
 pub(crate) fn next_decimal(out: &mut [u8], at: usize, n: u64) -> usize

@@ -37,7 +37,8 @@ use Rattle.export.specs.Exports as exporting
 use Rattle.import.proofs.Promises.{import-kept}
 use Rattle.salvage.specs.Salvaged as salvaging
 use Rattle.text.specs.declared.Put.the-variants.{To, Full}
-use Rattle.text.specs.Puts.{endWithin, putTo, putInto}
+use Rattle.writes.specs.Writes.{putInto}
+use Rattle.text.specs.Puts.{endWithin, putTo}
 use Rattle.statement.specs.declared.Stated.the-variants.{Written, NoRoom}
 use Rattle.statement.specs.Replay.{room, replayText, stated, statedIn}
 use Rattle.answers.specs.Told.{counted, textTold}

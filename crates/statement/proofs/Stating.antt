@@ -8,8 +8,8 @@ use lib.ListN.{length, length-append}
 use native.Mathlib.Nat.{zero-add}
 use native.Mathlib.Omega.{arith}
 use borrow.Author.Tests.{lt-ltb, le-ltb}
-use Rattle.text.specs.Puts.{Writes}
-use Rattle.text.proofs.Puts.{into-within}
+use Rattle.writes.specs.Writes.{Writes}
+use Rattle.writes.proofs.Into.{into-within}
 use Rattle.statement.specs.declared.Stated.{Stated}
 use Rattle.statement.specs.declared.Stated.the-variants.{Written, NoRoom}
 use Rattle.statement.specs.Contracts.{StatementAllows}

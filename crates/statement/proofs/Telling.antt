@@ -34,11 +34,11 @@ use Rattle.opened.specs.Read.{Read}
 use Rattle.run.specs.Parts.{RunTells}
 use Rattle.weigh.specs.Parts.{ChangesAre}
 use Rattle.weigh.proofs.Sizes.{fits-size}
-use Rattle.text.specs.Puts.{Writes}
+use Rattle.writes.specs.Writes.{Writes}
 use Rattle.lines.specs.Lines.{acceptedLine, refusedLine, endLine}
 use Rattle.statement.specs.Promises.{acceptedLines, lastLines}
 use Rattle.statement.specs.Replay.{linesFrom}
-use Rattle.text.proofs.Writing.{_and_, nothing, within, length-kept}
+use Rattle.writes.proofs.Writing.{_and_, nothing, within, length-kept}
 use Rattle.lines.proofs.LineSizes.{accepted-size}
 use Rattle.statement.proofs.TextOfRun.{lines-of-run}
 use Rattle.statement.proofs.Weighed.{figure-size}

@@ -13,10 +13,10 @@ use Rattle.model.specs.Refusals.{answer}
 use Rattle.model.specs.Nets.{PNet}
 use Rattle.model.specs.Figures.{figure}
 use Rattle.model.proofs.Refusals.{answer-refused, answer-none}
-use Rattle.text.specs.Puts.{Writes}
+use Rattle.writes.specs.Writes.{Writes}
 use Rattle.lines.specs.Lines.{startLine, badLine}
 use Rattle.statement.specs.Replay.{unlessRefused, linesFrom, runText, room}
-use Rattle.text.proofs.Writing.{_and_, within}
+use Rattle.writes.proofs.Writing.{_and_, within}
 use Rattle.statement.proofs.Telling.{mostLines}
 
 module _ {out : List ℕ} {after : ℕ} {now : List ℕ} where

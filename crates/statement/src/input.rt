@@ -19,7 +19,7 @@ ghost use Prim.Native.Nat.{_≤_};
 ghost use lib.ListN.{length};
 ghost use Rattle.model.specs.Refusals.{answer};
 ghost use Rattle.lists.specs.Weights.{weightsRefusal};
-ghost use Rattle.text.specs.Puts.{Writes};
+ghost use Rattle.writes.specs.Writes.{Writes};
 ghost use Rattle.sheets.specs.Decoded.{netOf, weightsOf, movementsOf};
 ghost use Rattle.opened.specs.Shape.{Open};
 ghost use Rattle.opened.specs.Read.{Read};

@@ -6,7 +6,7 @@ use crate::input::put_sheets;
 use lines::put_long;
 ghost use Prim.Native.Nat.{_≤_};
 ghost use lib.ListN.{length};
-ghost use Rattle.text.specs.Puts.{Writes};
+ghost use Rattle.writes.specs.Writes.{Writes};
 ghost use Rattle.statement.specs.Contracts.{StatementAllows};
 ghost use Rattle.statement.specs.Replay.{replayText, room};
 

@@ -7,10 +7,10 @@ use lib.Seq.{drop-cons, getD-set-same, take-set-le, drop-set-lt}
 use native.Mathlib.Nat.{add-zero, add-suc, mod-eq-of-lt}
 use native.Mathlib.Omega.{arith}
 use Rattle.text.specs.Decimals.{digit, decimal}
-use Rattle.text.specs.Puts.{putInto}
-use Rattle.text.specs.Twos.{lastDigits}
+use Rattle.writes.specs.Writes.{putInto}
+use Rattle.text.specs.LastDigits.{lastDigits}
 use Rattle.text.proofs.Decimals.{by-tens, last-length}
-use Rattle.text.proofs.Puts.{into-within}
+use Rattle.writes.proofs.Into.{into-within}
 
 pub last-digits-all : (n : ℕ) → lastDigits (length (decimal n)) n ≡ decimal n
 unfolding lastDigits

@@ -1,11 +1,12 @@
--- The sign and the size of a signed number, as the machine reads them back from its bits.
-use Prim.Native.Nat.{ℕ, suc, _+_}
+-- The sign and the size of a signed number, as the machine reads them back from its bits, and how many bytes it has at most.
+use Prim.Native.Nat.{ℕ, suc, _+_, _≤_}
 use mathlib.Core.Path.{_≡_, refl, sym, _∙_, ap}
 use mathlib.Core.Bool.{true, false, cond}
 use mathlib.Core.List.{_∷_}
 use lib.Dec.{T}
 use lib.IntN.{ℤ, pos, negsuc, natAbs, _-ℤ_}
-use lib.Signed.{mag, ltZ, nonNeg}
+use lib.ListN.{length}
+use lib.Signed.{mag, ltZ, nonNeg, natAbs-le}
 use native.Mathlib.Numerals.{add-one}
 use native.Mathlib.Omega.{arith}
 use borrow.Author.Tests.{ltb-true, le-ltb}
@@ -13,6 +14,7 @@ use mir.Syntax.{w64}
 use mir.Val.{Fits, SFits, toZ, ofZ}
 use mir.Facts.{toZ-ofZ, fits-natAbs}
 use Rattle.text.specs.Decimals.{minus, decimal, signedDecimal}
+use Rattle.text.proofs.Decimals.{signed-length}
 
 signed : (z : ℤ) → signedDecimal z ≡ cond (ltZ z (pos 0)) (minus ∷ decimal (natAbs z)) (decimal (natAbs z))
 unfolding signedDecimal
@@ -58,3 +60,6 @@ module _ {z : ℤ} (fits : SFits w64 z) where
 
     pub size-is : mag z + 1 ≡ natAbs z
     size-is = both .1
+
+pub signed-size : {z : ℤ} → SFits w64 z → length (signedDecimal z) ≤ 20
+signed-size {z} fits = signed-length z 18 (omega (arith, natAbs-le z (fits .sfits)))

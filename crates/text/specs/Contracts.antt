@@ -3,9 +3,10 @@ use Prim.Native.Nat.{ℕ}
 use mathlib.Core.Path.{_≡_}
 use mathlib.Core.List.{List}
 use lib.IntN.{ℤ}
+use Rattle.writes.specs.Writes.{putInto}
 use Rattle.text.specs.declared.Put.{Put}
 use Rattle.text.specs.Decimals.{decimal, signedDecimal}
-use Rattle.text.specs.Puts.{putTo, putInto}
+use Rattle.text.specs.Puts.{putTo}
 
 module _ (out : List ℕ) (at : ℕ) where
   abbrev pub PutBytesAllows : List ℕ → Put × List ℕ → Type 0

@@ -3,4 +3,4 @@ pub mod Promises
 pub mod Decimals
 pub mod Puts
 pub mod Contracts
-pub mod Twos
+pub mod LastDigits

@@ -1,16 +1,15 @@
 // Runs of bytes and numbers in decimal, put into a slice that the caller lends: the parts of a line of `replay` (document 01, "`replay`").
 pub mod digits;
-pub mod twos;
-pub mod writes;
 
 use crate::digits::digit_count;
-use crate::digits::size;
+use crate::digits::size_of;
 use crate::digits::write_digits;
-use crate::writes::write_bytes;
+use writes::write_bytes;
 ghost use mathlib.Core.Path.{_≡_};
 ghost use mathlib.Core.List.{_∷_};
+ghost use Rattle.writes.specs.Writes.{putInto};
 ghost use Rattle.text.specs.Decimals.{decimal, minus};
-ghost use Rattle.text.specs.Puts.{endWithin, putTo, putInto};
+ghost use Rattle.text.specs.Puts.{endWithin, putTo};
 ghost use Rattle.text.specs.Contracts.{PutBytesAllows, PutDecimalAllows, PutSignedAllows};
 
 // The position after what was put, or no room: then nothing is written.
@@ -76,8 +75,8 @@ pub fn put_signed(out: &mut [u8], at: usize, z: i64) -> Put
     ensures { λ r. ⌜ PutSignedAllows (now (out .entry)) at z (r, now (out .exit)) ⌝ }
 {
     if z < 0 {
-        put_negative(out, at, size(z))
+        put_negative(out, at, size_of(z))
     } else {
-        put_decimal(out, at, size(z))
+        put_decimal(out, at, size_of(z))
     }
 }

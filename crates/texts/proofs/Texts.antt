@@ -11,9 +11,9 @@ use Rattle.model.specs.declared.Arc.{Arc}
 use Rattle.model.specs.declared.Mode.{Mode}
 use Rattle.model.specs.Nets.{NetArc, arcNo}
 use Rattle.model.specs.Lists.{joined}
-use Rattle.text.specs.Puts.{Writes}
-use Rattle.text.proofs.Puts.{into-within}
-use Rattle.text.proofs.Writing.{length-kept}
+use Rattle.writes.specs.Writes.{Writes}
+use Rattle.writes.proofs.Into.{into-within}
+use Rattle.writes.proofs.Writing.{length-kept}
 use Rattle.sheets.specs.Decoded.{netOf}
 use Rattle.opened.specs.declared.shape.NetShape.{NetShape}
 use Rattle.opened.specs.Shape.{Open, ArcIs}

@@ -1,7 +1,7 @@
 -- The words, then the place or the transition.
 use borrow.Author.Needs.{needs}
 use native.Mathlib.Omega.{arith}
-use Rattle.text.proofs.Writing.{within, _and_}
+use Rattle.writes.proofs.Writing.{within, _and_}
 use Rattle.elements.proofs.put_end.Statement.{statement}
 use Rattle.elements.proofs.put_end.Tie as tie
 

@@ -1,6 +1,6 @@
 -- The mode, then the pair.
 use borrow.Author.Needs.{needs}
-use Rattle.text.proofs.Writing.{_and_}
+use Rattle.writes.proofs.Writing.{_and_}
 use Rattle.elements.proofs.put_name.Statement.{statement}
 use Rattle.elements.proofs.put_name.Tie as tie
 

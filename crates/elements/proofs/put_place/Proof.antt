@@ -1,6 +1,6 @@
 -- The pair, then the count.
 use borrow.Author.Needs.{needs}
-use Rattle.text.proofs.Writing.{_and_}
+use Rattle.writes.proofs.Writing.{_and_}
 use Rattle.pnml.specs.Pnml.{placeText}
 use Rattle.elements.proofs.put_place.Statement.{statement}
 use Rattle.elements.proofs.put_place.Tie as tie

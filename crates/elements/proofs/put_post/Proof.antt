@@ -1,6 +1,6 @@
 -- The arc is named, goes from the transition to the place, and has its weight.
 use borrow.Author.Needs.{needs}
-use Rattle.text.proofs.Writing.{_and_}
+use Rattle.writes.proofs.Writing.{_and_}
 use Rattle.pnml.specs.Pnml.{three, postText}
 use Rattle.elements.proofs.put_post.Statement.{statement}
 use Rattle.elements.proofs.put_post.Tie as tie

@@ -1,6 +1,6 @@
 -- The arc is named, goes from the place to the transition, and has its weight.
 use borrow.Author.Needs.{needs}
-use Rattle.text.proofs.Writing.{_and_}
+use Rattle.writes.proofs.Writing.{_and_}
 use Rattle.pnml.specs.Pnml.{three, preText}
 use Rattle.elements.proofs.put_pre.Statement.{statement}
 use Rattle.elements.proofs.put_pre.Tie as tie

@@ -1,6 +1,6 @@
 -- The mode.
 use borrow.Author.Needs.{needs}
-use Rattle.text.proofs.Writing.{_and_}
+use Rattle.writes.proofs.Writing.{_and_}
 use Rattle.pnml.specs.Pnml.{transitionText}
 use Rattle.elements.proofs.put_transition.Statement.{statement}
 use Rattle.elements.proofs.put_transition.Tie as tie

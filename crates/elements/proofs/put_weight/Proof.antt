@@ -1,6 +1,6 @@
 -- The weight between its words.
 use borrow.Author.Needs.{needs}
-use Rattle.text.proofs.Writing.{_and_}
+use Rattle.writes.proofs.Writing.{_and_}
 use Rattle.pnml.specs.Pnml.{weightText}
 use Rattle.elements.proofs.put_weight.Statement.{statement}
 use Rattle.elements.proofs.put_weight.Tie as tie

@@ -1,6 +1,6 @@
 -- Three bytes.
 use borrow.Author.Needs.{needs}
-use Rattle.text.proofs.Writing.{_and_}
+use Rattle.writes.proofs.Writing.{_and_}
 use Rattle.pnml.specs.Pnml.{three}
 use Rattle.elements.proofs.write_three.Statement.{statement}
 use Rattle.elements.proofs.write_three.Tie as tie

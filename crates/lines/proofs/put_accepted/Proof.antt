@@ -4,7 +4,7 @@ use mir.Facts.{toZ-ofZ}
 use native.Mathlib.Omega.{arith}
 use borrow.Author.Needs.{needs}
 use Rattle.text.specs.Decimals.{decimal, decimalWithin}
-use Rattle.text.proofs.Writing.{within, _and_}
+use Rattle.writes.proofs.Writing.{within, _and_}
 use Rattle.lines.proofs.put_accepted.Statement.{statement}
 use Rattle.lines.proofs.put_accepted.Tie as tie
 

@@ -1,7 +1,7 @@
 -- The word, the thing, the number and the position.
 use Rattle.lines.specs.Lines.{line, badLine}
 use borrow.Author.Needs.{needs}
-use Rattle.text.proofs.Writing.{_and_}
+use Rattle.writes.proofs.Writing.{_and_}
 use Rattle.lines.proofs.put_bad.Statement.{statement}
 use Rattle.lines.proofs.put_bad.Tie as tie
 

@@ -1,7 +1,7 @@
 -- The word, the position, the mode, the answer, the pair and the amount.
 use Rattle.lines.specs.Lines.{line, refusedLine}
 use borrow.Author.Needs.{needs}
-use Rattle.text.proofs.Writing.{_and_}
+use Rattle.writes.proofs.Writing.{_and_}
 use Rattle.lines.proofs.put_refused.Statement.{statement}
 use Rattle.lines.proofs.put_refused.Tie as tie
 

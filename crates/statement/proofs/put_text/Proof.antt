@@ -4,7 +4,7 @@ use borrow.Author.Tests.{lt-ltb, le-ltb}
 use lib.ListN.{length}
 use native.Mathlib.Omega.{arith}
 use Rattle.statement.specs.Replay.{replayText}
-use Rattle.text.proofs.Writing.{within}
+use Rattle.writes.proofs.Writing.{within}
 use Rattle.statement.proofs.put_text.Statement.{statement}
 use Rattle.statement.proofs.put_text.Tie as tie
 

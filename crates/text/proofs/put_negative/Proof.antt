@@ -6,8 +6,9 @@ use lib.ListN.{length, length-set}
 use native.Mathlib.Numerals.{add-one}
 use native.Mathlib.Omega.{arith}
 use borrow.Author.Needs.{needs}
+use Rattle.writes.proofs.Into.{into-cons}
 use Rattle.text.proofs.Decimals.{length-at-most}
-use Rattle.text.proofs.Puts.{end-found, to-counted, into-full, into-cons}
+use Rattle.text.proofs.Puts.{end-found, to-counted, into-full}
 use Rattle.text.proofs.put_negative.Statement.{statement}
 use Rattle.text.proofs.put_negative.Tie as tie
 

@@ -1,6 +1,6 @@
 -- A number, then the end of the line.
 use borrow.Author.Needs.{needs}
-use Rattle.text.proofs.Writing.{_and_}
+use Rattle.writes.proofs.Writing.{_and_}
 use Rattle.lines.proofs.words.last_decimal.Statement.{statement}
 use Rattle.lines.proofs.words.last_decimal.Tie as tie
 

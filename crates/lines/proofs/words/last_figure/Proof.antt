@@ -2,7 +2,8 @@
 use mir.Facts.{toZ-ofZ}
 use native.Mathlib.Omega.{arith}
 use borrow.Author.Needs.{needs}
-use Rattle.text.proofs.Writing.{signed-size, _and_}
+use Rattle.writes.proofs.Writing.{_and_}
+use Rattle.text.proofs.Sizes.{signed-size}
 use Rattle.lines.proofs.words.last_figure.Statement.{statement}
 use Rattle.lines.proofs.words.last_figure.Tie as tie
 

@@ -2,7 +2,7 @@
 use native.Mathlib.Omega.{arith}
 use borrow.Author.Needs.{needs}
 use Rattle.text.proofs.Decimals.{length-at-most}
-use Rattle.text.proofs.Writing.{_and_}
+use Rattle.writes.proofs.Writing.{_and_}
 use Rattle.lines.proofs.words.next_decimal.Statement.{statement}
 use Rattle.lines.proofs.words.next_decimal.Tie as tie
 

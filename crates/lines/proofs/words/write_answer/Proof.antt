@@ -1,7 +1,7 @@
 -- Three bytes.
 use borrow.Author.Needs.{needs}
 use Rattle.text.specs.Decimals.{decimal, decimalWithin}
-use Rattle.text.proofs.Writing.{_and_}
+use Rattle.writes.proofs.Writing.{_and_}
 use Rattle.lines.proofs.words.write_answer.Statement.{statement}
 use Rattle.lines.proofs.words.write_answer.Tie as tie
 

@@ -3,7 +3,7 @@ use borrow.Author.Needs.{needs}
 use native.Mathlib.Omega.{arith}
 use mir.Facts.{toZ-ofZ}
 use Rattle.sheets.proofs.Lists.{movements-within}
-use Rattle.text.proofs.Writing.{_and_}
+use Rattle.writes.proofs.Writing.{_and_}
 use Rattle.statement.proofs.movements.put_stop.Statement.{statement}
 use Rattle.statement.proofs.movements.put_stop.Tie as tie
 

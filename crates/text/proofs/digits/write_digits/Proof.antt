@@ -5,7 +5,7 @@ use lib.ListN.{length}
 use native.Mathlib.Omega.{arith}
 use borrow.Author.Needs.{needs}
 use Rattle.text.specs.Decimals.{decimal}
-use Rattle.text.specs.Puts.{putInto}
+use Rattle.writes.specs.Writes.{putInto}
 use Rattle.text.proofs.LastDigits.{completed, none-written, one-written, all-written}
 use Rattle.text.proofs.digits.write_digits.Statement.{statement}
 use Rattle.text.proofs.digits.write_digits.Tie as tie

@@ -1,0 +1,15 @@
+-- One half after the other.
+use borrow.Author.Needs.{needs}
+use Rattle.twos.proofs.TwoDigits.{last-cut}
+use Rattle.writes.proofs.Writing.{_and_}
+use Rattle.twos.proofs.write_eight.Statement.{statement}
+use Rattle.twos.proofs.write_eight.Tie as tie
+
+returns : tie.Need-returns
+returns c =
+    let second = c .before .before in
+    let first = second .before .before .before .before in
+    rw (last-cut 4 4 (first .before .before .before .args .n)) (first .write-four .ensures and second .write-four2 .ensures)
+
+pub write-eight-spec : {M : Type 1} → statement M
+write-eight-spec = tie.close (tie.spec (λ c κs. search needs) (λ c κs. search needs) (λ c. search needs) returns)

@@ -1,0 +1,15 @@
+-- One half after the other.
+use borrow.Author.Needs.{needs}
+use Rattle.twos.proofs.TwoDigits.{last-cut}
+use Rattle.writes.proofs.Writing.{_and_}
+use Rattle.twos.proofs.write_four.Statement.{statement}
+use Rattle.twos.proofs.write_four.Tie as tie
+
+returns : tie.Need-returns
+returns c =
+    let second = c .before .before in
+    let first = second .before .before .before .before in
+    rw (last-cut 2 2 (first .before .before .before .args .n)) (first .write-two .ensures and second .write-two2 .ensures)
+
+pub write-four-spec : {M : Type 1} → statement M
+write-four-spec = tie.close (tie.spec (λ c κs. search needs) (λ c κs. search needs) (λ c. search needs) returns)

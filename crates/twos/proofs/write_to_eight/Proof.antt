@@ -1,0 +1,17 @@
+-- The first half has no leading zeros, and the second has all of its digits.
+use borrow.Author.Needs.{needs}
+use Rattle.twos.proofs.TwoDigits.{decimal-cut}
+use Rattle.writes.proofs.Writing.{_and_}
+use Rattle.twos.proofs.write_to_eight.Statement.{statement}
+use Rattle.twos.proofs.write_to_eight.Tie as tie
+
+returns-2 : tie.Need-returns-2
+returns-2 c =
+    let second = c .before .before in
+    let first = second .before .before .before .before in
+    let tested = first .before .before in
+    rw (decimal-cut 4 (tested .before .before .args .n) (tested .if1 .left)) (first .write-to-four2 .ensures and second .write-four .ensures)
+
+pub write-to-eight-spec : {M : Type 1} → statement M
+write-to-eight-spec =
+    tie.close (tie.spec (λ c κs. search needs) (λ c. search needs) (λ c. search needs) (λ c κs. search needs) (λ c κs. search needs) (λ c. search needs) returns-2)

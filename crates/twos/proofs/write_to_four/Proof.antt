@@ -1,0 +1,17 @@
+-- The first half has no leading zeros, and the second has all of its digits.
+use borrow.Author.Needs.{needs}
+use Rattle.twos.proofs.TwoDigits.{decimal-cut}
+use Rattle.writes.proofs.Writing.{_and_}
+use Rattle.twos.proofs.write_to_four.Statement.{statement}
+use Rattle.twos.proofs.write_to_four.Tie as tie
+
+returns-2 : tie.Need-returns-2
+returns-2 c =
+    let second = c .before .before in
+    let first = second .before .before .before .before in
+    let tested = first .before .before in
+    rw (decimal-cut 2 (tested .before .before .args .n) (tested .if1 .left)) (first .write-to-two2 .ensures and second .write-two .ensures)
+
+pub write-to-four-spec : {M : Type 1} → statement M
+write-to-four-spec =
+    tie.close (tie.spec (λ c κs. search needs) (λ c. search needs) (λ c. search needs) (λ c κs. search needs) (λ c κs. search needs) (λ c. search needs) returns-2)

@@ -1,0 +1,16 @@
+-- The two bytes of the table.
+use borrow.Author.Needs.{needs}
+use Rattle.twos.proofs.TwoDigits.{two-read}
+use Rattle.writes.proofs.Writing.{_and_}
+use Rattle.twos.proofs.write_two.Statement.{statement}
+use Rattle.twos.proofs.write_two.Tie as tie
+
+returns : tie.Need-returns
+returns c =
+    let second = c .before .before in
+    let first = second .before .before .before .before in
+    let start = first .before .before .before .before .before in
+    rw (two-read (start .pre .0) (start .pre .1 .0)) (first .write-byte .ensures and second .write-byte2 .ensures)
+
+pub write-two-spec : {M : Type 1} → statement M
+write-two-spec = tie.close (tie.spec (λ c. search needs) (λ c. search needs) (λ c. search needs) (λ c. search needs) (λ c κs. search needs) (λ c κs. search needs) (λ c. search needs) returns)
