@@ -5,7 +5,6 @@ mod words;
 use crate::words::last_decimal;
 use crate::words::last_figure;
 use crate::words::next_decimal;
-use crate::words::write_answer;
 use model::Mode;
 use model::Refusal;
 use told::line_of;
@@ -29,7 +28,7 @@ pub fn put_start(out: &mut [u8], at: usize, figure: i64) -> usize
     last_figure(out, word, figure)
 }
 
-// A text has thousands of these lines: their numbers are written by a table, made once for the text.
+// A text has thousands of these lines: their numbers are written by a table, made once for the text. The answer is always 0.
 pub fn put_accepted(
     twos: &[u8; 200],
     out: &mut [u8],
@@ -45,7 +44,7 @@ pub fn put_accepted(
     let first = write_decimal_by(twos, out, at, place);
     let space = write_byte(out, first, b' ');
     let second = write_to_eight(twos, out, space, mode.0 as u32);
-    let answer = write_answer(out, second);
+    let answer = write_bytes(out, second, b" 0 ");
     let end = write_signed_by(twos, out, answer, figure);
     write_byte(out, end, b'\n')
 }

@@ -5,8 +5,6 @@ use writes::write_byte;
 ghost use mathlib.Core.List.{[], _∷_, _++_};
 ghost use Prim.Native.Nat.{_+_, _≤_};
 ghost use lib.ListN.{length};
-ghost use Rattle.model.specs.declared.Answer.the-variants.{Accepted};
-ghost use Rattle.model.specs.Refusals.{number};
 ghost use Rattle.text.specs.Decimals.{decimal, signedDecimal};
 ghost use Rattle.writes.specs.Writes.{Writes};
 ghost use Rattle.text.specs.Ascii.{space, newline};
@@ -35,14 +33,4 @@ pub(crate) fn last_figure(out: &mut [u8], at: usize, figure: i64) -> usize
     let word = write_byte(out, at, b' ');
     let end = write_signed(out, word, figure);
     write_byte(out, end, b'\n')
-}
-
-// The answer of an accepted line, between two others: it is always 0.
-pub(crate) fn write_answer(out: &mut [u8], at: usize) -> usize
-    requires { ⌜ at + 3 ≤ length (now out) ⌝ }
-    ensures { λ r. ⌜ Writes 3 (now (out .entry)) at (space ∷ decimal (number Accepted) ++ space ∷ []) r (now (out .exit)) ⌝ }
-{
-    let answer = write_byte(out, at, b' ');
-    let end = write_byte(out, answer, b'0');
-    write_byte(out, end, b' ')
 }

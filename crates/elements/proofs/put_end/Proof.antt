@@ -1,5 +1,4 @@
 -- The words, then the place or the transition.
-use borrow.Author.Needs.{needs}
 use native.Mathlib.Omega.{arith}
 use Rattle.writes.proofs.Writing.{within, _and_}
 use Rattle.elements.proofs.put_end.Statement.{statement}
@@ -12,4 +11,4 @@ returns c =
     within all (omega (arith, all .within))
 
 pub put-end-spec : {M : Type 1} → statement M
-put-end-spec = tie.close (tie.spec (λ c κs. search needs) (λ c κs. search needs) (λ c. search needs) returns)
+put-end-spec = tie.close (tie.spec (λ c κs. search arith) (λ c κs. search arith) (λ c. search arith) returns)

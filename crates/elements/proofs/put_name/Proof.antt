@@ -1,5 +1,5 @@
 -- The mode, then the pair.
-use borrow.Author.Needs.{needs}
+use native.Mathlib.Omega.{arith}
 use Rattle.writes.proofs.Writing.{_and_}
 use Rattle.elements.proofs.put_name.Statement.{statement}
 use Rattle.elements.proofs.put_name.Tie as tie
@@ -11,4 +11,4 @@ returns c =
     words .before .before .before .before .before .write-three .ensures and words .write-bytes .ensures and pair .write-three2 .ensures
 
 pub put-name-spec : {M : Type 1} → statement M
-put-name-spec = tie.close (tie.spec (λ c κs. search needs) (λ c. search needs) (λ c κs. search needs) (λ c κs. search needs) (λ c. search needs) returns)
+put-name-spec = tie.close (tie.spec (λ c κs. search arith) (λ c. search arith) (λ c κs. search arith) (λ c κs. search arith) (λ c. search arith) returns)

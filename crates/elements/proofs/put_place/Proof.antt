@@ -1,5 +1,5 @@
 -- The pair, then the count.
-use borrow.Author.Needs.{needs}
+use native.Mathlib.Omega.{arith}
 use Rattle.writes.proofs.Writing.{_and_}
 use Rattle.pnml.specs.Pnml.{placeText}
 use Rattle.elements.proofs.put_place.Statement.{statement}
@@ -18,5 +18,5 @@ returns c =
 pub put-place-spec : {M : Type 1} → statement M
 put-place-spec =
     tie.close
-    (tie.spec (λ c. search needs) (λ c κs. search needs) (λ c κs. search needs) (λ c. search needs) (λ c κs. search needs) (λ c κs. search needs)
-    (λ c. search needs) (λ c κs. search needs) (λ c. search needs) returns)
+    (tie.spec (λ c. search arith) (λ c κs. search arith) (λ c κs. search arith) (λ c. search arith) (λ c κs. search arith) (λ c κs. search arith)
+    (λ c. search arith) (λ c κs. search arith) (λ c. search arith) returns)

@@ -1,5 +1,5 @@
 -- The arc is named, goes from the transition to the place, and has its weight.
-use borrow.Author.Needs.{needs}
+use native.Mathlib.Omega.{arith}
 use Rattle.writes.proofs.Writing.{_and_}
 use Rattle.pnml.specs.Pnml.{three, postText}
 use Rattle.elements.proofs.put_post.Statement.{statement}
@@ -18,5 +18,5 @@ returns c =
 pub put-post-spec : {M : Type 1} → statement M
 put-post-spec =
     tie.close
-    (tie.spec (λ c. search needs) (λ c κs. search needs) (λ c κs. search needs) (λ c κs. search needs) (λ c κs. search needs) (λ c κs. search needs)
-    (λ c. search needs) returns)
+    (tie.spec (λ c. search arith) (λ c κs. search arith) (λ c κs. search arith) (λ c κs. search arith) (λ c κs. search arith) (λ c κs. search arith)
+    (λ c. search arith) returns)

@@ -1,5 +1,5 @@
 -- The arc is named, goes from the place to the transition, and has its weight.
-use borrow.Author.Needs.{needs}
+use native.Mathlib.Omega.{arith}
 use Rattle.writes.proofs.Writing.{_and_}
 use Rattle.pnml.specs.Pnml.{three, preText}
 use Rattle.elements.proofs.put_pre.Statement.{statement}
@@ -18,5 +18,5 @@ returns c =
 pub put-pre-spec : {M : Type 1} → statement M
 put-pre-spec =
     tie.close
-    (tie.spec (λ c. search needs) (λ c κs. search needs) (λ c κs. search needs) (λ c κs. search needs) (λ c κs. search needs) (λ c κs. search needs)
-    (λ c. search needs) returns)
+    (tie.spec (λ c. search arith) (λ c κs. search arith) (λ c κs. search arith) (λ c κs. search arith) (λ c κs. search arith) (λ c κs. search arith)
+    (λ c. search arith) returns)

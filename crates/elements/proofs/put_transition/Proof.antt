@@ -1,5 +1,5 @@
 -- The mode.
-use borrow.Author.Needs.{needs}
+use native.Mathlib.Omega.{arith}
 use Rattle.writes.proofs.Writing.{_and_}
 use Rattle.pnml.specs.Pnml.{transitionText}
 use Rattle.elements.proofs.put_transition.Statement.{statement}
@@ -14,4 +14,4 @@ returns c =
 
 pub put-transition-spec : {M : Type 1} → statement M
 put-transition-spec =
-    tie.close (tie.spec (λ c. search needs) (λ c κs. search needs) (λ c κs. search needs) (λ c. search needs) (λ c κs. search needs) (λ c. search needs) returns)
+    tie.close (tie.spec (λ c. search arith) (λ c κs. search arith) (λ c κs. search arith) (λ c. search arith) (λ c κs. search arith) (λ c. search arith) returns)

@@ -1,5 +1,5 @@
 -- Three bytes.
-use borrow.Author.Needs.{needs}
+use native.Mathlib.Omega.{arith}
 use Rattle.writes.proofs.Writing.{_and_}
 use Rattle.pnml.specs.Pnml.{three}
 use Rattle.elements.proofs.write_three.Statement.{statement}
@@ -15,5 +15,5 @@ returns c =
 pub write-three-spec : {M : Type 1} → statement M
 write-three-spec =
     tie.close
-    (tie.spec (λ c. search needs) (λ c. search needs) (λ c κs. search needs) (λ c. search needs) (λ c. search needs) (λ c κs. search needs)
-    (λ c. search needs) (λ c. search needs) (λ c κs. search needs) (λ c. search needs) returns)
+    (tie.spec (λ c. search arith) (λ c. search arith) (λ c κs. search arith) (λ c. search arith) (λ c. search arith) (λ c κs. search arith)
+    (λ c. search arith) (λ c. search arith) (λ c κs. search arith) (λ c. search arith) returns)

@@ -1,6 +1,6 @@
 -- The word, the thing, the number and the position.
 use Rattle.lines.specs.Lines.{line, badLine}
-use borrow.Author.Needs.{needs}
+use native.Mathlib.Omega.{arith}
 use Rattle.writes.proofs.Writing.{_and_}
 use Rattle.lines.proofs.put_bad.Statement.{statement}
 use Rattle.lines.proofs.put_bad.Tie as tie
@@ -17,4 +17,4 @@ returns c =
     (word .write-bytes .ensures and first .next-decimal .ensures and second .next-decimal2 .ensures and last .last-decimal .ensures)
 
 pub put-bad-spec : {M : Type 1} → statement M
-put-bad-spec = tie.close (tie.spec (λ c κs. search needs) (λ c. search needs) (λ c κs. search needs) (λ c κs. search needs) (λ c κs. search needs) (λ c κs. search needs) (λ c κs. search needs) (λ c. search needs) returns)
+put-bad-spec = tie.close (tie.spec (λ c κs. search arith) (λ c. search arith) (λ c κs. search arith) (λ c κs. search arith) (λ c κs. search arith) (λ c κs. search arith) (λ c κs. search arith) (λ c. search arith) returns)

@@ -1,7 +1,7 @@
 -- The word, the movements accepted, the figure.
 use Rattle.lines.specs.Lines.{line, endLine}
 use mir.Facts.{toZ-ofZ}
-use borrow.Author.Needs.{needs}
+use native.Mathlib.Omega.{arith}
 use Rattle.writes.proofs.Writing.{_and_}
 use Rattle.lines.proofs.put_end.Statement.{statement}
 use Rattle.lines.proofs.put_end.Tie as tie
@@ -14,4 +14,4 @@ returns c =
     rw (← toZ-ofZ (second .before .before .before .before .before .before .before .before .fits .figure)) (second .before .before .before .before .write-bytes .ensures and second .next-decimal .ensures and last .last-figure .ensures)
 
 pub put-end-spec : {M : Type 1} → statement M
-put-end-spec = tie.close (tie.spec (λ c. search needs) (λ c κs. search needs) (λ c κs. search needs) (λ c κs. search needs) (λ c. search needs) returns)
+put-end-spec = tie.close (tie.spec (λ c. search arith) (λ c κs. search arith) (λ c κs. search arith) (λ c κs. search arith) (λ c. search arith) returns)

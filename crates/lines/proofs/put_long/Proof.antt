@@ -1,6 +1,6 @@
 -- The one word.
 use Rattle.lines.specs.Lines.{line, longLine}
-use borrow.Author.Needs.{needs}
+use native.Mathlib.Omega.{arith}
 use Rattle.lines.proofs.put_long.Statement.{statement}
 use Rattle.lines.proofs.put_long.Tie as tie
 
@@ -9,4 +9,4 @@ unfolding line longLine
 returns c = c .before .before .write-bytes .ensures
 
 pub put-long-spec : {M : Type 1} → statement M
-put-long-spec = tie.close (tie.spec (λ c. search needs) (λ c κs. search needs) (λ c. search needs) returns)
+put-long-spec = tie.close (tie.spec (λ c. search arith) (λ c κs. search arith) (λ c. search arith) returns)

@@ -1,6 +1,6 @@
 -- The word, the position, the mode, the answer, the pair and the amount.
 use Rattle.lines.specs.Lines.{line, refusedLine}
-use borrow.Author.Needs.{needs}
+use native.Mathlib.Omega.{arith}
 use Rattle.writes.proofs.Writing.{_and_}
 use Rattle.lines.proofs.put_refused.Statement.{statement}
 use Rattle.lines.proofs.put_refused.Tie as tie
@@ -19,4 +19,4 @@ returns c =
     (word .write-bytes .ensures and first .next-decimal .ensures and second .next-decimal2 .ensures and third .next-decimal3 .ensures and fourth .next-decimal4 .ensures and last .last-decimal .ensures)
 
 pub put-refused-spec : {M : Type 1} → statement M
-put-refused-spec = tie.close (tie.spec (λ c κs. search needs) (λ c. search needs) (λ c κs. search needs) (λ c κs. search needs) (λ c. search needs) (λ c κs. search needs) (λ c κs. search needs) (λ c κs. search needs) (λ c κs. search needs) (λ c. search needs) returns)
+put-refused-spec = tie.close (tie.spec (λ c κs. search arith) (λ c. search arith) (λ c κs. search arith) (λ c κs. search arith) (λ c. search arith) (λ c κs. search arith) (λ c κs. search arith) (λ c κs. search arith) (λ c κs. search arith) (λ c. search arith) returns)

@@ -1,7 +1,7 @@
 -- The word, then the figure.
 use Rattle.lines.specs.Lines.{line, startLine}
 use mir.Facts.{toZ-ofZ}
-use borrow.Author.Needs.{needs}
+use native.Mathlib.Omega.{arith}
 use Rattle.writes.proofs.Writing.{_and_}
 use Rattle.lines.proofs.put_start.Statement.{statement}
 use Rattle.lines.proofs.put_start.Tie as tie
@@ -13,4 +13,4 @@ returns c =
     rw (← toZ-ofZ (last .before .before .before .before .before .before .before .before .fits .figure)) (last .before .before .before .before .write-bytes .ensures and last .last-figure .ensures)
 
 pub put-start-spec : {M : Type 1} → statement M
-put-start-spec = tie.close (tie.spec (λ c. search needs) (λ c κs. search needs) (λ c κs. search needs) (λ c. search needs) returns)
+put-start-spec = tie.close (tie.spec (λ c. search arith) (λ c κs. search arith) (λ c κs. search arith) (λ c. search arith) returns)

@@ -1,5 +1,5 @@
 -- One half after the other.
-use borrow.Author.Needs.{needs}
+use native.Mathlib.Omega.{arith}
 use Rattle.twos.proofs.TwoDigits.{last-cut}
 use Rattle.writes.proofs.Writing.{_and_}
 use Rattle.twos.proofs.write_eight.Statement.{statement}
@@ -12,4 +12,4 @@ returns c =
     rw (last-cut 4 4 (first .before .before .before .args .n)) (first .write-four .ensures and second .write-four2 .ensures)
 
 pub write-eight-spec : {M : Type 1} → statement M
-write-eight-spec = tie.close (tie.spec (λ c κs. search needs) (λ c κs. search needs) (λ c. search needs) returns)
+write-eight-spec = tie.close (tie.spec (λ c κs. search arith) (λ c κs. search arith) (λ c. search arith) returns)

@@ -1,6 +1,5 @@
 -- The first half has no leading zeros, and the second has all of its digits.
 use native.Mathlib.Omega.{arith}
-use borrow.Author.Needs.{needs}
 use Rattle.text.proofs.Decimals.{length-at-most}
 use Rattle.twos.proofs.TwoDigits.{decimal-cut}
 use Rattle.writes.proofs.Writing.{_and_, within}
@@ -21,5 +20,5 @@ write-decimal-requires c κs = omega (arith, length-at-most (c .before .before .
 pub write-long-spec : {M : Type 1} → statement M
 write-long-spec =
     tie.close
-    (tie.spec (λ c. search needs) (λ c κs. search needs) (λ c. search needs) (λ c κs. search needs) (λ c. search needs)
-    returns write-decimal-requires (λ c. search needs) (λ c. search needs))
+    (tie.spec (λ c. search arith) (λ c κs. search arith) (λ c. search arith) (λ c κs. search arith) (λ c. search arith)
+    returns write-decimal-requires (λ c. search arith) (λ c. search arith))

@@ -1,5 +1,5 @@
 -- '-' and the digits of its size, or its digits.
-use borrow.Author.Needs.{needs}
+use native.Mathlib.Omega.{arith}
 use Rattle.writes.proofs.Writing.{within, _and_}
 use Rattle.text.proofs.Sizes.{signed-below, signed-not-below, signed-size}
 use Rattle.twos.proofs.write_signed_by.Statement.{statement}
@@ -21,4 +21,4 @@ returns-2 c =
 
 pub write-signed-by-spec : {M : Type 1} → statement M
 write-signed-by-spec =
-    tie.close (tie.spec (λ c κs. search needs) (λ c κs. search needs) (λ c κs. search needs) (λ c. search needs) returns (λ c κs. search needs) (λ c. search needs) returns-2)
+    tie.close (tie.spec (λ c κs. search arith) (λ c κs. search arith) (λ c κs. search arith) (λ c. search arith) returns (λ c κs. search arith) (λ c. search arith) returns-2)

@@ -1,5 +1,5 @@
 -- The first half has no leading zeros, and the second has all of its digits.
-use borrow.Author.Needs.{needs}
+use native.Mathlib.Omega.{arith}
 use Rattle.twos.proofs.TwoDigits.{decimal-cut}
 use Rattle.writes.proofs.Writing.{_and_}
 use Rattle.twos.proofs.write_to_eight.Statement.{statement}
@@ -14,4 +14,4 @@ returns-2 c =
 
 pub write-to-eight-spec : {M : Type 1} → statement M
 write-to-eight-spec =
-    tie.close (tie.spec (λ c κs. search needs) (λ c. search needs) (λ c. search needs) (λ c κs. search needs) (λ c κs. search needs) (λ c. search needs) returns-2)
+    tie.close (tie.spec (λ c κs. search arith) (λ c. search arith) (λ c. search arith) (λ c κs. search arith) (λ c κs. search arith) (λ c. search arith) returns-2)

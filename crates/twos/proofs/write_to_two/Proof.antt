@@ -1,6 +1,5 @@
 -- One digit, or two.
 use native.Mathlib.Omega.{arith}
-use borrow.Author.Needs.{needs}
 use Rattle.text.proofs.Decimals.{below-ten}
 use Rattle.twos.proofs.TwoDigits.{two-digits}
 use Rattle.writes.proofs.Writing.{within}
@@ -20,4 +19,4 @@ returns-2 c =
 
 pub write-to-two-spec : {M : Type 1} → statement M
 write-to-two-spec =
-    tie.close (tie.spec (λ c. search needs) (λ c. search needs) (λ c κs. search needs) (λ c. search needs) returns (λ c κs. search needs) (λ c. search needs) returns-2)
+    tie.close (tie.spec (λ c. search arith) (λ c. search arith) (λ c κs. search arith) (λ c. search arith) returns (λ c κs. search arith) (λ c. search arith) returns-2)

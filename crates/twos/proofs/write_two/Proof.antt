@@ -1,5 +1,5 @@
 -- The two bytes of the table.
-use borrow.Author.Needs.{needs}
+use native.Mathlib.Omega.{arith}
 use Rattle.twos.proofs.TwoDigits.{two-read}
 use Rattle.writes.proofs.Writing.{_and_}
 use Rattle.twos.proofs.write_two.Statement.{statement}
@@ -13,4 +13,4 @@ returns c =
     rw (two-read (start .pre .0) (start .pre .1 .0)) (first .write-byte .ensures and second .write-byte2 .ensures)
 
 pub write-two-spec : {M : Type 1} → statement M
-write-two-spec = tie.close (tie.spec (λ c. search needs) (λ c. search needs) (λ c. search needs) (λ c. search needs) (λ c κs. search needs) (λ c κs. search needs) (λ c. search needs) returns)
+write-two-spec = tie.close (tie.spec (λ c. search arith) (λ c. search arith) (λ c. search arith) (λ c. search arith) (λ c κs. search arith) (λ c κs. search arith) (λ c. search arith) returns)

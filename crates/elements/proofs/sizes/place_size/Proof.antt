@@ -1,7 +1,6 @@
 -- The words, and the count's digits.
 use mathlib.Core.Path.{ap}
 use Prim.Native.Nat.{_+_}
-use borrow.Author.Needs.{needs}
 use native.Mathlib.Omega.{arith}
 use Rattle.elements.specs.Sizes.{placeSize}
 use Rattle.elements.proofs.Lengths.{digits-most}
@@ -18,4 +17,4 @@ returns c =
     (ap (λ n. 78 + n) digits, omega (arith, digits, digits-most (c .before .args .count) (c .before .pre)))
 
 pub place-size-spec : {M : Type 1} → statement M
-place-size-spec = tie.close (tie.spec (λ c κs. search needs) add-result returns)
+place-size-spec = tie.close (tie.spec (λ c κs. search arith) add-result returns)

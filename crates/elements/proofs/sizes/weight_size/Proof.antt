@@ -1,7 +1,6 @@
 -- None, or the words and the weight's digits.
 use mathlib.Core.Path.{sym, _∙_, ap}
 use Prim.Native.Nat.{_+_}
-use borrow.Author.Needs.{needs}
 use native.Mathlib.Omega.{arith}
 use Rattle.elements.proofs.Lengths.{digits-most, weight-none, weight-some}
 use Rattle.elements.proofs.sizes.weight_size.Statement.{statement}
@@ -20,4 +19,4 @@ returns-2 c =
     (ap (λ n. 100 + n) digits ∙ sym (weight-some (start .args .weight) (c .before .if1 .left)), omega (arith, digits, digits-most (start .args .weight) (start .pre)))
 
 pub weight-size-spec : {M : Type 1} → statement M
-weight-size-spec = tie.close (tie.spec returns (λ c κs. search needs) add-result returns-2)
+weight-size-spec = tie.close (tie.spec returns (λ c κs. search arith) add-result returns-2)

@@ -1,5 +1,5 @@
 -- A number, then the end of the line.
-use borrow.Author.Needs.{needs}
+use native.Mathlib.Omega.{arith}
 use Rattle.writes.proofs.Writing.{_and_}
 use Rattle.lines.proofs.words.last_decimal.Statement.{statement}
 use Rattle.lines.proofs.words.last_decimal.Tie as tie
@@ -10,4 +10,4 @@ returns c =
     last .before .before .before .before .next-decimal .ensures and last .write-byte .ensures
 
 pub last-decimal-spec : {M : Type 1} → statement M
-last-decimal-spec = tie.close (tie.spec (λ c κs. search needs) (λ c κs. search needs) (λ c. search needs) returns)
+last-decimal-spec = tie.close (tie.spec (λ c κs. search arith) (λ c κs. search arith) (λ c. search arith) returns)

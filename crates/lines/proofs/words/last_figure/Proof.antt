@@ -1,7 +1,6 @@
 -- A space, the figure, the end of the line.
 use mir.Facts.{toZ-ofZ}
 use native.Mathlib.Omega.{arith}
-use borrow.Author.Needs.{needs}
 use Rattle.writes.proofs.Writing.{_and_}
 use Rattle.text.proofs.Sizes.{signed-size}
 use Rattle.lines.proofs.words.last_figure.Statement.{statement}
@@ -20,4 +19,4 @@ returns c =
     rw (← toZ-ofZ (first .before .before .before .fits .figure)) (first .write-byte .ensures and figure .write-signed .ensures and last .write-byte2 .ensures)
 
 pub last-figure-spec : {M : Type 1} → statement M
-last-figure-spec = tie.close (tie.spec (λ c κs. search needs) write-signed-requires (λ c κs. search needs) (λ c. search needs) returns)
+last-figure-spec = tie.close (tie.spec (λ c κs. search arith) write-signed-requires (λ c κs. search arith) (λ c. search arith) returns)

@@ -1,6 +1,5 @@
 -- A space, then the number.
 use native.Mathlib.Omega.{arith}
-use borrow.Author.Needs.{needs}
 use Rattle.text.proofs.Decimals.{length-at-most}
 use Rattle.writes.proofs.Writing.{_and_}
 use Rattle.lines.proofs.words.next_decimal.Statement.{statement}
@@ -15,4 +14,4 @@ returns c =
     second .before .before .before .before .write-byte .ensures and second .write-decimal .ensures
 
 pub next-decimal-spec : {M : Type 1} → statement M
-next-decimal-spec = tie.close (tie.spec (λ c κs. search needs) write-decimal-requires (λ c. search needs) returns)
+next-decimal-spec = tie.close (tie.spec (λ c κs. search arith) write-decimal-requires (λ c. search arith) returns)
