@@ -100,17 +100,18 @@ impl Case {
         same.exclude(&self.net, &self.weights, &self.marking);
         same.is_dead(&self.net, self.mode);
         same.first_dead(&self.net);
-        same.size(&self.net);
+        let size = same.size(&self.net);
+        let text_room = size.map_or(64, pnml::room);
         same.complement(&self.net, self.room);
         same.strip(&self.net, self.pair, self.room);
         same.to_version_2(&self.net, self.room);
         same.to_version_1(&self.net, self.room);
-        same.export_pnml(&self.net, self.room_or(pnml::room(&self.net)));
+        same.export_pnml(&self.net, self.room_or(text_room));
         same.audit(&self.net, &self.marking, &self.both);
         let input = [&self.net[..], &self.weights, &self.movements].concat();
         same.statement(&input, self.room_or(pnet::TEXT_ROOM));
-        versions::answer_equally(same, self);
-        if reference::size(&self.net).is_ok() && rules::is_weak(&self.net) {
+        versions::answer_equally(same, self, text_room);
+        if size.is_some() && rules::is_weak(&self.net) {
             same.hits.value("a net of rule 1, over every call");
         }
     }

@@ -23,9 +23,9 @@ fn of_rule(same: &mut Same, net: &PlainNet, sheet: &[u8]) {
     for mode in 0..total(&net.modes) as u16 {
         let accepts = |counts: &[u32]| guarded::test(sheet, counts, Mode(mode)).is_ok();
         let found = marking_where(net, MOST, accepts).is_some();
-        let of = format!("{}: mode {mode} of {net:?}", same.part);
-        assert_eq!(guarded::is_dead(sheet, Mode(mode)), Ok(!found), "{of}");
-        assert_eq!(accepts(&pre(net, mode)), found, "{of}, where the marking is its Pre");
+        let of = |same: &Same| format!("{}: mode {mode} of {net:?}", same.part);
+        assert_eq!(guarded::is_dead(sheet, Mode(mode)), Ok(!found), "{}", of(same));
+        assert_eq!(accepts(&pre(net, mode)), found, "{}, where the marking is its Pre", of(same));
         same.hits.value(match (found, rules::is_weak(sheet)) {
             (true, false) => "a marking found",
             (false, false) => "no marking found",

@@ -45,20 +45,20 @@ fn one(
 ) -> Vec<u32> {
     let (answer, after) = same.fire(sheet, counts, mode);
     let (other, both_after) = same.fire(complement, &completed(net, counts), mode);
-    let of = format!("{}: mode {mode} at {counts:?} of {net:?}", same.part);
-    assert_eq!(other, corresponding(net, is_weak(sheet), counts, mode, answer), "{of}");
+    let of = |same: &Same| format!("{}: mode {mode} at {counts:?} of {net:?}", same.part);
+    assert_eq!(other, corresponding(net, is_weak(sheet), counts, mode, answer), "{}", of(same));
     if is_weak(sheet) && matches!(answer.0, 12 | 13) {
         same.hits.value("12 or 13 by rule 1, and 11 in the complement");
     }
-    assert_eq!(both_after, completed(net, &after), "{of}");
+    assert_eq!(both_after, completed(net, &after), "{}", of(same));
     if other.3 > answer.3 {
         same.hits.value("by more in the complement");
     }
     if guarded::is_dead(sheet, Mode(mode)) == Ok(true) {
-        assert_eq!(other.0, 11, "{of}, which is dead");
+        assert_eq!(other.0, 11, "{}, which is dead", of(same));
         same.hits.value("dead, and 11 in the complement");
     }
-    assert_eq!(same.audit(sheet, &after, &both_after), (ACCEPTED, None), "{of}");
+    assert_eq!(same.audit(sheet, &after, &both_after), (ACCEPTED, None), "{}", of(same));
     if answer == ACCEPTED {
         old_fault(same, net, sheet, counts, &both_after, mode);
     }
@@ -85,15 +85,16 @@ fn old_fault(same: &mut Same, net: &PlainNet, sheet: &[u8], counts: &[u32], both
 
 /// No mode is locally dead in a complement, and no number there is above 1,000,000, though a dead mode's would be by the rule of live ones.
 fn no_mode_is_dead(same: &mut Same, net: &PlainNet, sheet: &[u8], complement: &[u8]) {
-    let of = format!("{}: the complement of {net:?}", same.part);
-    assert_eq!(guarded::first_dead(complement), Ok(None), "{of}");
+    let of = |same: &Same| format!("{}: the complement of {net:?}", same.part);
+    assert_eq!(guarded::first_dead(complement), Ok(None), "{}", of(same));
     let (one, arcs) = (in_version_1(same, complement), guarded::size(complement).expect("it was read").arcs);
     for arc in one[one.len() - 16 * arcs..].chunks(16) {
         assert!(
             arc[4..12].chunks(4).all(|number| number <= &1_000_000u32.to_be_bytes()[..]),
-            "{of}: {arc:?}"
+            "{}: {arc:?}",
+            of(same)
         );
-        assert_eq!(arc[12..], [255; 4], "{of}: {arc:?}");
+        assert_eq!(arc[12..], [255; 4], "{}: {arc:?}", of(same));
     }
     let as_live = |arc: &&PlainArc| {
         let capacity = net.pairs[usize::from(arc.pair)].0;
@@ -102,7 +103,7 @@ fn no_mode_is_dead(same: &mut Same, net: &PlainNet, sheet: &[u8], complement: &[
             && taken_up.max(capacity.saturating_sub(arc.inhibitor)) + arc.pre - arc.post > 1_000_000
     };
     for arc in net.arcs.iter().filter(as_live) {
-        assert_eq!(guarded::is_dead(sheet, Mode(arc.mode)), Ok(true), "{of}: {arc:?}");
+        assert_eq!(guarded::is_dead(sheet, Mode(arc.mode)), Ok(true), "{}: {arc:?}", of(same));
         same.hits.value("dead, and a number kept within 1,000,000");
     }
 }

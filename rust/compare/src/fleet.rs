@@ -48,10 +48,14 @@ pub fn carried(same: &mut Same, random: &mut Random, ships: usize) {
             same.hits.value("a ship refused, and the record as found");
         }
         record = after;
-        let of = format!("{}: {record:?}", same.part);
-        assert_eq!(first + record.added - record.removed, last, "{of}");
-        assert_eq!(record.ships, counted, "{of}");
-        assert!(record.refused.iter().sum::<u64>() <= counted && record.movements <= 8_192 * counted, "{of}");
+        let of = |same: &Same| format!("{}: {record:?}", same.part);
+        assert_eq!(first + record.added - record.removed, last, "{}", of(same));
+        assert_eq!(record.ships, counted, "{}", of(same));
+        assert!(
+            record.refused.iter().sum::<u64>() <= counted && record.movements <= 8_192 * counted,
+            "{}",
+            of(same)
+        );
     }
 }
 

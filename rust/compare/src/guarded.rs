@@ -1,8 +1,9 @@
 //! The calls, with every slice that they are lent between pages that nothing may touch: a read or a write out of bounds ends the comparison,
 //! and so does a write to a slice that is lent to be read.
 //!
-//! A slice is copied into a stretch of memory of its own, and what was lent to be written is copied back. It stands at the end of its
-//! stretch in one call and at the start in another, so that both of its ends come to stand at a guard, to the byte.
+//! A slice is copied into a stretch of memory of its own, and what was lent to be written is copied back; one that a sheet or a text is written
+//! into is blank. It stands at the end of its stretch in one call and at the start in another, so that both of its ends come to stand at a
+//! guard, to the byte.
 #![allow(unsafe_code)]
 
 use std::cell::RefCell;
@@ -11,8 +12,7 @@ use std::{ptr, slice};
 
 use pnet::{Fleet, Mode, OutOfStep, Pair, Ran, Refusal, Salvaged, Size};
 
-/// Whole pages; the longest slice that is lent is the longest text in PNML.
-const ROOM: usize = 1 << 19;
+use crate::blank::{self, BLANK, ROOM};
 
 /// Whole pages on both sides, more than a number of 16 bits leads past.
 const GUARD: usize = 1 << 20;
@@ -55,11 +55,16 @@ impl Stretch {
         Stretch { lent, ours, at_end: false }
     }
 
+    /// Where so many bytes stand.
+    fn offset(&self, bytes: usize) -> usize {
+        assert!(bytes <= ROOM, "a slice of {bytes} bytes");
+        if self.at_end { ROOM - bytes } else { 0 }
+    }
+
     /// Where the bytes of a copy are lent.
     fn put<T: Copy>(&mut self, content: &[T]) -> *mut T {
         let bytes = size_of_val(content);
-        assert!(bytes <= ROOM, "a slice of {bytes} bytes");
-        let offset = if self.at_end { ROOM - bytes } else { 0 };
+        let offset = self.offset(bytes);
         // SAFETY: the bytes lie in the stretch, and both of its ends are aligned for a page.
         unsafe { ptr::copy_nonoverlapping(content.as_ptr().cast(), self.ours.add(offset), bytes) };
         self.lent.wrapping_add(offset).cast()
@@ -83,12 +88,30 @@ impl Open {
     }
 }
 
+/// The stretch of a slice that a sheet or a text is written into: between two calls all of it is blank.
+struct Blank(Stretch);
+
+impl Blank {
+    fn new() -> Blank {
+        let mut blank = Blank(Stretch::new(READ_AND_WRITE));
+        blank.lend(ROOM).fill(BLANK);
+        blank
+    }
+
+    /// So many blank bytes that may be written.
+    fn lend(&mut self, room: usize) -> &mut [u8] {
+        // SAFETY: the bytes lie in the stretch, and are ours alone.
+        unsafe { slice::from_raw_parts_mut(self.0.lent.add(self.0.offset(room)), room) }
+    }
+}
+
 /// A stretch for each slice that a call takes.
 struct Lent {
     net: Stretch,
     sheet: Stretch,
     counts: Stretch,
     written: Open,
+    out: Blank,
     calls: u64,
 }
 
@@ -98,6 +121,7 @@ thread_local! {
         sheet: Stretch::new(READ),
         counts: Stretch::new(READ),
         written: Open(Stretch::new(READ_AND_WRITE)),
+        out: Blank::new(),
         calls: 0,
     });
 }
@@ -112,6 +136,8 @@ fn lend<R>(call: impl FnOnce(&mut Lent) -> R) -> R {
         for (k, stretch) in stretches.into_iter().enumerate() {
             stretch.at_end = ends >> k & 1 == 1;
         }
+        // No call takes both.
+        lent.out.0.at_end = lent.written.0.at_end;
         call(lent)
     })
 }
@@ -169,18 +195,18 @@ pub fn first_marking(net: &[u8]) -> Result<Vec<u32>, Refusal> {
     lend(|lent| pnet::first_marking(lent.net.show(net)))
 }
 
-/// A call that writes a slice over a net.
-fn writing<T: Copy, R>(net: &[u8], written: &mut [T], call: impl FnOnce(&[u8], &mut [T]) -> R) -> R {
+/// A call that writes a marking over a net.
+fn marking_by<R>(net: &[u8], marking: &mut [u32], call: impl FnOnce(&[u8], &mut [u32]) -> R) -> R {
     lend(|lent| {
-        let held = lent.written.lend(written);
+        let held = lent.written.lend(marking);
         let answer = call(lent.net.show(net), held);
-        written.copy_from_slice(held);
+        marking.copy_from_slice(held);
         answer
     })
 }
 
 pub fn begin(net: &[u8], marking: &mut [u32]) -> Result<(), Refusal> {
-    writing(net, marking, pnet::begin)
+    marking_by(net, marking, pnet::begin)
 }
 
 pub fn test(net: &[u8], marking: &[u32], mode: Mode) -> Result<(), Refusal> {
@@ -188,7 +214,7 @@ pub fn test(net: &[u8], marking: &[u32], mode: Mode) -> Result<(), Refusal> {
 }
 
 pub fn fire(net: &[u8], marking: &mut [u32], mode: Mode) -> Result<(), Refusal> {
-    writing(net, marking, |net, marking| pnet::fire(net, marking, mode))
+    marking_by(net, marking, |net, marking| pnet::fire(net, marking, mode))
 }
 
 pub fn test_step(net: &[u8], marking: &[u32], modes: &[Mode]) -> Result<(), Refusal> {
@@ -213,12 +239,12 @@ pub fn run(net: &[u8], movements: &[u8], marking: &mut [u32]) -> Ran {
     })
 }
 
-pub fn salvage(net: &[u8], damaged: &[u8], out: &mut [u8]) -> Result<Salvaged, Refusal> {
+pub fn salvage(net: &[u8], damaged: &[u8], room: usize) -> Result<(Salvaged, Vec<u8>), Refusal> {
     lend(|lent| {
-        let held = lent.written.lend(out);
-        let salvaged = pnet::salvage(lent.net.show(net), lent.sheet.show(damaged), held);
-        out.copy_from_slice(held);
-        salvaged
+        let out = lent.out.lend(room);
+        let salvaged = pnet::salvage(lent.net.show(net), lent.sheet.show(damaged), out);
+        let fresh = blank::taken(out, salvaged.map_or(0, |salvaged| salvaged.length));
+        Ok((salvaged?, fresh))
     })
 }
 
@@ -256,34 +282,48 @@ pub fn first_dead(net: &[u8]) -> Result<Option<(Mode, Pair)>, Refusal> {
     lend(|lent| pnet::first_dead(lent.net.show(net)))
 }
 
-pub fn complement(net: &[u8], out: &mut [u8]) -> Result<usize, Refusal> {
-    writing(net, out, pnet::complement)
+/// A call that writes a sheet or a text into so many blank bytes: what it wrote.
+fn writing(
+    given: &[u8],
+    room: usize,
+    call: impl FnOnce(&[u8], &mut [u8]) -> Result<usize, Refusal>,
+) -> Result<Vec<u8>, Refusal> {
+    lend(|lent| {
+        let out = lent.out.lend(room);
+        let length = call(lent.net.show(given), out);
+        let written = blank::taken(out, length.unwrap_or(0));
+        length.map(|_| written)
+    })
 }
 
-pub fn strip(net: &[u8], pair: Pair, out: &mut [u8]) -> Result<usize, Refusal> {
-    writing(net, out, |net, out| pnet::strip(net, pair, out))
+pub fn complement(net: &[u8], room: usize) -> Result<Vec<u8>, Refusal> {
+    writing(net, room, pnet::complement)
 }
 
-pub fn to_version_2(net: &[u8], out: &mut [u8]) -> Result<usize, Refusal> {
-    writing(net, out, pnet::to_version_2)
+pub fn strip(net: &[u8], pair: Pair, room: usize) -> Result<Vec<u8>, Refusal> {
+    writing(net, room, |net, out| pnet::strip(net, pair, out))
 }
 
-pub fn to_version_1(net: &[u8], out: &mut [u8]) -> Result<usize, Refusal> {
-    writing(net, out, pnet::to_version_1)
+pub fn to_version_2(net: &[u8], room: usize) -> Result<Vec<u8>, Refusal> {
+    writing(net, room, pnet::to_version_2)
 }
 
-pub fn export_pnml(net: &[u8], out: &mut [u8]) -> Result<usize, Refusal> {
-    writing(net, out, pnet::export_pnml)
+pub fn to_version_1(net: &[u8], room: usize) -> Result<Vec<u8>, Refusal> {
+    writing(net, room, pnet::to_version_1)
 }
 
-pub fn import_pnml(text: &[u8], out: &mut [u8]) -> Result<usize, Refusal> {
-    writing(text, out, pnet::import_pnml)
+pub fn export_pnml(net: &[u8], room: usize) -> Result<Vec<u8>, Refusal> {
+    writing(net, room, pnet::export_pnml)
+}
+
+pub fn import_pnml(text: &[u8], room: usize) -> Result<Vec<u8>, Refusal> {
+    writing(text, room, pnet::import_pnml)
+}
+
+pub fn statement(input: &[u8], room: usize) -> Result<Vec<u8>, Refusal> {
+    writing(input, room, pnet::statement)
 }
 
 pub fn audit(net: &[u8], marking: &[u32], both: &[u32]) -> Result<Option<OutOfStep>, Refusal> {
     lend(|lent| pnet::audit(lent.net.show(net), lent.counts.show(marking), lent.sheet.show(both)))
-}
-
-pub fn statement(input: &[u8], out: &mut [u8]) -> Result<usize, Refusal> {
-    writing(input, out, pnet::statement)
 }

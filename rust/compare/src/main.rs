@@ -6,6 +6,7 @@
 //! A difference ends it, and so does a call, number and thing that came up too rarely to count as compared. Every slice is lent between guard
 //! pages, so that a read or a write where none may be ends it too.
 
+mod blank;
 mod case;
 mod damage;
 #[path = "../../reference/tests/support/damaged_text.rs"]
@@ -54,7 +55,7 @@ fn main() -> ExitCode {
     }
     let mut numbers = words.iter().map(|word| word.parse().expect("SEED and ROUNDS are numbers"));
     let (seed, rounds) = (numbers.next().unwrap_or(1), numbers.next().unwrap_or(40_000));
-    let (mut random, mut same, start) = (Random::new(seed), Same::default(), Instant::now());
+    let (mut random, mut same, start) = (Random::new(seed), Same::new(), Instant::now());
     let (mut searches, mut texts) = (Random::new(seed + 1), Random::new(seed + 2));
     for round in 0..rounds {
         same.part = format!("seed {seed}, round {round}");

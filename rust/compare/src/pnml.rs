@@ -1,6 +1,7 @@
 //! Exchange with PNML tools: a net without bounds comes back from its text with its pairs, modes, numbers and first marking, and runs as before; a text that was
 //! changed is another export, or is refused.
 
+use pnet::Size;
 use reference::Form;
 use reference::build::{OPEN, PlainNet, arc, movements};
 
@@ -10,16 +11,17 @@ use crate::generator::{Random, form, total};
 use crate::same::{Plain, Same};
 
 /// Room for the text of a net: 216 bytes open and close it, a place's line has at most 85, a transition's 30 and an arc's two lines 214.
-pub fn room(net: &[u8]) -> usize {
-    reference::size(net).map_or(64, |size| 216 + 85 * size.pairs + 30 * size.modes + 214 * size.arcs)
+pub fn room(size: Size) -> usize {
+    216 + 85 * size.pairs + 30 * size.modes + 214 * size.arcs
 }
 
 /// What a 19 is at: every K stands before every I.
 pub fn bounded(net: &[u8], at: u64) -> &'static str {
     let counts = if net[4] == 1 { 5 } else { 6 };
     let count = |at: usize| usize::from(u16::from_be_bytes([net[at], net[at + 1]]));
-    let pairs = reference::size(net).expect("the net is accepted").pairs;
-    let arcs = counts + 4 + 2 * (count(counts) + count(counts + 2)) + 8 * pairs;
+    let (places, colours) = (count(counts), counts + 4);
+    let pairs: usize = (0..places).map(|place| count(colours + 2 * place)).sum();
+    let arcs = colours + 2 * (places + count(counts + 2)) + 8 * pairs;
     if (at as usize) < arcs { "19 at a K" } else { "19 at an I" }
 }
 
@@ -53,10 +55,9 @@ pub fn opened(mut net: PlainNet) -> PlainNet {
 
 /// The text of a net, the same by every version and rule, and one byte too long for a slice that is one shorter.
 fn text_of(same: &mut Same, net: &PlainNet) -> Vec<u8> {
-    let [one, others @ ..] = Form::ALL.map(|form| {
-        let sheet = net.sheet_in(form);
-        same.export_pnml(&sheet, room(&sheet)).expect("no bound is finite")
-    });
+    let size = Size { pairs: net.pairs.len(), modes: total(&net.modes), arcs: net.arcs.len() };
+    let [one, others @ ..] =
+        Form::ALL.map(|form| same.export_pnml(&net.sheet_in(form), room(size)).expect("no bound is finite"));
     assert!(others.iter().all(|other| *other == one), "{}: {net:?}", same.part);
     same.hits.value("one text by every version and rule");
     assert_eq!(same.export_pnml(&net.sheet(), one.len() - 1), None);

@@ -8,9 +8,9 @@ use crate::generator::{Random, Style, count, total};
 use crate::guarded;
 use crate::same::Same;
 
-/// Whether a net sheet that is accepted is of rule 1.
+/// Whether a net sheet, if it is accepted, is of rule 1.
 pub fn is_weak(net: &[u8]) -> bool {
-    net[4] == 2 && net[5] == 1
+    net.get(4..6) == Some(&[2, 1])
 }
 
 /// How much the count and Post together are above what an arc's pair has room for, by a rule; an unbounded K is above every count.
@@ -34,12 +34,12 @@ pub fn beside(same: &mut Same, random: &mut Random, style: Style, net: &PlainNet
     for counts in [first, other] {
         for mode in 0..(total(&net.modes) + 1).min(8) as u16 {
             let (by_strict, by_weak) = (same.fire(&strict, &counts, mode), same.fire(&weak, &counts, mode));
-            let of = format!("{}: mode {mode} at {counts:?} of {net:?}", same.part);
+            let of = |same: &Same| format!("{}: mode {mode} at {counts:?} of {net:?}", same.part);
             match (by_strict.0.0, by_weak.0.0) {
-                (0 | 6 | 11, _) => assert_eq!(by_strict, by_weak, "{of}"),
+                (0 | 6 | 11, _) => assert_eq!(by_strict, by_weak, "{}", of(same)),
                 (12, 0) => same.hits.value("a swap where there is no room, by rule 1 alone"),
                 (12, 12) => {
-                    assert!(by_strict.0.2 <= by_weak.0.2, "{of}");
+                    assert!(by_strict.0.2 <= by_weak.0.2, "{}", of(same));
                     same.hits.value(if by_strict.0 == by_weak.0 {
                         "12 by both rules"
                     } else {
@@ -48,11 +48,11 @@ pub fn beside(same: &mut Same, random: &mut Random, style: Style, net: &PlainNet
                 }
                 (12, 13) => same.hits.value("13 by rule 1, where rule 0 gives 12"),
                 (12, 14) => {}
-                _ => assert_eq!(by_strict, by_weak, "{of}"),
+                _ => assert_eq!(by_strict, by_weak, "{}", of(same)),
             }
             // What is dead by rule 1 is dead by rule 0.
             let dead = [&strict, &weak].map(|sheet| guarded::is_dead(sheet, Mode(mode)));
-            assert!(dead != [Ok(false), Ok(true)], "{of}");
+            assert!(dead != [Ok(false), Ok(true)], "{}", of(same));
             if dead == [Ok(true), Ok(false)] {
                 same.hits.value("dead by rule 0 alone");
             }

@@ -10,18 +10,18 @@ pub type Report = (usize, usize, Plain);
 
 /// What a salvage with room for its sheet reports is true of the sheet that it wrote.
 pub fn holds(same: &mut Same, net: &[u8], damaged: &[u8], (kept, dropped, stop): Report, fresh: &[u8]) {
-    let of = format!("{}: {net:?} {damaged:?}", same.part);
+    let of = |same: &Same| format!("{}: {net:?} {damaged:?}", same.part);
     let start = |same: &mut Same| {
         let pairs = reference::size(net).expect("the net was accepted").pairs;
         same.begin(net, &vec![0; pairs])
     };
     let first = start(same);
     let (accepted, answer, _) = same.run(net, fresh, &first);
-    assert_eq!((accepted, answer), (kept, (0, 0, 0, 0)), "{of}");
+    assert_eq!((accepted, answer), (kept, (0, 0, 0, 0)), "{}", of(same));
     let declared =
         damaged.len().min(4 + u32::from_be_bytes([damaged[0], damaged[1], damaged[2], damaged[3]]) as usize);
     let considered = (declared - 5) / 2;
-    assert_eq!(kept + dropped, considered.min(8_192), "{of}");
+    assert_eq!(kept + dropped, considered.min(8_192), "{}", of(same));
     same.hits.value(match stop.0 {
         0 => "salvaged whole",
         6 => "salvaged up to a 6",
@@ -48,9 +48,9 @@ pub fn holds(same: &mut Same, net: &[u8], damaged: &[u8], (kept, dropped, stop):
             .map(|mode| u16::from_be_bytes([mode[0], mode[1]]))
             .collect();
         let (accepted, answer, _) = same.run(net, &movements(&list), &first);
-        assert_eq!((accepted, answer), (kept, stop), "{of}");
+        assert_eq!((accepted, answer), (kept, stop), "{}", of(same));
     } else {
-        assert_eq!(stop, (0, 0, 0, 0), "{of}");
+        assert_eq!(stop, (0, 0, 0, 0), "{}", of(same));
     }
 }
 

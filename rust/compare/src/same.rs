@@ -2,9 +2,10 @@
 
 use std::fmt::Debug;
 
-use pnet::{Mode, Pair, Refusal};
+use pnet::{Mode, Pair, Refusal, Size};
 use reference::Fleet;
 
+use crate::blank::{self, BLANK, ROOM};
 use crate::hits::{Call, Hits};
 use crate::{guarded, pnml, salvage, version_2, visits};
 
@@ -31,20 +32,20 @@ pub fn members(modes: &[u16]) -> Vec<Mode> {
     modes.iter().copied().map(Mode).collect()
 }
 
-/// A call that writes a sheet or a text.
-trait Writes<E>: FnOnce(&[u8], &mut [u8]) -> Result<usize, E> {}
-
-impl<E, C: FnOnce(&[u8], &mut [u8]) -> Result<usize, E>> Writes<E> for C {}
-
 /// The comparison so far.
-#[derive(Default)]
 pub struct Same {
     pub hits: Hits,
     /// What is being compared, for a difference that is found.
     pub part: String,
+    /// What the reference writes a sheet or a text into: between two calls all of it is blank.
+    out: Vec<u8>,
 }
 
 impl Same {
+    pub fn new() -> Same {
+        Same { hits: Hits::default(), part: String::new(), out: vec![BLANK; ROOM] }
+    }
+
     /// Both outcomes are the same, or the comparison ends here.
     fn hold<O: PartialEq + Debug>(
         &mut self,
@@ -172,17 +173,19 @@ impl Same {
 
     /// What is salvaged into a slice of this length.
     pub fn salvage(&mut self, net: &[u8], damaged: &[u8], room: usize) {
-        let (mut ours, mut theirs) = (vec![170; room], vec![170; room]);
-        let engine = guarded::salvage(net, damaged, &mut ours);
-        let reference = reference::salvage(net, damaged, &mut theirs);
+        let engine = guarded::salvage(net, damaged, room);
+        let out = &mut self.out[..room];
+        let reference = reference::salvage(net, damaged, out);
+        let theirs = blank::taken(out, reference.map_or(0, |of| of.length));
         let (answer, plainly) = (told(&engine), plain_of(&reference));
         let stopped = |stop: Option<Refusal>| told(&stop.map_or(Ok(()), Err));
-        let value = engine.ok().map(|of| (of.length, (of.kept, of.dropped, stopped(of.stop))));
-        let reference = reference.ok().map(|of| (of.length, (of.kept, of.dropped, plain(of.stop))));
+        let value =
+            engine.ok().map(|(of, fresh)| (of.length, (of.kept, of.dropped, stopped(of.stop)), fresh));
+        let reference = reference.ok().map(|of| (of.length, (of.kept, of.dropped, plain(of.stop)), theirs));
         let input: [&dyn Debug; 3] = [&net, &damaged, &room];
-        self.hold(Call::Salvage, answer, (answer, value, &ours), (plainly, reference, &theirs), &input);
-        if let Some((length, report)) = value {
-            salvage::holds(self, net, damaged, report, &ours[..length]);
+        self.hold(Call::Salvage, answer, (answer, &value), (plainly, &reference), &input);
+        if let Some((_, report, fresh)) = value {
+            salvage::holds(self, net, damaged, report, &fresh);
         }
     }
 
@@ -260,57 +263,63 @@ impl Same {
         }
     }
 
-    pub fn size(&mut self, net: &[u8]) {
+    /// The size, where the net is accepted.
+    pub fn size(&mut self, net: &[u8]) -> Option<Size> {
         let engine = guarded::size(net);
         let reference = reference::size(net);
         let (answer, value) = (told(&engine), engine.ok().map(|size| (size.pairs, size.modes, size.arcs)));
         let theirs = plain_of(&reference);
         let reference = (theirs, reference.ok().map(|size| (size.pairs, size.modes, size.arcs)));
         self.hold(Call::Size, answer, (answer, value), reference, &[&net]);
+        engine.ok()
     }
 
     /// A call that writes a sheet or a text into a slice of this length: its answer, and what it writes, where there is anything.
     fn write(
         &mut self,
         call: Call,
-        engine: impl Writes<Refusal>,
-        reference: impl Writes<reference::Answer>,
+        engine: Result<Vec<u8>, Refusal>,
+        reference: impl FnOnce(&[u8], &mut [u8]) -> Result<usize, reference::Answer>,
         given: &[u8],
         room: usize,
     ) -> (Plain, Option<Vec<u8>>) {
-        let (mut ours, mut theirs) = (vec![170; room], vec![170; room]);
-        let (engine, reference) = (engine(given, &mut ours), reference(given, &mut theirs));
+        let out = &mut self.out[..room];
+        let reference = reference(given, out);
+        let theirs = blank::taken(out, reference.unwrap_or(0));
+        let reference = (plain_of(&reference), reference.ok().map(|_| theirs));
         let (answer, value) = (told(&engine), engine.ok());
-        let reference = (plain_of(&reference), reference.ok(), &theirs);
-        self.hold(call, answer, (answer, value, &ours), reference, &[&given, &room]);
-        (answer, value.map(|length| ours[..length].to_vec()))
+        self.hold(call, answer, (answer, &value), (reference.0, &reference.1), &[&given, &room]);
+        (answer, value)
     }
 
     /// The complement, where there is one.
     pub fn complement(&mut self, net: &[u8], room: usize) -> Option<Vec<u8>> {
-        self.write(Call::Complement, guarded::complement, reference::complement, net, room).1
+        let engine = guarded::complement(net, room);
+        self.write(Call::Complement, engine, reference::complement, net, room).1
     }
 
     /// The sheet with a transition that strips a pair, where there is one.
     pub fn strip(&mut self, net: &[u8], pair: u16, room: usize) -> Option<Vec<u8>> {
-        let engine = |net: &[u8], out: &mut [u8]| guarded::strip(net, Pair(pair), out);
+        let engine = guarded::strip(net, Pair(pair), room);
         self.write(Call::Strip, engine, |net, out| reference::strip(net, pair, out), net, room).1
     }
 
     /// The sheet of version 2, where the net is in version 1.
     pub fn to_version_2(&mut self, net: &[u8], room: usize) -> Option<Vec<u8>> {
-        self.write(Call::ToVersion2, guarded::to_version_2, reference::to_version_2, net, room).1
+        let engine = guarded::to_version_2(net, room);
+        self.write(Call::ToVersion2, engine, reference::to_version_2, net, room).1
     }
 
     /// The sheet of version 1, where the net is in version 2.
     pub fn to_version_1(&mut self, net: &[u8], room: usize) -> Option<Vec<u8>> {
-        self.write(Call::ToVersion1, guarded::to_version_1, reference::to_version_1, net, room).1
+        let engine = guarded::to_version_1(net, room);
+        self.write(Call::ToVersion1, engine, reference::to_version_1, net, room).1
     }
 
     /// The net's text in PNML, where every K and I is unbounded.
     pub fn export_pnml(&mut self, net: &[u8], room: usize) -> Option<Vec<u8>> {
-        let (answer, text) =
-            self.write(Call::ExportPnml, guarded::export_pnml, reference::export_pnml, net, room);
+        let engine = guarded::export_pnml(net, room);
+        let (answer, text) = self.write(Call::ExportPnml, engine, reference::export_pnml, net, room);
         if answer.0 == 19 {
             self.hits.value(pnml::bounded(net, answer.2));
         }
@@ -319,8 +328,8 @@ impl Same {
 
     /// The sheet of a text that is an export, into a slice of this length.
     pub fn import_pnml(&mut self, text: &[u8], room: usize) -> Option<Vec<u8>> {
-        let (answer, sheet) =
-            self.write(Call::ImportPnml, guarded::import_pnml, reference::import_pnml, text, room);
+        let engine = guarded::import_pnml(text, room);
+        let (answer, sheet) = self.write(Call::ImportPnml, engine, reference::import_pnml, text, room);
         pnml::holds(self, text, answer, sheet.as_deref());
         sheet
     }
@@ -345,26 +354,18 @@ impl Same {
 
     /// The text of `replay`, into a slice of this length.
     pub fn statement(&mut self, input: &[u8], room: usize) {
-        let mut text = vec![170; room];
-        let engine = guarded::statement(input, &mut text);
-        let answer = told(&engine);
-        let mut expected = reference::replay(input);
-        self.hits.value(match &expected {
-            text if text == b"long\n" => "long",
-            text if text.starts_with(b"bad") => "text of a bad sheet",
-            text if text.windows(7).any(|word| word == b"refused") => "text of a stopped run",
+        let engine = guarded::statement(input, room);
+        let (answer, value) = (told(&engine), engine.ok());
+        let text = reference::replay(input);
+        let stopped = || text.split(|&byte| byte == b'\n').any(|line| line.starts_with(b"refused"));
+        self.hits.value(match &text[..] {
+            b"long\n" => "long",
+            [b'b', b'a', b'd', ..] => "text of a bad sheet",
+            _ if stopped() => "text of a stopped run",
             _ => "text of a whole run",
         });
-        let (reference, length) =
-            if room < pnet::TEXT_ROOM { ((10, 0, 0, 0), None) } else { ((0, 0, 0, 0), Some(expected.len())) };
-        expected.truncate(length.unwrap_or(0));
-        expected.resize(room, 170);
-        self.hold(
-            Call::Statement,
-            answer,
-            (answer, engine.ok(), &text),
-            (reference, length, &expected),
-            &[&input, &room],
-        );
+        let reference =
+            if room < pnet::TEXT_ROOM { ((10, 0, 0, 0), None) } else { ((0, 0, 0, 0), Some(text)) };
+        self.hold(Call::Statement, answer, (answer, value), reference, &[&input, &room]);
     }
 }

@@ -15,27 +15,34 @@ pub fn bare(same: &mut Same, random: &mut Random, net: &PlainNet) {
     let Some(stripped) = same.strip(&sheet, pair, pnet::LARGEST_NET) else { return };
     let modes = total(&net.modes) as u16;
     let all = guarded::size(&stripped).expect("it was written").modes as u16;
-    let of = format!("{}: pair {pair} of {net:?}", same.part);
-    assert_eq!(u32::from(all - modes), net.pairs[usize::from(pair)].0 + 1, "{of}");
+    let of = |same: &Same| format!("{}: pair {pair} of {net:?}", same.part);
+    assert_eq!(u32::from(all - modes), net.pairs[usize::from(pair)].0 + 1, "{}", of(same));
     let first: Vec<u32> = net.pairs.iter().map(|&(_, count)| count).collect();
-    assert_eq!(guarded::first_marking(&stripped).as_ref(), Ok(&first), "{of}");
+    assert_eq!(guarded::first_marking(&stripped).as_ref(), Ok(&first), "{}", of(same));
     let other = net.pairs.iter().map(|&(capacity, _)| count(random, Style::Small, capacity)).collect();
     for counts in [first, other] {
         let enabled = |mode: &u16| guarded::test(&stripped, &counts, Mode(*mode)).is_ok();
         let there = counts[usize::from(pair)] as u16;
-        assert_eq!((modes..all).filter(enabled).collect::<Vec<_>>(), [modes + there], "{of} at {counts:?}");
+        assert_eq!(
+            (modes..all).filter(enabled).collect::<Vec<_>>(),
+            [modes + there],
+            "{} at {counts:?}",
+            of(same)
+        );
         let mut expected = counts.clone();
         expected[usize::from(pair)] = 0;
         assert_eq!(
             same.fire(&stripped, &counts, modes + there),
             ((0, 0, 0, 0), expected),
-            "{of} at {counts:?}"
+            "{} at {counts:?}",
+            of(same)
         );
         for mode in 0..modes.min(8) {
             assert_eq!(
                 same.fire(&stripped, &counts, mode),
                 same.fire(&sheet, &counts, mode),
-                "{of} at {counts:?}"
+                "{} at {counts:?}",
+                of(same)
             );
         }
     }

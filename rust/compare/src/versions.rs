@@ -4,31 +4,29 @@
 use pnet::{LARGEST_NET, Mode, Pair, Refusal, TEXT_ROOM};
 
 use crate::case::Case;
+use crate::guarded;
 use crate::hits::Call;
 use crate::rules::is_weak;
 use crate::same::{Plain, Same, members, told};
-use crate::{guarded, pnml};
 
-/// Every call on the case and on the same net in the other version, where the net is accepted.
-pub fn answer_equally(same: &mut Same, case: &Case) {
+/// Every call on the case and on the same net in the other version, where the net is accepted and its text in PNML has so much room.
+pub fn answer_equally(same: &mut Same, case: &Case, text_room: usize) {
     let Some(other) = in_other_version(same, &case.net) else { return };
     for (own, others) in answers(case, &case.net).into_iter().zip(answers(case, &other)) {
         assert_eq!(own, others, "{}: {:?} and {other:?}", same.part, case.net);
     }
     same.hits.value("equal nets, and equal answers");
-    let room = pnml::room(&case.net);
-    let texts = [&case.net, &other].map(|net| written(net, room, guarded::export_pnml));
+    let texts = [&case.net, &other].map(|net| guarded::export_pnml(net, text_room).ok());
     assert_eq!(texts[0], texts[1], "{}: {:?}", same.part, case.net);
     if texts[0].is_some() {
         same.hits.value("equal nets, and equal texts");
     }
-    let complements = [&case.net, &other].map(|net| written(net, LARGEST_NET, guarded::complement));
+    let complements = [&case.net, &other].map(|net| guarded::complement(net, LARGEST_NET).ok());
     if let [Some(own), Some(others)] = complements {
         assert_eq!(in_other_version(same, &own), Some(others), "{}: {:?}", same.part, case.net);
         same.hits.value("equal nets, and equal complements");
     }
-    let strip = |net: &[u8], out: &mut [u8]| guarded::strip(net, Pair(case.pair), out);
-    let stripped = [&case.net, &other].map(|net| written(net, LARGEST_NET, strip));
+    let stripped = [&case.net, &other].map(|net| guarded::strip(net, Pair(case.pair), LARGEST_NET).ok());
     if let [Some(own), Some(others)] = stripped {
         assert_eq!(in_other_version(same, &own), Some(others), "{}: {:?}", same.part, case.net);
         same.hits.value("equal nets, and equally stripped");
@@ -39,7 +37,7 @@ pub fn answer_equally(same: &mut Same, case: &Case) {
 fn in_other_version(same: &mut Same, net: &[u8]) -> Option<Vec<u8>> {
     let from_1 = same.to_version_2(net, LARGEST_NET);
     let from_2 = same.to_version_1(net, LARGEST_NET);
-    if reference::size(net).is_ok() && is_weak(net) {
+    if is_weak(net) && reference::size(net).is_ok() {
         assert!(from_1.is_none() && from_2.is_none(), "{}: {net:?}", same.part);
     }
     assert!(from_1.is_none() || from_2.is_none(), "{}: {net:?}", same.part);
@@ -61,18 +59,6 @@ pub fn in_version_1(same: &mut Same, net: &[u8]) -> Vec<u8> {
         net[5] = 0;
     }
     if net[4] == 1 { net } else { in_other_version(same, &net).expect("the net is accepted") }
-}
-
-/// What a call writes into a slice of this length, where it writes anything.
-fn written(
-    net: &[u8],
-    room: usize,
-    call: impl Fn(&[u8], &mut [u8]) -> Result<usize, Refusal>,
-) -> Option<Vec<u8>> {
-    let mut out = vec![0; room];
-    let length = call(net, &mut out).ok()?;
-    out.truncate(length);
-    Some(out)
 }
 
 /// A call, its answer, and its value or what it wrote, as numbers.
@@ -142,20 +128,21 @@ fn fleet(case: &Case, net: &[u8]) -> Told {
 
 /// A salvage writes a movement sheet, the same for both.
 fn salvage(case: &Case, net: &[u8]) -> Told {
-    let mut fresh = vec![170; case.movements.len() + 5];
-    let salvaged = guarded::salvage(net, &case.movements, &mut fresh);
-    let numbers = salvaged.map(|of| vec![of.length as i64, of.kept as i64, of.dropped as i64]);
-    let bytes = fresh.iter().map(|&byte| byte.into());
-    (Call::Salvage, told(&salvaged), numbers.unwrap_or_default().into_iter().chain(bytes).collect())
+    let salvaged = guarded::salvage(net, &case.movements, case.movements.len() + 5);
+    let answer = told(&salvaged);
+    let value = salvaged.map(|(of, fresh)| {
+        let numbers = [of.length, of.kept, of.dropped].map(|number| number as i64);
+        numbers.into_iter().chain(fresh.into_iter().map(i64::from)).collect()
+    });
+    (Call::Salvage, answer, value.unwrap_or_default())
 }
 
 /// Three sheets that are accepted are never too long, and few bytes come after them here.
 fn statement(case: &Case, net: &[u8]) -> Told {
-    let (input, mut text) = ([net, &case.weights, &case.movements].concat(), vec![0; TEXT_ROOM]);
+    let input = [net, &case.weights, &case.movements].concat();
     assert!(input.len() <= 65_536);
-    let said = guarded::statement(&input, &mut text);
-    let length = said.unwrap_or(0);
-    (Call::Statement, told(&said), text[..length].iter().map(|&byte| byte.into()).collect())
+    let said = guarded::statement(&input, TEXT_ROOM);
+    (Call::Statement, told(&said), said.unwrap_or_default().into_iter().map(i64::from).collect())
 }
 
 fn of_the_net(case: &Case, net: &[u8]) -> Vec<Told> {
@@ -163,15 +150,15 @@ fn of_the_net(case: &Case, net: &[u8]) -> Vec<Told> {
     let named = first.ok().flatten().map(|(mode, pair)| vec![mode.0.into(), pair.0.into()]);
     let size = guarded::size(net);
     let sizes = size.map(|size| [size.pairs, size.modes, size.arcs].map(|count| count as i64).to_vec());
-    let complement = guarded::complement(net, &mut vec![0; LARGEST_NET]);
-    let stripped = guarded::strip(net, Pair(case.pair), &mut vec![0; LARGEST_NET]);
+    let complement = guarded::complement(net, LARGEST_NET);
+    let stripped = guarded::strip(net, Pair(case.pair), LARGEST_NET);
     vec![
         (Call::IsDead, told(&dead), dead.into_iter().map(i64::from).collect()),
         (Call::FirstDead, told(&first), named.unwrap_or_default()),
         (Call::Size, told(&size), sizes.unwrap_or_default()),
         (Call::Complement, without_offset(told(&complement)), vec![]),
         (Call::Strip, told(&stripped), vec![]),
-        (Call::ExportPnml, without_offset(told(&guarded::export_pnml(net, &mut []))), vec![]),
+        (Call::ExportPnml, without_offset(told(&guarded::export_pnml(net, 0))), vec![]),
     ]
 }
 

@@ -55,7 +55,8 @@ pub fn read_arc_of(sheet: &mut Sheet, mode: Mode, pairs: usize, before: Option<&
 }
 
 /// An arc from its pair on. An arc before it of a lower mode is never above it: in version 2 "7 now compares pairs within a
-/// mode".
+/// mode". In line: `compare` reads so many arcs that a call for each shows.
+#[inline(always)]
 fn rest_of_arc(
     sheet: &mut Sheet,
     offset: usize,

@@ -87,10 +87,13 @@ impl PlainNet {
     }
 
     fn put_arcs_of_modes(&self, fields: &mut Vec<u8>) {
-        for mode in 0..self.modes.iter().sum() {
-            let own = || self.arcs.iter().filter(|arc| arc.mode == mode);
-            two(fields, own().count() as u16);
-            own().for_each(|arc| arc.put(fields));
+        let mut of_modes = vec![Vec::new(); self.modes.iter().map(|&modes| usize::from(modes)).sum()];
+        for arc in &self.arcs {
+            of_modes.get_mut(usize::from(arc.mode)).into_iter().for_each(|own| own.push(arc));
+        }
+        for own in of_modes {
+            two(fields, own.len() as u16);
+            own.iter().for_each(|arc| arc.put(fields));
         }
     }
 

@@ -47,20 +47,30 @@ pub fn next_marking(net: &Net, marking: &[u32], mode: Mode, thing: Thing) -> Res
 /// The marking M - Pre + Post by the Pre, Post and I of one mode, or summed over a step: "11 over all
 /// pairs, 12, 13, 14", each with its amount at the lowest pair that breaks it. "12 reads by the rule in force."
 pub fn next_by(net: &Net, marking: &[u32], flows: &[Flow], thing: Thing) -> Result<Vec<u32>, Answer> {
+    let pairs = || marking.iter().copied().zip(flows);
     // Pre is at most M once 11 is passed over, so M - Pre + Post is never below zero.
-    let new_count = |p: usize| marking[p] - flows[p].pre + flows[p].post;
-    let pairs = || 0..net.pair_count();
-    let refuse = |refusal, amount: &dyn Fn(usize) -> Option<u32>| match pairs()
-        .find_map(|pair| Some((pair, amount(pair)?)))
-    {
+    let new_counts = || pairs().map(|(count, flow)| count - flow.pre + flow.post);
+    let lacking = pairs().map(|(count, flow)| Bound::Finite(count).passed_by(flow.pre));
+    unbroken(lacking, Refusal::Pre, thing)?;
+    let over_capacity = pairs()
+        .zip(&net.capacity)
+        .map(|((count, flow), &capacity)| net.rule().room(capacity, flow.pre).passed_by(count + flow.post));
+    unbroken(over_capacity, Refusal::Post, thing)?;
+    let over_inhibitor = pairs().map(|(count, flow)| flow.inhibitor.passed_by(count));
+    unbroken(over_inhibitor, Refusal::Inhibitor, thing)?;
+    let over_limit = new_counts().map(|count| Bound::Finite(LARGEST).passed_by(count));
+    unbroken(over_limit, Refusal::NewCount, thing)?;
+    Ok(new_counts().collect())
+}
+
+/// Refused at the lowest pair that has an amount.
+fn unbroken(
+    amounts: impl Iterator<Item = Option<u32>>,
+    refusal: Refusal,
+    thing: Thing,
+) -> Result<(), Answer> {
+    match amounts.enumerate().find_map(|(pair, amount)| Some((pair, amount?))) {
         Some((pair, amount)) => Err(Answer::refused(refusal, thing, pair).by(amount)),
         None => Ok(()),
-    };
-    refuse(Refusal::Pre, &|p| Bound::Finite(marking[p]).passed_by(flows[p].pre))?;
-    refuse(Refusal::Post, &|p| {
-        net.rule().room(net.capacity[p], flows[p].pre).passed_by(marking[p] + flows[p].post)
-    })?;
-    refuse(Refusal::Inhibitor, &|p| flows[p].inhibitor.passed_by(marking[p]))?;
-    refuse(Refusal::NewCount, &|p| Bound::Finite(LARGEST).passed_by(new_count(p)))?;
-    Ok(pairs().map(new_count).collect())
+    }
 }

@@ -60,12 +60,12 @@ impl<'a> Reading<'a> {
     }
 
     /// The one of these that follows in the text; none of them begins another. 20 is at the first byte at which none of them agrees any more.
-    fn one_of(&mut self, all: &[String]) -> Result<usize, Answer> {
+    fn one_of(&mut self, all: &[impl AsRef<[u8]>]) -> Result<usize, Answer> {
         let rest = &self.text[self.at..];
-        let agreed = |one: &String| one.bytes().zip(rest).take_while(|(due, byte)| due == *byte).count();
-        let most = all.iter().map(agreed).max().unwrap_or(0);
+        let agreed = |one: &[u8]| one.iter().zip(rest).take_while(|(due, byte)| due == byte).count();
+        let most = all.iter().map(|one| agreed(one.as_ref())).max().unwrap_or(0);
         self.at += most;
-        all.iter().position(|one| agreed(one) == one.len()).ok_or(self.refused())
+        all.iter().position(|one| rest.starts_with(one.as_ref())).ok_or(self.refused())
     }
 
     /// One line, or the end: whether there may be more.
@@ -97,15 +97,22 @@ impl<'a> Reading<'a> {
     fn kinds_to_come(&self) -> Vec<(Kind, String)> {
         let (places, mode) = (self.pairs.len() as u16, Mode(self.modes.saturating_sub(1)));
         let arc = |line: Line| line.head()[..ARC_PAIR].to_string();
+        let begins = |kind: Kind| match kind {
+            Kind::Close => CLOSE.to_string(),
+            Kind::Place => Line::Place(Pair(places)).head(),
+            Kind::Transition => Line::Transition(Mode(self.modes)).head(),
+            Kind::Pre => arc(Line::Pre(mode, Pair(0))),
+            Kind::Post => arc(Line::Post(mode, Pair(0))),
+        };
         let all = [
             // "CLOSE is always possible at a line's start once there is a place."
-            (places > 0, Kind::Close, CLOSE.to_string()),
-            (self.modes == 0 && places < TOTAL, Kind::Place, Line::Place(Pair(places)).head()),
-            (places > 0 && self.modes < TOTAL, Kind::Transition, Line::Transition(Mode(self.modes)).head()),
-            (!self.pre_pairs().is_empty(), Kind::Pre, arc(Line::Pre(mode, Pair(0)))),
-            (!self.post_pairs().is_empty(), Kind::Post, arc(Line::Post(mode, Pair(0)))),
+            (places > 0, Kind::Close),
+            (self.modes == 0 && places < TOTAL, Kind::Place),
+            (places > 0 && self.modes < TOTAL, Kind::Transition),
+            (!self.pre_pairs().is_empty(), Kind::Pre),
+            (!self.post_pairs().is_empty(), Kind::Post),
         ];
-        all.into_iter().filter(|(possible, ..)| *possible).map(|(_, kind, begins)| (kind, begins)).collect()
+        all.into_iter().filter(|(possible, _)| *possible).map(|(_, kind)| (kind, begins(kind))).collect()
     }
 
     /// The last arc of the mode in hand.
@@ -129,8 +136,8 @@ impl<'a> Reading<'a> {
 
     /// Three digits that are those of one of these pairs.
     fn pair(&mut self, pairs: Range<u16>) -> Result<Pair, Answer> {
-        let digits: Vec<String> = pairs.clone().map(|pair| format!("{pair:03}")).collect();
-        self.one_of(&digits).map(|at| Pair(pairs.start + at as u16))
+        let all: Vec<[u8; 3]> = pairs.clone().map(digits).collect();
+        self.one_of(&all).map(|at| Pair(pairs.start + at as u16))
     }
 
     /// A decimal without leading zeros, from the least to 1,000,000; what follows it is `<`.
@@ -170,4 +177,9 @@ impl<'a> Reading<'a> {
         }
         self.after_pre = matches!(line, Line::Pre(..));
     }
+}
+
+/// A pair's number as it stands in a line.
+fn digits(pair: u16) -> [u8; 3] {
+    [pair / 100, pair / 10 % 10, pair % 10].map(|digit| b'0' + digit as u8)
 }

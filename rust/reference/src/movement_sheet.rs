@@ -27,7 +27,7 @@ pub fn movements_at(run: &[u8]) -> Read<Vec<Mode>> {
     if bytes / 2 > MOVEMENTS {
         return Err(sheet.refuse(Refusal::Count, offset));
     }
-    let mut movements = Vec::new();
+    let mut movements = Vec::with_capacity(bytes / 2);
     for _ in 0..bytes / 2 {
         movements.push(Mode(sheet.two()?));
     }

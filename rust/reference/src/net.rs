@@ -55,9 +55,11 @@ impl Net {
         (0..).map(Mode).take(self.mode_count())
     }
 
-    /// A mode's arcs; a mode that is not there has none.
-    pub fn arcs_of(&self, mode: Mode) -> impl Iterator<Item = &Arc> {
-        self.arcs.iter().filter(move |arc| arc.mode == mode)
+    /// A mode's arcs, which stand together; a mode that is not there has none.
+    pub fn arcs_of(&self, mode: Mode) -> &[Arc] {
+        let from = self.arcs.partition_point(|arc| arc.mode < mode);
+        let to = self.arcs.partition_point(|arc| arc.mode <= mode);
+        &self.arcs[from..to]
     }
 
     /// Pre, Post and I of a mode at every pair, in the order of the pairs.

@@ -7,7 +7,7 @@ use crate::arc::{Arc, bound, number, read_arc, read_arc_of};
 use crate::bound::Bound;
 use crate::form::Form;
 use crate::kinds::Mode;
-use crate::limits::{ARCS, COLOURS, PLACES, TOTAL, TRANSITIONS};
+use crate::limits::{ARCS, COLOURS, PLACES, SHORT_ARC_BYTES, TOTAL, TRANSITIONS};
 use crate::net::Net;
 use crate::rule::Rule;
 use crate::sheet::{Read, Sheet, answer_and_taken, whole};
@@ -72,7 +72,7 @@ fn count(sheet: &mut Sheet, limits: RangeInclusive<u16>) -> Result<u16, Answer> 
 
 /// Colours of each place, or modes of each transition: 4 too where "the running total passes 256".
 fn counts(sheet: &mut Sheet, fields: u16) -> Result<Vec<u16>, Answer> {
-    let mut counts = Vec::new();
+    let mut counts = Vec::with_capacity(fields.into());
     let mut total = 0;
     for _ in 0..fields {
         let offset = sheet.offset();
@@ -88,7 +88,8 @@ fn counts(sheet: &mut Sheet, fields: u16) -> Result<Vec<u16>, Answer> {
 
 /// "For each pair K and the first marking (4 bytes each)"; "for the first marking 5 comes before 9".
 fn pairs(sheet: &mut Sheet, pairs: u16) -> Result<(Vec<Bound>, Vec<u32>), Answer> {
-    let (mut capacities, mut first) = (Vec::new(), Vec::new());
+    let room = usize::from(pairs);
+    let (mut capacities, mut first) = (Vec::with_capacity(room), Vec::with_capacity(room));
     for _ in 0..pairs {
         let capacity = bound(sheet)?;
         let offset = sheet.offset();
@@ -105,7 +106,7 @@ fn pairs(sheet: &mut Sheet, pairs: u16) -> Result<(Vec<Bound>, Vec<u32>), Answer
 /// "Arc count (2 bytes, 0..2,048); the arcs."
 fn arcs(sheet: &mut Sheet, modes: usize, pairs: usize) -> Result<Vec<Arc>, Answer> {
     let count = count(sheet, 0..=ARCS)?;
-    let mut arcs: Vec<Arc> = Vec::new();
+    let mut arcs: Vec<Arc> = Vec::with_capacity(count.into());
     for _ in 0..count {
         let arc = read_arc(sheet, modes, pairs, arcs.last())?;
         arcs.push(arc);
@@ -119,7 +120,7 @@ fn arcs_of_modes(
     modes: impl Iterator<Item = Mode>,
     pairs: usize,
 ) -> Result<Vec<Arc>, Answer> {
-    let mut arcs: Vec<Arc> = Vec::new();
+    let mut arcs: Vec<Arc> = Vec::with_capacity(sheet.left() / SHORT_ARC_BYTES);
     for mode in modes {
         let offset = sheet.offset();
         let count = sheet.two()?;

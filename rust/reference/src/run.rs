@@ -40,7 +40,7 @@ fn arguments(net: &[u8], movements: &[u8], marking: &[u32]) -> Result<(Net, Vec<
 pub fn run_from(net: &Net, movements: &[Mode], marking: &mut [u32]) -> Ran {
     let mut ran = Ran { accepted: 0, arcs: 0, answer: Answer::ACCEPTED };
     for &mode in movements {
-        ran.arcs += net.arcs_of(mode).count() as u64;
+        ran.arcs += net.arcs_of(mode).len() as u64;
         match next_marking(net, marking, mode, Thing::Movements) {
             Ok(next) => marking.copy_from_slice(&next),
             Err(answer) => return Ran { answer, ..ran },
