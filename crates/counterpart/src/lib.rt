@@ -7,7 +7,7 @@ ghost use Prim.Native.Nat.{_+_, _-_, _≤_, max};
 ghost use Rattle.model.specs.Numbers.{limit};
 ghost use Rattle.model.specs.Complement.{reserve, claim, complementPre};
 ghost use Rattle.fields.specs.Numbers.{bound};
-ghost use Rattle.sheets.specs.Decoded.{netArc};
+ghost use Rattle.fields.specs.Arcs.{netArc};
 
 fn larger(a: u32, b: u32) -> u32
     ensures { λ r. ⌜ r ≡ max a b ⌝ }

@@ -1,10 +1,10 @@
 use borrow.Author.Needs.{needs}
 use borrow.Author.Tests.{eq-eqb, ne-eqb}
 use Rattle.heads.specs.Bytes.{byteAt}
 use Rattle.heads.specs.Layout.{ruleAt}
 use Rattle.heads.specs.Rule.{ruleOf}
-use Rattle.heads.proofs.rule.named_rule.Statement.{statement}
-use Rattle.heads.proofs.rule.named_rule.Tie as tie
+use Rattle.opened.proofs.rule.named_rule.Statement.{statement}
+use Rattle.opened.proofs.rule.named_rule.Tie as tie
 
 returns : tie.Need-returns
 unfolding ruleOf

@@ -1,8 +1,8 @@
 -- Version 2 alone names its rule.
 use borrow.Author.Needs.{needs}
 use Rattle.heads.specs.Rule.{ruleOf}
-use Rattle.heads.proofs.rule.rule_of.Statement.{statement}
-use Rattle.heads.proofs.rule.rule_of.Tie as tie
+use Rattle.opened.proofs.rule.rule_of.Statement.{statement}
+use Rattle.opened.proofs.rule.rule_of.Tie as tie
 
 returns : tie.Need-returns
 unfolding ruleOf

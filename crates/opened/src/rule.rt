@@ -18,7 +18,7 @@ fn named_rule(s: &[u8]) -> CapacityRule
 }
 
 // "Rule byte 1 in version 2": version 1 has no rule byte.
-pub fn rule_of(s: &[u8], version: Version) -> CapacityRule
+pub(crate) fn rule_of(s: &[u8], version: Version) -> CapacityRule
     requires { ⌜ 6 ≤ length (now s) ⌝ }
     ensures { λ r. ⌜ r ≡ ruleOf version (now (s .entry)) ⌝ }
 {

@@ -2,9 +2,9 @@
 use borrow.Author.Needs.{needs}
 use borrow.Author.Tests.{lt-ltb, le-ltb}
 use native.Mathlib.Omega.{arith}
 use Rattle.heads.specs.Layout.{sheetEnd}
-use Rattle.heads.proofs.head.left_over.Statement.{statement}
-use Rattle.heads.proofs.head.left_over.Tie as tie
+use Rattle.fields.proofs.read.left_over.Statement.{statement}
+use Rattle.fields.proofs.read.left_over.Tie as tie
 
 returns : tie.Need-returns
 returns c =

@@ -1,9 +1,9 @@
 -- The first byte of a number of 2 bytes below 256 is 0.
 use borrow.Author.Needs.{needs}
 use native.Mathlib.Omega.{arith}
 use Rattle.heads.specs.Bytes.{u16At}
-use Rattle.heads.proofs.bytes.small_at.Statement.{statement}
-use Rattle.heads.proofs.bytes.small_at.Tie as tie
+use Rattle.opened.proofs.bytes.small_at.Statement.{statement}
+use Rattle.opened.proofs.bytes.small_at.Tie as tie
 
 returns : tie.Need-returns
 unfolding u16At
