@@ -5,10 +5,10 @@ use native.Mathlib.Omega.{arith}
 use Rattle.sheets.specs.Decoded.{netOf}
 use Rattle.opened.proofs.Shapes.{sizes}
 use Rattle.written.proofs.Puts.{put-length, room-as, puts-as, pair-fits}
 use Rattle.halves.specs.Pairs.{halfPair}
 use Rattle.halves.proofs.PairHalves.{old-pair}
-use Rattle.halves.proofs.pairs.put_half_pair.Statement.{statement}
-use Rattle.halves.proofs.pairs.put_half_pair.Tie as tie
+use Rattle.sections.proofs.pairs.put_half_pair.Statement.{statement}
+use Rattle.sections.proofs.pairs.put_half_pair.Tie as tie
 
 cast-t8 : tie.Need-cast-t8
 cast-t8 c = let z = sizes (c .before .before .pre .0) in omega (arith, z .pairsWithin)

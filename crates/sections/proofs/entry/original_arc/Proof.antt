@@ -1,7 +1,7 @@
 -- The number that means unbounded does.
 use Rattle.fields.specs.Numbers.{bound}
-use Rattle.halves.proofs.entry.original_arc.Statement.{statement}
-use Rattle.halves.proofs.entry.original_arc.Tie as tie
+use Rattle.sections.proofs.entry.original_arc.Statement.{statement}
+use Rattle.sections.proofs.entry.original_arc.Tie as tie
 use mathlib.Core.Path.{refl}
 
 returns : tie.Need-returns

@@ -1,10 +1,10 @@
 -- The original half, then the new one.
 use borrow.Author.Needs.{needs}
 use mathlib.Core.Path.{sym}
 use Rattle.halves.proofs.PairHalves.{pair-parts}
 use Rattle.written.proofs.Puts.{room-as, puts-as, room-first, room-next, puts-both}
-use Rattle.halves.proofs.pairs.put_pairs.Statement.{statement}
-use Rattle.halves.proofs.pairs.put_pairs.Tie as tie
+use Rattle.sections.proofs.pairs.put_pairs.Statement.{statement}
+use Rattle.sections.proofs.pairs.put_pairs.Tie as tie
 
 put-half-pairs-requires : tie.Need-put-half-pairs-requires
 put-half-pairs-requires c κs = let pre = c .before .before .before .pre in (pre .0, room-first _ _ (room-as (pair-parts (pre .0)) (pre .1)))

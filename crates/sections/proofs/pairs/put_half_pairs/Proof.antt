@@ -3,11 +3,11 @@ use borrow.Author.Needs.{needs}
 use Prim.Native.Nat.{_≤_, _-_}
 use Rattle.model.specs.Lists.{joined}
 use Rattle.sheets.specs.Decoded.{netOf}
 use Rattle.halves.specs.Pairs.{halfPair}
 use Rattle.written.specs.Puts.{Puts}
 use Rattle.written.proofs.Puts.{puts-none, room-more, puts-more, puts-end}
-use Rattle.halves.proofs.pairs.put_half_pairs.Statement.{statement}
-use Rattle.halves.proofs.pairs.put_half_pairs.Tie as tie
+use Rattle.sections.proofs.pairs.put_half_pairs.Statement.{statement}
+use Rattle.sections.proofs.pairs.put_half_pairs.Tie as tie
 
 abbrev Inv-loop : tie.InvT-loop
 Inv-loop s net half out₀ at pairs next₀ p₀ out next p = (p ≤ pairs) × Puts out₀ at (joined p (halfPair (netOf s) half)) out next

@@ -9,9 +9,9 @@ use Rattle.model.specs.Complement.{boundedBelow}
 use Rattle.model.proofs.Bounded.{below-none, below-at-most}
 use Rattle.sheets.specs.Decoded.{netOf}
 use Rattle.opened.proofs.Shapes.{sizes}
 use Rattle.halves.proofs.Below.{UpTo, none-below, one-more, filled}
-use Rattle.halves.proofs.bounded.bounded_below.Statement.{statement}
-use Rattle.halves.proofs.bounded.bounded_below.Tie as tie
+use Rattle.sections.proofs.bounded.bounded_below.Statement.{statement}
+use Rattle.sections.proofs.bounded.bounded_below.Tie as tie
 
 abbrev Inv-loop : tie.InvT-loop
 Inv-loop s net table₀ pairs count₀ p₀ table count p =

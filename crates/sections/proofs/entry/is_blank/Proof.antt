@@ -3,8 +3,8 @@ use borrow.Author.Needs.{needs}
 use borrow.Author.Tests.{ne-eqb, eq-eqb}
 use mathlib.Core.Path.{ap}
 use mathlib.Core.Bool.{not}
-use Rattle.halves.proofs.entry.is_blank.Statement.{statement}
-use Rattle.halves.proofs.entry.is_blank.Tie as tie
+use Rattle.sections.proofs.entry.is_blank.Statement.{statement}
+use Rattle.sections.proofs.entry.is_blank.Tie as tie
 
 returns : tie.Need-returns
 returns c = rw (ne-eqb _ _ (c .if1 .taken))
