@@ -1,8 +1,8 @@
 -- Nothing is above an unbounded number; a difference is 0 where it would be below.
 use native.Mathlib.Omega.{arith}
 use Rattle.fields.proofs.Bounds.{bound-unbounded, bound-finite}
-use Rattle.rule.proofs.above_by.Statement.{statement}
-use Rattle.rule.proofs.above_by.Tie as tie
+use Rattle.firing.proofs.pair.above_by.Statement.{statement}
+use Rattle.firing.proofs.pair.above_by.Tie as tie
 
 returns : tie.Need-returns
 returns c = rw (bound-unbounded _ (c .if1 .taken))

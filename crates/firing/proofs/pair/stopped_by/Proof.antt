@@ -2,8 +2,8 @@
 use borrow.Author.Needs.{needs}
 use native.Mathlib.Omega.{arith}
 use Rattle.fields.proofs.Bounds.{bound-finite}
-use Rattle.rule.proofs.stopped_by.Statement.{statement}
-use Rattle.rule.proofs.stopped_by.Tie as tie
+use Rattle.firing.proofs.pair.stopped_by.Statement.{statement}
+use Rattle.firing.proofs.pair.stopped_by.Tie as tie
 
 returns : tie.Need-returns
 returns c =

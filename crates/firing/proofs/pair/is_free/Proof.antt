@@ -2,9 +2,9 @@
 use borrow.Author.Needs.{needs}
 use mathlib.Core.Path.{sym, _∙_}
 use Rattle.model.specs.declared.Why.the-variants.{Lacking, OverCapacity, Inhibited, OverLimit}
 use Rattle.rule.proofs.FourTests.{one-stops, none-stops}
-use Rattle.rule.proofs.is_free.Statement.{statement}
-use Rattle.rule.proofs.is_free.Tie as tie
+use Rattle.firing.proofs.pair.is_free.Statement.{statement}
+use Rattle.firing.proofs.pair.is_free.Tie as tie
 
 returns : tie.Need-returns
 returns c = one-stops _ _ _ Lacking (sym (c .before .is-stopped .ensures) ∙ c .if1 .taken)

@@ -1,9 +1,9 @@
 -- An unbounded K stays so; any other and Pre are below the number that means unbounded.
 use native.Mathlib.Omega.{arith}
 use Rattle.fields.proofs.Bounds.{bound-unbounded, bound-finite}
 use Rattle.rule.proofs.FourTests.{finite-in-range}
-use Rattle.rule.proofs.with_pre.Statement.{statement}
-use Rattle.rule.proofs.with_pre.Tie as tie
+use Rattle.firing.proofs.pair.with_pre.Statement.{statement}
+use Rattle.firing.proofs.pair.with_pre.Tie as tie
 
 returns : tie.Need-returns
 returns c = rw (bound-unbounded _ (c .if1 .taken))

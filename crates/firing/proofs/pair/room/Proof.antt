@@ -1,7 +1,7 @@
 -- Each rule's own.
 use borrow.Author.Needs.{needs}
-use Rattle.rule.proofs.room.Statement.{statement}
-use Rattle.rule.proofs.room.Tie as tie
+use Rattle.firing.proofs.pair.room.Statement.{statement}
+use Rattle.firing.proofs.pair.room.Tie as tie
 
 returns : tie.Need-returns
 returns c = rw (c .enum-told .given .1)
