@@ -6,10 +6,10 @@ use mathlib.Core.List.{List}
 use lib.ListN.{length}
 use native.Mathlib.Omega.{arith}
 use Rattle.sheets.specs.Decoded.{netOf}
-use Rattle.numbers.specs.OnePass.{writtenTo, PassedAndWritten}
-use Rattle.numbers.proofs.OnePass.{to-length, wrote-at, Back, last-back}
-use Rattle.numbers.proofs.take_back.Statement.{statement}
-use Rattle.numbers.proofs.take_back.Tie as tie
+use Rattle.onepass.specs.OnePass.{writtenTo, PassedAndWritten}
+use Rattle.onepass.proofs.OnePass.{to-length, wrote-at, Back, last-back}
+use Rattle.onepass.proofs.take_back.Statement.{statement}
+use Rattle.onepass.proofs.take_back.Tie as tie
 
 abbrev Inv-loop : tie.InvT-loop
 Inv-loop s net arcs written marking₀ i₀ marking i =

@@ -1,9 +1,8 @@
 -- Not there; or what firing the mode's arcs gives.
 use borrow.Author.Needs.{needs}
-use Rattle.progress.proofs.Along.{absent-makes, there-makes}
-use Rattle.progress.proofs.Visiting.{tries-at}
-use Rattle.progress.proofs.step.Statement.{statement}
-use Rattle.progress.proofs.step.Tie as tie
+use Rattle.numbers.proofs.Tried.{tries-at, absent-makes, there-makes}
+use Rattle.numbers.proofs.movement.step.Statement.{statement}
+use Rattle.numbers.proofs.movement.step.Tie as tie
 
 returns : tie.Need-returns
 returns c = absent-makes (c .before .before .before .before .before .before .pre .0 .opened) _ (c .if1 .taken)

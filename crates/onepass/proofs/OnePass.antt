@@ -29,7 +29,7 @@ use Rattle.rule.proofs.FourTests.{clash}
 use Rattle.firing.proofs.Meets.{written-is}
 use Rattle.leaving.proofs.Leaving.{makes-not, makes-so}
 use Rattle.firing.proofs.ByMode.{listing, one-not-free, all-free, writable, fires}
-use Rattle.numbers.specs.OnePass.{Passes, writtenTo, PassedAndWritten, Through, Fires}
+use Rattle.onepass.specs.OnePass.{Passes, writtenTo, PassedAndWritten, Through, Fires}
 
 -- an arc that was read, where a count is tested
 module _ (net : PNet) (m : List ℕ) (k : ℕ) (a : Arc) (is : netArc a ≡ arcNo (net .arcs) k) where
