@@ -1,3 +1,1 @@
-pub mod MovementSheets
-pub mod Answers
-pub mod Promises
+pub mod Considered

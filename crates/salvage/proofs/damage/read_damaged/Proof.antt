@@ -7,9 +7,9 @@ use lib.ListN.{length}
 use native.Mathlib.Omega.{arith}
 use Rattle.model.proofs.Refusals.{answer-passes, answer-fails, answer-last-passes, answer-last-fails}
 use Rattle.heads.specs.Layout.{bodyLength, version}
 use Rattle.damaged.specs.Damaged.{damagedRefusal}
-use Rattle.damaged.proofs.read_damaged.Statement.{statement}
-use Rattle.damaged.proofs.read_damaged.Tie as tie
+use Rattle.salvage.proofs.damage.read_damaged.Statement.{statement}
+use Rattle.salvage.proofs.damage.read_damaged.Tie as tie
 
 returns : tie.Need-returns
 unfolding damagedRefusal
