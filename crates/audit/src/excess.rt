@@ -1,9 +1,9 @@
 // The excess at one pair: what its count and its complement's are above K, or else what the two markings differ by.
-use halves::bounded::complement_pair;
 use model::Pair;
 use opened::finite::is_finite;
 use opened::shape::NetShape;
 use opened::shape::capacity;
+use sections::bounded::complement_pair;
 ghost use mathlib.Core.Path.{_≡_};
 ghost use Prim.Native.Nat.{_≤_, _<_};
 ghost use lib.IntN.{pos, _-ℤ_};

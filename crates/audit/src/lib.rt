@@ -4,13 +4,13 @@ mod refusals;
 
 use crate::excess::pair_excess;
 use crate::refusals::audit_answer;
-use halves::bounded::bounded_below;
 use model::Answer;
 use model::Pair;
 use model::Refusal;
 use opened::Opened;
 use opened::open_net;
 use opened::shape::NetShape;
+use sections::bounded::bounded_below;
 ghost use mathlib.Core.Path.{_≡_};
 ghost use mathlib.Core.Option.{none};
 ghost use Rattle.model.specs.Audit.{audited, auditRefusal};

@@ -1,11 +1,11 @@
 // What complementing refuses, then 17 for the marking, then 17 for the complement's marking.
 use complement::check::check_net;
-use halves::bounded::bounded_between;
 use heads::head::refused;
 use model::Answer;
 use model::Fault;
 use model::Thing;
 use opened::shape::NetShape;
+use sections::bounded::bounded_between;
 ghost use mathlib.Core.Path.{_≡_};
 ghost use Rattle.model.specs.First.{_▸_};
 ghost use Rattle.model.specs.Nets.{pairs};

@@ -1,8 +1,8 @@
 // The sheet of the complement: how large it is, and its parts in turn.
-use halves::bounded::bounded_between;
-use halves::pairs::put_pairs;
 use opened::shape::NetShape;
 use sections::arcs::put_arcs;
+use sections::bounded::bounded_between;
+use sections::pairs::put_pairs;
 use sections::places::count_new_places;
 use sections::places::put_modes;
 use sections::places::put_places;

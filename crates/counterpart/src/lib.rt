@@ -7,24 +7,7 @@ ghost use Prim.Native.Nat.{_+_, _-_, _≤_, max};
 ghost use Rattle.model.specs.Numbers.{limit};
 ghost use Rattle.model.specs.Complement.{reserve, claim, complementPre};
 ghost use Rattle.fields.specs.Numbers.{bound};
-ghost use Rattle.sheets.specs.Decoded.{netArc};
-
-// "a less b, or 0"
-fn less(a: u32, b: u32) -> u32
-    ensures { λ r. ⌜ r ≡ a - b ⌝ }
-{
-    if a < b {
-        return 0;
-    }
-    a - b
-}
-
-// "K less I, or 0 where I ≥ K or unbounded": the number that means unbounded is the largest of 32 bits.
-fn reserved(capacity: u32, inhibitor: u32) -> u32
-    ensures { λ r. ⌜ r ≡ reserve capacity (bound inhibitor) ⌝ }
-{
-    less(capacity, inhibitor)
-}
+ghost use Rattle.fields.specs.Arcs.{netArc};
 
 fn larger(a: u32, b: u32) -> u32
     ensures { λ r. ⌜ r ≡ max a b ⌝ }
@@ -35,13 +18,20 @@ fn larger(a: u32, b: u32) -> u32
     a
 }
 
+// "K less I, or 0 where I ≥ K or unbounded": the larger of the two less I. The number that means unbounded is the largest of 32 bits.
+fn reserved(capacity: u32, inhibitor: u32) -> u32
+    ensures { λ r. ⌜ r ≡ reserve capacity (bound inhibitor) ⌝ }
+{
+    larger(capacity, inhibitor) - inhibitor
+}
+
 // "Post"; by the weak capacity rule "Post less Pre, or 0" (document 02, P10).
 fn claimed(rule: CapacityRule, arc: Arc) -> u32
     ensures { λ r. ⌜ r ≡ claim rule (netArc arc .entry) ⌝ }
 {
     match rule {
         CapacityRule::Strong => arc.post,
-        CapacityRule::Weak => less(arc.post, arc.pre),
+        CapacityRule::Weak => larger(arc.post, arc.pre) - arc.pre,
     }
 }
 

@@ -1,5 +1,5 @@
 // The counts of a net sheet: places, transitions, colours of each place and modes of each transition, and their totals.
-use heads::bytes::count_at;
+use crate::read::count_at;
 use heads::head::fields_at;
 use heads::head::refused;
 use heads::head::sheet_end;

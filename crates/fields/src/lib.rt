@@ -2,3 +2,4 @@
 pub mod counts;
 pub mod numbers;
 pub mod pairs;
+pub mod read;

@@ -1,11 +1,11 @@
 // One arc of an open net: its room there, and what it meets at a marking.
+use crate::pair::room;
 use model::Arc;
 use opened::arcs::arc;
 use opened::shape::NetShape;
 use opened::shape::capacity;
 use opened::starts::Segment;
 use rule::AtPair;
-use rule::room;
 ghost use mathlib.Core.Path.{_≡_};
 ghost use Prim.Native.Nat.{_+_, _*_, _≤_, _<_};
 ghost use Rattle.model.specs.Numbers.{limit};

@@ -1,5 +1,7 @@
 // One mode at a marking, by its own arcs alone: which of 11 to 14 stops it, whether none does, and firing it.
 use crate::arcs::meet;
+use crate::pair::is_free;
+use crate::pair::stopped_by;
 use heads::head::refused;
 use model::Answer;
 use model::Fault;
@@ -8,10 +10,8 @@ use model::Why;
 use opened::arcs::arc;
 use opened::shape::NetShape;
 use opened::starts::Segment;
-use rule::is_free;
 use rule::is_stopped;
 use rule::moved;
-use rule::stopped_by;
 ghost use mathlib.Core.Path.{_≡_};
 ghost use mathlib.Core.Bool.{true};
 ghost use mathlib.Core.Logic.{_↔_};

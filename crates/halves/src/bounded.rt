@@ -1,19 +1,17 @@
-// Pairs of finite K: how many stand below each pair. It numbers the complement pairs and says how many a place has.
+// A pair of finite K, which has a complement pair.
 use model::Pair;
 use opened::finite::is_finite;
 use opened::shape::NetShape;
 use opened::shape::capacity;
 ghost use mathlib.Core.Path.{_≡_};
 ghost use mathlib.Core.Bool.{cond};
-ghost use Prim.Native.Nat.{_+_, _-_, _<_, _≤_};
-ghost use lib.ListN.{getD};
+ghost use Prim.Native.Nat.{_<_};
 ghost use Rattle.model.specs.Nets.{K};
 ghost use Rattle.model.specs.Complement.{finite};
 ghost use Rattle.sheets.specs.Decoded.{netOf};
 ghost use Rattle.opened.specs.Shape.{Open};
-ghost use Rattle.halves.specs.Bounded.{BelowAre};
 
-fn one_if_bounded(s: &[u8], net: NetShape, p: usize) -> u16
+pub fn one_if_bounded(s: &[u8], net: NetShape, p: usize) -> u16
     requires { ⌜ Open (now s) net ⌝ }
     requires { ⌜ p < net .pairs ⌝ }
     ensures { λ r. ⌜ r ≡ cond (finite (K (netOf (now (s .entry))) p)) 1 0 ⌝ }
@@ -22,38 +20,4 @@ fn one_if_bounded(s: &[u8], net: NetShape, p: usize) -> u16
         return 1;
     }
     0
-}
-
-// The table: entry p is how many pairs below p have a finite K.
-pub fn bounded_below(s: &[u8], net: NetShape) -> [u16; 257]
-    requires { ⌜ Open (now s) net ⌝ }
-    ensures { λ r. ⌜ BelowAre (netOf (now (s .entry))) r ⌝ }
-{
-    let mut table = [0u16; 257];
-    let pairs = net.pairs;
-    let mut count = 0;
-    let mut p = 0;
-    while p < pairs {
-        count += one_if_bounded(s, net, p);
-        p += 1;
-        table[p] = count;
-    }
-    table
-}
-
-// "Each pair of finite K gets a complement pair, numbered after all originals in rising order."
-pub fn complement_pair(pairs: usize, below: &[u16; 257], pair: Pair) -> Pair
-    requires { ⌜ (pairs ≤ 256) × (pair .0 ≤ 256) × (getD (now below) (pair .0) 0 ≤ 256) ⌝ }
-    ensures { λ r. ⌜ r .0 ≡ pairs + getD (now (below .entry)) (pair .0) 0 ⌝ }
-{
-    let p = pair.0 as usize;
-    Pair((pairs as u16) + below[p])
-}
-
-// How many of the pairs from `first` up to `end` have a finite K.
-pub fn bounded_between(below: &[u16; 257], first: usize, end: usize) -> usize
-    requires { ⌜ (first ≤ 256) × (end ≤ 256) × (getD (now below) first 0 ≤ getD (now below) end 0) × (getD (now below) end 0 ≤ 256) ⌝ }
-    ensures { λ r. ⌜ r ≡ getD (now (below .entry)) end 0 - getD (now (below .entry)) first 0 ⌝ }
-{
-    (below[end] - below[first]) as usize
 }

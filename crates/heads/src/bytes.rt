@@ -4,19 +4,19 @@ ghost use Prim.Native.Nat.{_+_, _<_, _≤_};
 ghost use lib.ListN.{length};
 ghost use Rattle.heads.specs.Bytes.{u16At, u32At};
 
-fn wide16(x: u8) -> u16
+pub fn wide16(x: u8) -> u16
     ensures { λ r. ⌜ (r ≡ x) × (r < 256) ⌝ }
 {
     x as u16
 }
 
-fn wide32(x: u16) -> u32
+pub fn wide32(x: u16) -> u32
     ensures { λ r. ⌜ (r ≡ x) × (r < 65536) ⌝ }
 {
     x as u32
 }
 
-pub(crate) fn wide64(x: u32) -> usize
+pub fn wide64(x: u32) -> usize
     ensures { λ r. ⌜ (r ≡ x) × (r < 4294967296) ⌝ }
 {
     x as usize
@@ -29,26 +29,9 @@ pub fn u16_at(s: &[u8], at: usize) -> u16
     wide16(s[at]) * 256 + wide16(s[at + 1])
 }
 
-// A number of 2 bytes that is below 256: its second byte.
-pub fn small_at(s: &[u8], at: usize) -> u16
-    requires { ⌜ at + 2 ≤ length (now s) ⌝ }
-    requires { ⌜ u16At (now s) at < 256 ⌝ }
-    ensures { λ r. ⌜ r ≡ u16At (now (s .entry)) at ⌝ }
-{
-    wide16(s[at + 1])
-}
-
 pub fn u32_at(s: &[u8], at: usize) -> u32
     requires { ⌜ at + 4 ≤ length (now s) ⌝ }
     ensures { λ r. ⌜ (r ≡ u32At (now (s .entry)) at) × (r < 4294967296) ⌝ }
 {
     wide32(u16_at(s, at)) * 65536 + wide32(u16_at(s, at + 2))
-}
-
-// A count of 2 bytes.
-pub fn count_at(s: &[u8], at: usize) -> usize
-    requires { ⌜ at + 2 ≤ length (now s) ⌝ }
-    ensures { λ r. ⌜ (r ≡ u16At (now (s .entry)) at) × (r < 65536) ⌝ }
-{
-    wide64(wide32(u16_at(s, at)))
 }

@@ -12,7 +12,7 @@ ghost use Prim.Native.Nat.{_+_, _<_, _≤_};
 ghost use lib.ListN.{length};
 ghost use Rattle.model.specs.Refusals.{answer, wrong};
 ghost use Rattle.heads.specs.Layout.{sheetEnd, fieldsAt};
-ghost use Rattle.heads.specs.Checks.{known, headRefusal, leftOver};
+ghost use Rattle.heads.specs.Checks.{known, headRefusal};
 ghost use Rattle.heads.specs.Held.{Headed};
 
 pub fn refused(thing: Thing, fault: Fault) -> Answer
@@ -70,17 +70,6 @@ pub fn read_head(s: &[u8], thing: Thing) -> Answer
     }
     if !is_known(thing, s[4]) {
         return refused(thing, Fault::WrongVersion(4));
-    }
-    Answer::Accepted
-}
-
-// Bytes of the sheet after the last field, which ends at `at`.
-pub fn left_over(s: &[u8], thing: Thing, at: usize) -> Answer
-    requires { ⌜ Headed (now s) ⌝ }
-    ensures { λ r. ⌜ r ≡ answer (leftOver thing (now (s .entry)) at) ⌝ }
-{
-    if at < sheet_end(s) {
-        return refused(thing, Fault::WrongLength(at));
     }
     Answer::Accepted
 }

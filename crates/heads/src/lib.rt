@@ -2,5 +2,4 @@
 // Where each field of every sheet stands is said in specs/Layout.antt.
 pub mod bytes;
 pub mod head;
-pub mod rule;
 pub mod version;

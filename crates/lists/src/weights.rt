@@ -1,7 +1,7 @@
 // A weight sheet: the pair count, then one signed weight of 4 bytes for each pair.
-use heads::bytes::count_at;
+use fields::read::count_at;
+use fields::read::left_over;
 use heads::bytes::u32_at;
-use heads::head::left_over;
 use heads::head::read_head;
 use heads::head::refused;
 use heads::head::sheet_end;

@@ -1,9 +1,9 @@
 // The arcs of a net sheet of version 1, which rise strictly by mode, then pair.
 use crate::tails::read_numbers;
 use fields::counts::read_count;
-use heads::bytes::count_at;
+use fields::read::count_at;
+use fields::read::left_over;
 use heads::bytes::u16_at;
-use heads::head::left_over;
 use heads::head::refused;
 use heads::head::sheet_end;
 use model::Answer;

@@ -1,8 +1,8 @@
 // The arcs of a net sheet of version 2: for each mode its arc count, then its arcs, which rise strictly by pair.
 use crate::tails::read_numbers;
-use heads::bytes::count_at;
+use fields::read::count_at;
+use fields::read::left_over;
 use heads::bytes::u16_at;
-use heads::head::left_over;
 use heads::head::refused;
 use heads::head::sheet_end;
 use model::Answer;

@@ -4,7 +4,7 @@ use crate::groups::group_fields;
 use fields::counts::count_fields;
 use fields::counts::total_of;
 use fields::pairs::read_pairs;
-use heads::bytes::count_at;
+use fields::read::count_at;
 use heads::head::fields_at;
 use heads::head::read_head;
 use heads::head::refused;

@@ -1,3 +1,3 @@
 pub mod Bounds
 pub mod ByNumbers
-pub mod OnePass
+pub mod Tried

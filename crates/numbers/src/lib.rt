@@ -1,21 +1,23 @@
 // One number for each arc of a net, made once for a run by the net's rule: a count passes all four tests when it is at least Pre and below that number.
 // And firing a mode of a list in one pass over its arcs.
+pub mod movement;
+
 use fields::numbers::least;
 use firing::arcs::room_at;
+use firing::pair::is_free;
 use model::Arc;
 use model::Mode;
+use onepass::take_back;
 use opened::arcs::arc;
 use opened::arcs::slot;
 use opened::shape::NetShape;
 use opened::starts::Segment;
 use opened::starts::arcs_of;
 use rule::AtPair;
-use rule::is_free;
 ghost use mathlib.Core.Path.{_≡_};
 ghost use mathlib.Core.Bool.{true};
-ghost use mathlib.Core.List.{List};
 ghost use mathlib.Core.Logic.{_↔_};
-ghost use Prim.Native.Nat.{ℕ, _+_, _≤_};
+ghost use Prim.Native.Nat.{_+_, _≤_};
 ghost use lib.ListN.{length};
 ghost use Rattle.model.specs.Numbers.{limit};
 ghost use Rattle.model.specs.Firing.{roomAt};
@@ -27,7 +29,7 @@ ghost use Rattle.opened.specs.Starts.{StartsAre, ModeArcs, OwnArc};
 ghost use Rattle.rule.specs.AtPair.{Unstopped};
 ghost use Rattle.firing.specs.AtMode.{Writable, AtMode, OfMode};
 ghost use Rattle.numbers.specs.Numbers.{numberOf, NumbersBelow, NumbersAre, Numbered};
-ghost use Rattle.numbers.specs.OnePass.{Passes, PassedAndWritten, Through, Fires};
+ghost use Rattle.onepass.specs.OnePass.{Passes, Through, Fires};
 
 // The counts below this number, from Pre on, are those that pass all four tests.
 fn pass_below(arc: Arc, capacity: u32) -> u32
@@ -156,25 +158,9 @@ fn fire_through(
     i
 }
 
-// Takes back what the first `written` arcs of a mode have written, the last first: whatever marking they let the mode pass at is there again.
-fn take_back(s: &[u8], net: NetShape, arcs: Segment, written: usize, marking: &mut [u32])
-    requires { ⌜ Open (now s) net ⌝ }
-    requires { ⌜ ModeArcs (netOf (now s) .arcs) (arcs .mode) (arcs .start) (arcs .count) ⌝ }
-    requires { ⌜ ((m : List ℕ) × PassedAndWritten (netOf (now s)) arcs written m (now marking)) ⌝ }
-    ensures { λ r. ⌜ ((m : List ℕ) → PassedAndWritten (netOf (now (s .entry))) arcs written m (now (marking .entry)) → now (marking .exit) ≡ m) ⌝ }
-{
-    let mut i = written;
-    while 0 < i {
-        i -= 1;
-        let arc = arc(s, net, arcs, i);
-        let p = arc.pair.0 as usize;
-        marking[p] = marking[p] - arc.post + arc.pre;
-    }
-}
-
 // One pass tests and writes; where an arc does not let the mode pass, those before it are taken back. Whether the mode has fired.
 // "Test first, then write" is said of firing one mode: a list stops at its first refused movement, so that at most one is ever taken back.
-pub fn fire_within(
+pub(crate) fn fire_within(
     s: &[u8],
     net: NetShape,
     numbers: &[u32],

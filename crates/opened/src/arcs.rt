@@ -1,7 +1,7 @@
 // An arc of an accepted net, named by its mode and its index among the mode's arcs: no other crate knows where an arc stands in the sheet.
+use crate::bytes::small_at;
 use crate::shape::NetShape;
 use crate::starts::Segment;
-use heads::bytes::small_at;
 use heads::bytes::u32_at;
 use model::Arc;
 use model::Mode;

@@ -1,5 +1,5 @@
 // How many arcs a net has: the arc count of version 1, or the counts of each mode in version 2.
-use heads::bytes::count_at;
+use fields::read::count_at;
 use heads::version::version_of;
 use model::Version;
 ghost use mathlib.Core.Path.{_≡_};

@@ -1,8 +1,10 @@
 // A net that a call takes as an argument: the shape of an accepted sheet, or its refusal.
 pub mod arcs;
+mod bytes;
 pub mod finite;
 mod groups;
 pub mod listed;
+mod rule;
 pub mod shape;
 pub mod starts;
 

@@ -1,9 +1,9 @@
 // A net sheet that has been accepted, looked into in place: where its parts stand is worked out once a call, and kept by value.
 use crate::groups::count_arcs;
-use heads::bytes::count_at;
+use crate::rule::rule_of;
+use fields::read::count_at;
 use heads::bytes::u32_at;
 use heads::head::fields_at;
-use heads::rule::rule_of;
 use heads::version::version_of;
 use model::CapacityRule;
 use model::Pair;

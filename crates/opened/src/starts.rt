@@ -1,8 +1,8 @@
 // Where the arcs of each mode stand: a movement visits its mode's arcs alone.
+use crate::bytes::small_at;
 use crate::groups::arcs_before;
 use crate::groups::group_end;
 use crate::shape::NetShape;
-use heads::bytes::small_at;
 use model::Mode;
 use model::Version;
 ghost use mathlib.Core.Path.{_≡_};

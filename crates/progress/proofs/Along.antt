@@ -8,29 +8,23 @@ use lib.ListN.{length, drop, getD, drop-of-length-le}
 use lib.Seq.{drop-cons}
 use native.Mathlib.Numerals.{add-one}
 use native.Mathlib.Omega.{arith}
-use borrow.Author.Tests.{leb-false, lt-leb}
 use Rattle.model.specs.declared.Mode.{Mode}
 use Rattle.model.specs.declared.Thing.the-variants.{Movements}
 use Rattle.model.specs.declared.Refusal.{Refusal}
 use Rattle.model.specs.Nets.{PNet, modeNo}
 use Rattle.model.specs.Markings.{Marking}
-use Rattle.model.specs.Firing.{modeRefusal, fired, absent}
+use Rattle.model.specs.Firing.{modeRefusal, fired}
 use Rattle.model.specs.Runs.{Outcome, runFrom, run}
 use Rattle.model.proofs.Markings.{marking-kept}
-use Rattle.model.proofs.First.{left-none, only-if-none}
-use Rattle.opened.specs.declared.shape.NetShape.{NetShape}
-use Rattle.opened.specs.Shape.{Open}
-use Rattle.sheets.specs.Decoded.{netOf}
 use Rattle.sheets.specs.Listed.{modeAt, modesFrom}
 use Rattle.sheets.proofs.Lists.{modes-from-length, modes-from-at}
 use Rattle.opened.specs.declared.starts.Segment.{Segment}
 use Rattle.progress.specs.declared.Progress.{Progress}
 use Rattle.leaving.specs.Leaving.{written, Makes}
-use Rattle.firing.specs.AtMode.{refusalOf}
-use Rattle.leaving.proofs.Leaving.{makes-not, makes-after}
-use Rattle.firing.proofs.ByMode.{mode-refusal}
-use Rattle.progress.specs.Progress.{Tries, Accepts}
-use Rattle.progress.proofs.Visiting.{tries-own, visitedTo, visits-more, visits-stop, visits-end}
+use Rattle.numbers.specs.Movement.{Tries}
+use Rattle.numbers.proofs.Tried.{tries-own}
+use Rattle.progress.specs.Progress.{Accepts}
+use Rattle.progress.proofs.Visiting.{visitedTo, visits-more, visits-stop, visits-end}
 
 abbrev ended : ℕ → List ℕ → Outcome
 ended k m = record { accepted = k; refusal = none; marking = m }
@@ -51,19 +45,6 @@ module _ (net : PNet) (ts : List Mode) (k : ℕ) (m : List ℕ) where
     run-stops : (r : Refusal) → modeRefusal Movements net t m ≡ some r → runFrom net k (drop k ts) m ≡ stopped k r m
     unfolding runFrom
     run-stops r e = rw (drop-cons ts k (modeNo 0) h, q, e)
-
--- a movement whose mode is not there is not made; one whose mode is there is made where none of 11 to 14 is found
-module _ {s : List ℕ} {net : NetShape} (o : Open s net) (t : Mode) {m new : List ℕ} where
-  pub absent-makes : net .modes ≤ t .0 → Makes (modeRefusal Movements (netOf s) t m) new m false m
-  absent-makes h =
-      rw (← mode-refusal o)
-      (makes-not _ (λ e. let l = leb-false (net .modes) (t .0) (only-if-none _ _ (left-none (absent Movements (net .modes) t) _ e)) in absurd (omega arith)))
-
-  pub there-makes : {made : Bool} {left : List ℕ} → t .0 < net .modes → Makes (refusalOf Movements (netOf s) m t) new m made left
-      → Makes (modeRefusal Movements (netOf s) t m) new m made left
-  there-makes h makes =
-      let there : absent Movements (net .modes) t ≡ none = simp (lt-leb (net .modes) (t .0) h) in
-      rw (← mode-refusal o) (makes-after (absent Movements (net .modes) t) _ there makes)
 
 -- k of the count movements that stand in s from `start` on have led from m₀ to m, and visited v arcs
 pub record Along (net : PNet) (s : List ℕ) (start count : ℕ) (m₀ : List ℕ) (k v : ℕ) (m : List ℕ) : Type 0 where

@@ -1,16 +1,15 @@
 -- How far a list of movements comes: what the functions of this crate speak of.
 -- A reader of the promises may skip this file.
-use Prim.Native.Nat.{ℕ, _≤_, _<_}
+use Prim.Native.Nat.{ℕ}
 use mathlib.Core.Path.{_≡_}
 use mathlib.Core.List.{List}
 use Rattle.model.specs.declared.Mode.{Mode}
-use Rattle.model.specs.Nets.{PNet, modes}
+use Rattle.model.specs.Nets.{PNet}
 use Rattle.model.specs.Runs.{run}
-use Rattle.model.specs.Visits.{modeArcs, visited}
+use Rattle.model.specs.Visits.{visited}
 use Rattle.opened.specs.declared.shape.NetShape.{NetShape}
 use Rattle.sheets.specs.Decoded.{netOf}
-use Rattle.opened.specs.declared.starts.Segment.{Segment}
-use Rattle.opened.specs.Starts.{StartsAre, ModeArcs}
+use Rattle.opened.specs.Starts.{StartsAre}
 use Rattle.numbers.specs.Numbers.{Numbered}
 use Rattle.progress.specs.declared.Progress.{Progress}
 
@@ -18,13 +17,6 @@ use Rattle.progress.specs.declared.Progress.{Progress}
 pub record Tables (s : List ℕ) (net : NetShape) (starts numbers : List ℕ) : Type 0 where
   pub numbered : Numbered s net numbers
   pub startsAre : StartsAre (netOf s .arcs) starts
-
--- what a movement of mode t visits: as many arcs as the mode counts, and where it is there they are the mode's
-pub record Tries (net : PNet) (t : Mode) (arcs : Segment) : Type 0 where
-  pub mode : arcs .mode ≡ t
-  pub visits : arcs .count ≡ modeArcs net t
-  pub few : arcs .count ≤ 2048
-  pub segment : t .0 < modes net → ModeArcs (net .arcs) t (arcs .start) (arcs .count)
 
 -- a run of the movements ts from m: how many it accepts, how many arcs it visits, and what it leaves in the marking
 pub record Accepts (net : PNet) (ts : List Mode) (m : List ℕ) (done : Progress) (left : List ℕ) : Type 0 where

@@ -14,7 +14,7 @@ use Rattle.model.specs.Runs.{run}
 use Rattle.model.proofs.Runs.{runs}
 use Rattle.sheets.specs.Decoded.{netOf}
 use Rattle.damaged.specs.Damaged.{modesIn}
-use Rattle.damaged.proofs.Considered.{modes-length}
+use Rattle.salvage.proofs.Considered.{modes-length}
 use Rattle.salvage.specs.declared.Report.{Report}
 use Rattle.salvage.specs.declared.Salvaged.{Salvaged}
 use Rattle.salvage.specs.declared.Salvaged.the-variants.{Written}

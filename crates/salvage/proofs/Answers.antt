@@ -25,7 +25,7 @@ use Rattle.run.specs.declared.Ran.{Ran}
 use Rattle.run.specs.Calls.{ranOf}
 use Rattle.run.specs.Parts.{Reports}
 use Rattle.damaged.specs.Damaged.{damagedRefusal, considered, modesIn}
-use Rattle.damaged.proofs.Considered.{modes-are, modes-length, first-long}
+use Rattle.salvage.proofs.Considered.{modes-are, modes-length, first-long}
 use Rattle.salvage.specs.declared.Report.{Report}
 use Rattle.salvage.specs.declared.Salvaged.{Salvaged}
 use Rattle.salvage.specs.declared.Salvaged.the-variants.{Written, Refused}

@@ -1,3 +1,4 @@
+pub mod Considered
 pub mod MovementSheets
 pub mod Answers
 pub mod Promises

@@ -27,7 +27,7 @@ use Rattle.written.proofs.BigEndian.{length16, length32, every-byte, read16, re
 use Rattle.written.proofs.Sections.{table-is, section-length, section-each, section-stands}
 use Rattle.written.proofs.Puts.{part-is}
 use Rattle.damaged.specs.Damaged.{considered, modesIn}
-use Rattle.damaged.proofs.Considered.{first-long, first-modes}
+use Rattle.salvage.proofs.Considered.{first-long, first-modes}
 use Rattle.salvage.specs.MovementSheet.{listedBytes, movementSheet}
 use Rattle.salvage.specs.Salvaged.{sheetOfFirst}
 use Rattle.salvage.specs.Promises.{ListWrittenThenRead, ListReadThenWritten}

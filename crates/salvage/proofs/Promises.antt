@@ -32,7 +32,7 @@ use Rattle.fire.proofs.Promises.{start-marks}
 use Rattle.run.specs.Calls.{beforeRun, runOf}
 use Rattle.run.proofs.Promises.{runs-leave}
 use Rattle.damaged.specs.Damaged.{damagedRefusal, considered, modesIn}
-use Rattle.damaged.proofs.Considered.{modes-are, modes-length, first-modes, most-considered}
+use Rattle.salvage.proofs.Considered.{modes-are, modes-length, first-modes, most-considered}
 use Rattle.salvage.specs.declared.Report.{Report}
 use Rattle.salvage.specs.declared.Salvaged.the-variants.{Written}
 use Rattle.salvage.specs.MovementSheet.{movementSheet}

@@ -1,11 +1,12 @@
 // Salvage of a cut movement sheet (document 02, P11): a fresh sheet with the longest run of leading modes that the net accepts from its first marking.
+mod damage;
 mod fresh;
 mod trial;
 
+use crate::damage::read_damaged;
 use crate::fresh::put_fresh;
 use crate::trial::run_considered;
 use damaged::count_considered;
-use damaged::read_damaged;
 use model::Answer;
 use model::Fault;
 use model::Refusal;

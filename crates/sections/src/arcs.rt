@@ -1,8 +1,8 @@
 // The arcs of the complement, put: mode by mode, the originals and then those on complement pairs, blanks left out.
-use halves::bounded::complement_pair;
+use crate::bounded::complement_pair;
+use crate::entry::is_blank;
+use crate::entry::original_arc;
 use halves::entry::complement_arc;
-use halves::entry::is_blank;
-use halves::entry::original_arc;
 use halves::half::Half;
 use model::Arc;
 use model::Mode;

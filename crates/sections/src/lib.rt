@@ -1,4 +1,7 @@
-// The sections of the complement's sheet that go by place and by mode: its places, its modes, its arcs.
+// The sections of the complement's sheet: its places, its modes, its pairs, its arcs.
 pub mod arcs;
+pub mod bounded;
+mod entry;
+pub mod pairs;
 pub mod places;
 pub mod survey;

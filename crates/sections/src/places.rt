@@ -1,5 +1,5 @@
 // The places of the complement, and the modes of its transitions, which are the net's.
-use halves::bounded::bounded_between;
+use crate::bounded::bounded_between;
 use halves::half::Half;
 use opened::shape::NetShape;
 use opened::shape::colours_of;

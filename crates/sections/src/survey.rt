@@ -1,7 +1,7 @@
 // Before anything is written: one pass over the arcs for the dead modes and for 15; how many arcs the complement has is counted only where it is asked.
 use crate::arcs::half_arc;
+use crate::entry::is_blank;
 use dead::kills;
-use halves::entry::is_blank;
 use halves::half::Half;
 use model::Arc;
 use model::Mode;

@@ -2,7 +2,6 @@
 use Prim.Native.Nat.{ℕ}
 use mathlib.Core.List.{List}
 use lib.IntN.{ℤ}
-use Rattle.model.specs.declared.Arc.{Arc}
 use Rattle.model.specs.declared.Mode.{Mode}
 use Rattle.model.specs.declared.Version.{Version}
 use Rattle.model.specs.declared.Version.the-variants.{One, Two}
@@ -14,6 +13,7 @@ use Rattle.heads.specs.Version.{versionOf}
 use Rattle.heads.specs.Rule.{ruleOf}
 use Rattle.lists.specs.Weights.{signed}
 use Rattle.fields.specs.Numbers.{bound}
+pub use Rattle.fields.specs.Arcs.{netArc}
 
 -- the arc of mode t whose 14 bytes stand at `tail`
 unfoldable pub netArcIn : List ℕ → ℕ → ℕ → NetArc
@@ -55,8 +55,3 @@ weightsOf s = table (weightCount s) (λ p. signed (u32At s (weightAt p)))
 
 unfoldable pub movementsOf : List ℕ → List Mode
 movementsOf s = table (movementCount s) (λ k. modeNo (u16At s (movementAt k)))
-
--- the arc of a net that an arc as a sheet writes it stands for
-abbrev pub netArc : Arc → NetArc
-netArc a =
-    record { mode = a .mode; pair = a .pair; entry = record { pre = a .pre; post = a .post; inhibitor = bound (a .inhibitor) } }

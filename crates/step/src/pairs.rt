@@ -1,5 +1,6 @@
 // A step at a marking, pair by pair: which of 11 to 14 stops its sums, and the marking after.
 use firing::arcs::room_at;
+use firing::pair::stopped_by;
 use heads::head::refused;
 use model::Answer;
 use model::Arc;
@@ -12,7 +13,6 @@ use opened::shape::NetShape;
 use rule::AtPair;
 use rule::is_stopped;
 use rule::moved;
-use rule::stopped_by;
 ghost use mathlib.Core.Path.{_≡_};
 ghost use Prim.Native.Nat.{_<_};
 ghost use Rattle.model.specs.Refusals.{answer};

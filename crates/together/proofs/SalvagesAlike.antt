@@ -19,7 +19,7 @@ use Rattle.run.specs.Calls.{runOf}
 use Rattle.run.specs.Contracts.{RunAllows}
 use Rattle.run.proofs.Promises.{runs-leave}
 use Rattle.damaged.specs.Damaged.{considered, modesIn}
-use Rattle.damaged.proofs.Considered.{modes-length}
+use Rattle.salvage.proofs.Considered.{modes-length}
 use Rattle.salvage.specs.declared.Report.{Report}
 use Rattle.salvage.specs.declared.Salvaged.{Salvaged}
 use Rattle.salvage.specs.Salvaged.{told, salvaged, sheetOfFirst, trial, kept, report, freshSheet, salvageRefusal}

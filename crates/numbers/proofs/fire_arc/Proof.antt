@@ -9,7 +9,7 @@ use Rattle.model.specs.Numbers.{limit}
 use Rattle.model.specs.Nets.{NetArc, count}
 use Rattle.sheets.specs.Decoded.{netOf}
 use Rattle.opened.proofs.Shapes.{sizes}
-use Rattle.numbers.proofs.OnePass.{passes-not, passes-enough, passes-so}
+use Rattle.onepass.proofs.OnePass.{passes-not, passes-enough, passes-so}
 use Rattle.numbers.proofs.fire_arc.Statement.{statement}
 use Rattle.numbers.proofs.fire_arc.Tie as tie
 

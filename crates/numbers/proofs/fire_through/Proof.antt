@@ -5,8 +5,8 @@ use Prim.Native.Nat.{_≤_, _-_}
 use mathlib.Core.Path.{_∙_, ap}
 use lib.ListN.{length}
 use Rattle.sheets.specs.Decoded.{netOf}
-use Rattle.numbers.specs.OnePass.{PassedAndWritten}
-use Rattle.numbers.proofs.OnePass.{to-length, to-writable, wrote-none, wrote-more, through-stops, through-ends}
+use Rattle.onepass.specs.OnePass.{PassedAndWritten}
+use Rattle.onepass.proofs.OnePass.{to-length, to-writable, wrote-none, wrote-more, through-stops, through-ends}
 use Rattle.numbers.proofs.fire_through.Statement.{statement}
 use Rattle.numbers.proofs.fire_through.Tie as tie
 

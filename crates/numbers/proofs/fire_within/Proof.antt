@@ -1,6 +1,6 @@
 -- An arc does not let the mode pass, and the marking found is there again; or each does, and the mode has fired.
 use borrow.Author.Needs.{needs}
-use Rattle.numbers.proofs.OnePass.{fires-through, fires-back}
+use Rattle.onepass.proofs.OnePass.{fires-through, fires-back}
 use Rattle.numbers.proofs.fire_within.Statement.{statement}
 use Rattle.numbers.proofs.fire_within.Tie as tie
 

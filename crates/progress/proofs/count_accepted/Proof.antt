@@ -5,7 +5,7 @@ use Prim.Native.Nat.{_≤_, _-_}
 use native.Mathlib.Omega.{arith}
 use mathlib.Core.Path.{sym, _∙_}
 use Rattle.sheets.specs.Decoded.{netOf}
-use Rattle.progress.proofs.Visiting.{tries-own}
+use Rattle.numbers.proofs.Tried.{tries-own}
 use Rattle.progress.proofs.Along.{Along, along-none, along-more, along-stops, along-ends}
 use Rattle.progress.proofs.count_accepted.Statement.{statement}
 use Rattle.progress.proofs.count_accepted.Tie as tie

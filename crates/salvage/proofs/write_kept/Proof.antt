@@ -3,7 +3,7 @@ use borrow.Author.Needs.{needs}
 use Prim.Native.Nat.{_≤_}
 use native.Mathlib.Omega.{arith}
 use Rattle.damaged.specs.Damaged.{considered}
-use Rattle.damaged.proofs.Considered.{most-considered}
+use Rattle.salvage.proofs.Considered.{most-considered}
 use Rattle.salvage.specs.Salvaged.{sheetOfFirst, reportOf}
 use Rattle.salvage.proofs.Answers.{first-length, short, roomy, refused, written}
 use Rattle.salvage.proofs.write_kept.Statement.{statement}

@@ -3,7 +3,7 @@ use borrow.Author.Needs.{needs}
 use mathlib.Core.Path.{sym}
 use native.Mathlib.Omega.{arith}
 use Rattle.written.proofs.Puts.{put-length, room-as, puts-as, room-next, puts-both, long-fits}
-use Rattle.damaged.proofs.Considered.{most-considered, modes-there}
+use Rattle.salvage.proofs.Considered.{most-considered, modes-there}
 use Rattle.salvage.proofs.MovementSheets.{part-kept, first-parts}
 use Rattle.salvage.proofs.fresh.put_fresh.Statement.{statement}
 use Rattle.salvage.proofs.fresh.put_fresh.Tie as tie

@@ -2,7 +2,7 @@
 use borrow.Author.Needs.{needs}
 use native.Mathlib.Omega.{arith}
 use Rattle.opened.proofs.Shapes.{sizes}
-use Rattle.damaged.proofs.Considered.{most-considered, modes-there}
+use Rattle.salvage.proofs.Considered.{most-considered, modes-there}
 use Rattle.salvage.proofs.Answers.{tells}
 use Rattle.salvage.proofs.trial.run_from_first.Statement.{statement}
 use Rattle.salvage.proofs.trial.run_from_first.Tie as tie
