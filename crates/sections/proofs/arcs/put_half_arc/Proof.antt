@@ -10,6 +10,11 @@ use Rattle.sections.proofs.Kept.{left-out, put-whole}
 use Rattle.sections.proofs.arcs.put_half_arc.Statement.{statement}
 use Rattle.sections.proofs.arcs.put_half_arc.Tie as tie
 
+half-arc-requires : tie.Need-half-arc-requires
+half-arc-requires c κs =
+    let pre = c .before .before .pre in
+    (pre .0, (pre .1 .0, (pre .1 .1 .0, pre .1 .1 .1 .0)))
+
 returns : tie.Need-returns
 returns c = puts-as (left-out (c .before .before .half-arc .ensures) (c .before .is-blank .ensures) _ (c .if1 .taken)) nothing
 
@@ -44,7 +49,7 @@ pub put-half-arc-spec : {M : Type 1} → statement M
 put-half-arc-spec =
     tie.close
     (tie.spec
-    (λ c κs. search needs)
+    half-arc-requires
     (λ c κs. search needs)
     returns
     (λ c. search needs)

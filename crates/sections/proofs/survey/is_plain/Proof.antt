@@ -1,10 +1,8 @@
 -- Within both bounds, and 15 does not stop it.
 use borrow.Author.Needs.{needs}
 use borrow.Author.Tests.{not-true}
-use Prim.Native.Nat.{ℕ}
-use mathlib.Core.Path.{_≡_, sym, _∙_, ap}
-use mathlib.Core.Bool.{not, _&&_}
-use native.Mathlib.Omega.{arith}
+use mathlib.Core.Path.{sym, _∙_, ap}
+use mathlib.Core.Bool.{not, _&&_, false≢true}
 use Rattle.model.specs.Complement.{finite}
 use Rattle.fields.specs.Numbers.{bound}
 use Rattle.sections.proofs.Plain.{bounds-spare, none-where-finite}
@@ -29,9 +27,9 @@ pub is-plain-spec : {M : Type 1} → statement M
 is-plain-spec =
     tie.close
     (tie.spec
-    (λ c e. let z : _≡_ {A = ℕ} 0 1 = cc in absurd (omega arith))
+    (λ c e. absurd (false≢true e))
     (λ c. search needs)
-    (λ c e. let z : _≡_ {A = ℕ} 0 1 = cc in absurd (omega arith))
+    (λ c e. absurd (false≢true e))
     (λ c κs. search needs)
     returns-3
     (λ c κs. search needs)
