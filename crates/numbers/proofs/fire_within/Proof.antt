@@ -4,6 +4,12 @@ use Rattle.numbers.proofs.OnePass.{fires-through, fires-back}
 use Rattle.numbers.proofs.fire_within.Statement.{statement}
 use Rattle.numbers.proofs.fire_within.Tie as tie
 
+take-back-requires : tie.Need-take-back-requires
+take-back-requires c κs =
+    let pass = c .before .before .before .before .before in
+    let pre = pass .before .before .before .before .before .pre in
+    (pre .0 .opened, (pre .1 .own, (_, pass .fire-through .ensures .wrote)))
+
 returns : tie.Need-returns
 returns c = λ t own.
     let back = c .before .before in
@@ -22,7 +28,7 @@ fire-within-spec =
     tie.close
     (tie.spec
     (λ c κs. search needs)
-    (λ c κs. search needs)
+    take-back-requires
     (λ c. search needs)
     returns
     (λ c. search needs)
