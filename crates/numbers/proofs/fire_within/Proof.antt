@@ -1,5 +1,5 @@
 -- An arc does not let the mode pass, and the marking found is there again; or each does, and the mode has fired.
-use borrow.Author.Needs.{needs}
+use native.Mathlib.Omega.{arith}
 use Rattle.numbers.proofs.OnePass.{fires-through, fires-back}
 use Rattle.numbers.proofs.fire_within.Statement.{statement}
 use Rattle.numbers.proofs.fire_within.Tie as tie
@@ -27,9 +27,9 @@ pub fire-within-spec : {M : Type 1} → statement M
 fire-within-spec =
     tie.close
     (tie.spec
-    (λ c κs. search needs)
+    (λ c κs. search arith)
     take-back-requires
-    (λ c. search needs)
+    (λ c. search arith)
     returns
-    (λ c. search needs)
+    (λ c. search arith)
     returns-2)

@@ -1,5 +1,4 @@
 -- All four tests; below Pre; or tested by the arc's number.
-use borrow.Author.Needs.{needs}
 use native.Mathlib.Omega.{arith}
 use Rattle.sheets.specs.Decoded.{netOf}
 use Rattle.opened.proofs.Shapes.{sizes}
@@ -46,10 +45,10 @@ lets-pass-spec =
     tie.close
     (tie.spec
     room-at-requires
-    (λ c κs. search needs)
+    (λ c κs. search arith)
     returns
     returns-2
-    (λ c κs. search needs)
+    (λ c κs. search arith)
     mul-result
     shared-slice-read-result
     returns-3)

@@ -51,8 +51,8 @@ write-numbers-spec =
     (λ c. omega (arith, sizes (c .before .before .before .before .pre .0) .modesWithin))
     arcs-of-requires
     write-mode-requires
-    (λ c. search needs)
-    (λ c. search needs)
+    (λ c. search arith)
+    (λ c. search arith)
     loop-again
     same-length
     returns)

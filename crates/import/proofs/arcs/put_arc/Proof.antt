@@ -1,7 +1,7 @@
 -- The fields of an arc, one after the other.
-use borrow.Author.Needs.{needs}
 use mathlib.Core.Path.{_∙_}
 use mathlib.Core.List.{flatten}
+use native.Mathlib.Omega.{arith}
 use Rattle.written.specs.Written.{modeBytes, tailBytes, arcBytes}
 use Rattle.written.proofs.Puts.{nothing, puts}
 use Rattle.import.proofs.arcs.put_arc.Statement.{statement}
@@ -30,12 +30,12 @@ pub put-arc-spec : {M : Type 1} → statement M
 put-arc-spec =
     tie.close
     (tie.spec
-    (λ c. search needs)
-    (λ c κs. search needs)
-    (λ c. search needs)
-    (λ c κs. search needs)
-    (λ c κs. search needs)
-    (λ c κs. search needs)
-    (λ c κs. search needs)
+    (λ c. search arith)
+    (λ c κs. search arith)
+    (λ c. search arith)
+    (λ c κs. search arith)
+    (λ c κs. search arith)
+    (λ c κs. search arith)
+    (λ c κs. search arith)
     same-length
     returns)

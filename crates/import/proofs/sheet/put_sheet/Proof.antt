@@ -1,5 +1,4 @@
 -- The parts of the sheet in turn.
-use borrow.Author.Needs.{needs}
 use mathlib.Core.Path.{_∙_}
 use native.Mathlib.Omega.{arith}
 use Rattle.import.proofs.SheetRoom.{head-room, counts-room, pairs-room, total-room, arcs-room, sheet-put}
@@ -51,8 +50,8 @@ put-sheet-spec =
     tie.close
     (tie.spec
     put-head-requires
-    (λ c. search needs)
-    (λ c. search needs)
+    (λ c. search arith)
+    (λ c. search arith)
     put-counts-requires
     put-places-requires
     (λ c. record { fits = omega (arith, c .struct-known3 .given) })

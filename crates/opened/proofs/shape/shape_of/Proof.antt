@@ -1,5 +1,4 @@
 -- The counts of an accepted sheet hold, and its arcs are counted by its version.
-use borrow.Author.Needs.{needs}
 use mathlib.Core.Path.{sym, _∙_}
 use native.Mathlib.Omega.{arith}
 use Rattle.heads.proofs.Heads.{fields-at-most}
@@ -61,7 +60,7 @@ shape-of-spec =
     rule-of-requires
     (λ c κs. headed _ (c .before .before .before .pre))
     count-at-requires
-    (λ c. search needs)
+    (λ c. search arith)
     count-at-requires-2
     (λ c κs. counts-hold _ (c .before .before .before .before .before .before .pre))
     (λ c κs. counts-hold _ (c .before .before .before .before .before .before .before .pre))

@@ -1,6 +1,5 @@
 -- A digit with which some number of the range goes on.
 use native.Mathlib.Omega.{arith}
-use borrow.Author.Needs.{needs}
 use Rattle.parts.proofs.Threes.{digit-of}
 use Rattle.parts.proofs.three.read_digit.Statement.{statement}
 use Rattle.parts.proofs.three.read_digit.Tie as tie
@@ -14,14 +13,14 @@ pub read-digit-spec : {M : Type 1} → statement M
 read-digit-spec =
     tie.close
     (tie.spec
-    (λ c. search needs)
-    (λ c. search needs)
-    (λ c κs. search needs)
-    (λ c. search needs)
-    (λ c. search needs)
-    (λ c. search needs)
-    (λ c. search needs)
-    (λ c. search needs)
-    (λ c. search needs)
-    (λ c. search needs)
+    (λ c. search arith)
+    (λ c. search arith)
+    (λ c κs. search arith)
+    (λ c. search arith)
+    (λ c. search arith)
+    (λ c. search arith)
+    (λ c. search arith)
+    (λ c. search arith)
+    (λ c. search arith)
+    (λ c. search arith)
     returns-6)

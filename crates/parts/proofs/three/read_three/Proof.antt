@@ -3,7 +3,6 @@ use Prim.Native.Nat.{ℕ, _+_, _-_, _≤_, _<_}
 use mathlib.Core.Path.{_≡_}
 use native.Mathlib.Omega.{arith}
 use Rattle.parts.proofs.Threes.{stops-1, stops-2, third, digit-is, digit-not, reads-stop}
-use borrow.Author.Needs.{needs}
 use Rattle.parts.proofs.three.read_three.Statement.{statement}
 use Rattle.parts.proofs.three.read_three.Tie as tie
 
@@ -49,14 +48,14 @@ pub read-three-spec : {M : Type 1} → statement M
 read-three-spec =
     tie.close
     (tie.spec
-    (λ c. search needs)
-    (λ c κs. search needs)
-    (λ c. search needs)
-    (λ c. search needs)
+    (λ c. search arith)
+    (λ c κs. search arith)
+    (λ c. search arith)
+    (λ c. search arith)
     returns
     read-digit-requires-2
-    (λ c. search needs)
-    (λ c. search needs)
+    (λ c. search arith)
+    (λ c. search arith)
     returns-2
     read-digit-requires-3
     returns-3)

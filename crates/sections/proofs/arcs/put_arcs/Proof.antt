@@ -51,13 +51,13 @@ put-arcs-spec =
     (tie.spec
     Inv-loop
     μ-loop
-    (λ c. (search needs, puts-none _))
+    (λ c. (search arith, puts-none _))
     (λ c. omega (arith, sizes (c .before .before .before .before .pre .0) .modesWithin))
     (λ c. omega (arith, sizes (c .before .before .before .before .before .pre .0) .modesWithin))
     arcs-of-requires
     put-mode-requires
     (λ c. omega (arith, sizes (c .before .before .before .before .before .before .before .before .before .before .pre .0) .modesWithin))
-    (λ c. search needs)
+    (λ c. search arith)
     loop-again
     (λ c. c .before .loop .inv .1 .kept)
     returns)

@@ -1,7 +1,7 @@
 -- A blank arc is left out; another is put as its half asks.
-use borrow.Author.Needs.{needs}
 use Prim.Native.Nat.{_+_}
 use mathlib.Core.Path.{sym, _∙_, ap}
+use native.Mathlib.Omega.{arith}
 use Rattle.sheets.specs.Decoded.{netOf}
 use Rattle.written.specs.Written.{arcBytes}
 use Rattle.written.proofs.Puts.{nothing, put-length, room-as, puts-as, arc-fits}
@@ -50,13 +50,13 @@ put-half-arc-spec =
     tie.close
     (tie.spec
     half-arc-requires
-    (λ c κs. search needs)
+    (λ c κs. search arith)
     returns
-    (λ c. search needs)
+    (λ c. search arith)
     put-original-requires
-    (λ c. search needs)
+    (λ c. search arith)
     put-new-requires
-    (λ c. search needs)
+    (λ c. search arith)
     returns-2
-    (λ c. search needs)
+    (λ c. search arith)
     returns-3)

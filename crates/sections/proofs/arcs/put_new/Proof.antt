@@ -1,5 +1,4 @@
 -- The three numbers, then mode and pair before them; the pair is the one that was worked out.
-use borrow.Author.Needs.{needs}
 use mathlib.Core.Path.{ap}
 use mathlib.Core.List.{_++_, flatten}
 use native.Mathlib.Omega.{arith}
@@ -55,14 +54,14 @@ pub put-new-spec : {M : Type 1} → statement M
 put-new-spec =
     tie.close
     (tie.spec
-    (λ c κs. search needs)
-    (λ c. search needs)
-    (λ c. search needs)
-    (λ c κs. search needs)
-    (λ c κs. search needs)
-    (λ c κs. search needs)
+    (λ c κs. search arith)
+    (λ c. search arith)
+    (λ c. search arith)
+    (λ c κs. search arith)
+    (λ c κs. search arith)
+    (λ c κs. search arith)
     complement-pair-requires
     put32-requires-3
     put-names-requires
-    (λ c. search needs)
+    (λ c. search arith)
     returns)

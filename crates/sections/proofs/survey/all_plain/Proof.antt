@@ -48,12 +48,12 @@ all-plain-spec =
     (tie.spec
     Inv-loop
     μ-loop
-    (λ c. (search needs, λ k h l. absurd (omega arith), every-none _))
-    (λ c κs. search needs)
-    (λ c κs. search needs)
-    (λ c κs. search needs)
+    (λ c. (search arith, λ k h l. absurd (omega arith), every-none _))
+    (λ c κs. search arith)
+    (λ c κs. search arith)
+    (λ c κs. search arith)
     (λ c e. absurd (false≢true e))
-    (λ c. search needs)
-    (λ c. search needs)
+    (λ c. search arith)
+    (λ c. search arith)
     loop-again
     returns-2)

@@ -69,13 +69,13 @@ count-arcs-spec =
     (tie.spec
     Inv-loop
     μ-loop
-    (λ c. (search needs, count-none _))
+    (λ c. (search arith, count-none _))
     (λ c. omega (arith, sizes (c .before .before .before .pre .0) .modesWithin))
     (λ c. omega (arith, sizes (c .before .before .before .before .pre .0) .modesWithin))
     arcs-of-requires
     count-mode-requires
     add-count
     (λ c. omega (arith, c .before .before .before .loop-test .taken, sizes (c .before .before .before .before .before .before .pre .0) .modesWithin))
-    (λ c. search needs)
+    (λ c. search arith)
     loop-again
     returns)

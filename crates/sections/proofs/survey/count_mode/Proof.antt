@@ -55,10 +55,10 @@ count-mode-spec =
     (tie.spec
     Inv-loop
     μ-loop
-    (λ c. (search needs, count-none _, search needs))
+    (λ c. (search arith, count-none _, search arith))
     count-halves-requires
     add-count
-    (λ c. search needs)
-    (λ c. search needs)
+    (λ c. search arith)
+    (λ c. search arith)
     loop-again
     returns)

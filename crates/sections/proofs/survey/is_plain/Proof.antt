@@ -1,8 +1,8 @@
 -- Within both bounds, and 15 does not stop it.
-use borrow.Author.Needs.{needs}
 use borrow.Author.Tests.{not-true}
 use mathlib.Core.Path.{sym, _∙_, ap}
 use mathlib.Core.Bool.{not, _&&_, false≢true}
+use native.Mathlib.Omega.{arith}
 use Rattle.model.specs.Complement.{finite}
 use Rattle.fields.specs.Numbers.{bound}
 use Rattle.sections.proofs.Plain.{bounds-spare, none-where-finite}
@@ -28,9 +28,9 @@ is-plain-spec =
     tie.close
     (tie.spec
     (λ c e. absurd (false≢true e))
-    (λ c. search needs)
+    (λ c. search arith)
     (λ c e. absurd (false≢true e))
-    (λ c κs. search needs)
+    (λ c κs. search arith)
     returns-3
-    (λ c κs. search needs)
+    (λ c κs. search arith)
     returns-4)
