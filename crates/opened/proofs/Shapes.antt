@@ -7,11 +7,11 @@ use native.Mathlib.Omega.{arith}
 use Rattle.model.specs.declared.Arc.{Arc}
 use Rattle.model.specs.Numbers.{limit}
 use Rattle.model.specs.declared.Version.the-variants.{Two}
-use Rattle.model.specs.Nets.{pairs, modes, K, count, arcNo}
+use Rattle.model.specs.Nets.{pairs, modes, K, count, arcNo, modeNo, pairNo}
 use Rattle.model.specs.WellFormed.{ArcOf, Counted, WellFormed}
 use Rattle.opened.specs.declared.shape.NetShape.{NetShape}
 use Rattle.heads.specs.Bytes.{u16At, u32At}
-use Rattle.heads.specs.Layout.{coloursAt, modesAt, counts, placeCount, transitionCount, pairCount, modeCount, pairsAt, arcCountAt, arcsBefore, countAt, pairAt, tailSize, tailPairAt, capacityAt, startAt}
+use Rattle.heads.specs.Layout.{coloursAt, modesAt, counts, placeCount, transitionCount, pairCount, modeCount, pairsAt, arcCountAt, arcsBefore, countAt, pairAt, tailSize, tailPairAt, tailPreAt, tailPostAt, tailInhibitorAt, capacityAt, startAt}
 use Rattle.heads.specs.Version.{versionOf}
 use Rattle.fields.specs.Numbers.{bound}
 use Rattle.sheets.specs.Decoded.{netArcIn, netOf, netArc}
@@ -47,6 +47,22 @@ pub record Sizes (s : List ℕ) (net : NetShape) : Type 0 where
   pub modesWithin : net .modes ≤ 256
   pub arcsWithin : net .arcs ≤ 2048
   pub wellFormed : WellFormed (netOf s)
+
+pub shape-is : {s : List ℕ} {net : NetShape} → Shaped s net → net ≡ shapeOf s
+unfolding shapeOf
+shape-is z =
+    λ i.
+    record {
+      version = z .version i;
+      rule = z .rule i;
+      places = z .places i;
+      transitions = z .transitions i;
+      pairs = z .pairs i;
+      modes = z .modes i;
+      arcs = z .arcs i;
+      «pairs_at» = z .pairsAt i;
+      «arcs_at» = z .arcsAt i;
+    }
 
 -- one of a net's counts, from where it stands
 count-read : (s : List ℕ) (start n : ℕ) {xs : List ℕ} → xs ≡ counts s start n → Counted xs → (i r : ℕ) → i < n → r ≡ u16At s (countAt start i)
@@ -141,9 +157,14 @@ module _ {s : List ℕ} {net : NetShape} (o : Open s net) where
         let z = sizes in
         omega (arith, ap (λ a. a .pair .0) is)
 
-    pub arc-read : (a : Arc) → netArc a ≡ netArcIn s t (tailAt s t k) → ArcIs s net k a
-    arc-read a e =
-        let is : netArc a ≡ arcNo (netOf s .arcs) k = e ∙ tail-arc s (o .accepted) t k h own in
+    -- each field read where the arc's 14 bytes stand
+    pub arc-read : {a : Arc} {at : ℕ} → at ≡ tailAt s t k → a .mode .0 ≡ t → a .pair .0 ≡ u16At s (tailPairAt at)
+        → a .pre ≡ u32At s (tailPreAt at) → a .post ≡ u32At s (tailPostAt at) → a .inhibitor ≡ u32At s (tailInhibitorAt at) → ArcIs s net k a
+    unfolding netArcIn
+    arc-read {a} {at} stands mode pair pre post inhibitor =
+        let read : netArc a ≡ netArcIn s t at =
+        λ i. record { mode = modeNo (mode i); pair = pairNo (pair i); entry = record { pre = pre i; post = post i; inhibitor = bound (inhibitor i) } } in
+        let is : netArc a ≡ arcNo (netOf s .arcs) k = read ∙ ap (netArcIn s t) stands ∙ tail-arc s (o .accepted) t k h own in
         let w : ArcOf (netOf s) (netArc a) = rw is (sizes .wellFormed .eachArc k h) in
         let z = sizes in
         record { is = is; mode = omega arith; pair = omega arith; pre = w .pre; post = w .post; inhibitor = w .inhibitor }

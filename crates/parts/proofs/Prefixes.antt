@@ -141,6 +141,18 @@ module _ (low stop : ℕ) (s : List ℕ) (at : ℕ) (few : low ≤ 1) (non-digit
       above : {x : ℕ} → x ≢ digit 0 → digit 0 ≤ x → digit 0 < x
       above {x} d h = ⊎-elim (λ (e : digit 0 ≡ x). absurd (d (sym e))) (λ (l : digit 0 < x). l) (eq-or-lt-of-le h)
 
+  -- the digits of v and one more are those of w: v is its tenth
+  last-digit : (w v j : ℕ) → 10 ≤ w → length (decimal w) ≡ j + 1 → j ≡ length (decimal v) → ((i : ℕ) → i < j + 1 → getD s (at + i) 0 ≡ getD (decimal w) i 0)
+      → Agrees s at j (decimal v) → (w / 10 ≡ v) × (getD s (at + j) 0 ≡ digit (w % 10))
+  last-digit w v j ten whole e each got =
+      let is = tens w ten in
+      let long : length (decimal (w / 10)) ≡ j = omega (arith, ap length is, last-length (decimal (w / 10)) (digit (w % 10))) in
+      let front : decimal (w / 10) ≡ decimal v =
+      ext-getD 0 (decimal (w / 10)) (decimal v) (long ∙ e)
+      (λ i h.
+      sym (List·getD-append (decimal (w / 10)) (digit (w % 10) ∷ []) 0 i h) ∙ sym (ap (λ xs. getD xs i 0) is) ∙ sym (each i (omega arith)) ∙ got .each i (omega arith)) in
+      (sym (digits-of (w / 10)) ∙ ap (readsAfter 0) front ∙ digits-of v, each j (omega arith) ∙ ap (λ xs. getD xs j 0) is ∙ getD-at (decimal (w / 10)) (digit (w % 10)) [] 0 j long)
+
   -- a later byte, after the digits of v: the stop, or a digit that makes no more than the number
   later-byte : (m : Ranged low) (v j : ℕ) → j ≡ length (decimal v) → Agrees s at j (decimal v) → Agrees s at (j + 1) (numberText low stop m)
       → let b = getD s (at + j) 0 in (b ≡ stop) ⊎ ((48 ≤ b) × (b ≤ 57) × (0 < v) × (v * 10 + (b - 48) ≤ m .number))
@@ -161,17 +173,9 @@ module _ (low stop : ℕ) (s : List ℕ) (at : ℕ) (few : low ≤ 1) (non-digit
           let w = u .of in
           let some = begins v .0 in
           let ten : 10 ≤ w = ⊎-elim (λ (x : w < 10). absurd (omega (arith, u .long, ap length (small w x)))) (λ (x : 10 ≤ w). x) (below-or w 10) in
-          let is = tens w ten in
-          let long : length (decimal (w / 10)) ≡ j = omega (arith, u .long, ap length is, last-length (decimal (w / 10)) (digit (w % 10))) in
-          let each : (i : ℕ) → i < j + 1 → getD s (at + i) 0 ≡ getD (decimal w) i 0 =
-          λ i h. a .each i h ∙ text-digit m i (omega arith) ∙ u .same i h in
-          let front : decimal (w / 10) ≡ decimal v =
-          ext-getD 0 (decimal (w / 10)) (decimal v) (long ∙ e)
-          (λ i h.
-          sym (List·getD-append (decimal (w / 10)) (digit (w % 10) ∷ []) 0 i h) ∙ sym (ap (λ xs. getD xs i 0) is) ∙ sym (each i (omega arith)) ∙ got .each i (omega arith)) in
-          let tenth : w / 10 ≡ v = sym (digits-of (w / 10)) ∙ ap (readsAfter 0) front ∙ digits-of v in
-          let last : getD s (at + j) 0 ≡ digit (w % 10) =
-          each j (omega arith) ∙ ap (λ xs. getD xs j 0) is ∙ getD-at (decimal (w / 10)) (digit (w % 10)) [] 0 j long in
+          let is = last-digit w v j ten (u .long) e (λ i h. a .each i h ∙ text-digit m i (omega arith) ∙ u .same i h) got in
+          let tenth = is .0 in
+          let last = is .1 in
           inr (omega arith, omega arith, omega arith, omega (arith, u .most))
 
   first-goes : (v b : ℕ) → 48 ≤ b → b ≤ 57 → low ≤ b - 48 → nextValue low v false b ≡ b - 48

@@ -1,5 +1,5 @@
 -- Three digits of a number of low..most, one after the other.
-use Prim.Native.Nat.{ℕ, _+_, _*_, _/_, _%_, _≤_, _<_, max}
+use Prim.Native.Nat.{ℕ, _+_, _-_, _*_, _/_, _%_, _≤_, _<_, max}
 use mathlib.Core.Path.{_≡_, refl, sym, _∙_}
 use mathlib.Core.List.{List, [], _++_}
 use mathlib.Core.Logic.{⊎-elim}
@@ -136,3 +136,8 @@ module _ {s : List ℕ} {end least most value : ℕ} {r : Numbered} (d : DigitAl
 
 pub reads-stop : {ok : ℕ → Type 0} {text : ℕ → List ℕ} {s : List ℕ} {at p : ℕ} {r : Numbered} → r ≡ Stops p → L.Stops ok text s at p → Reads ok text s at r
 reads-stop e x = record { how = rw e x }
+
+pub digit-of : {s : List ℕ} {end least most value b : ℕ} → end < length s → b ≡ getD s end 0 → 48 ≤ b → b ≤ 57
+    → least ≤ value * 10 + (b - 48) → value * 10 + (b - 48) ≤ most → DigitOf s end least most value (value * 10 + (b - 48)) (end + 1)
+digit-of {b = b} inRun read low high above below =
+    record { digit = b - 48; inRun = inRun; ten = omega arith; byte = omega arith; makes = refl; above = above; below = below; place = refl }

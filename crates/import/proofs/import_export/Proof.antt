@@ -1,5 +1,4 @@
 -- 4, then 10, or the sheet.
-use borrow.Author.Needs.{needs}
 use mathlib.Core.Logic.{inl, inr}
 use native.Mathlib.Omega.{arith}
 use Rattle.import.proofs.Answers.{imported-many, imported-short, imported-whole, arcs-few}
@@ -28,16 +27,16 @@ pub import-export-spec : {M : Type 1} → statement M
 import-export-spec =
     tie.close
     (tie.spec
-    (λ c κs. search needs)
+    (λ c κs. search arith)
     returns
-    (λ c κs. search needs)
+    (λ c κs. search arith)
     returns-2
-    (λ c. search needs)
-    (λ c. search needs)
-    (λ c. search needs)
+    (λ c. search arith)
+    (λ c. search arith)
+    (λ c. search arith)
     sheet-size-requires
-    (λ c κs. search needs)
+    (λ c κs. search arith)
     returns-3
     put-sheet-requires
-    (λ c. search needs)
+    (λ c. search arith)
     returns-4)

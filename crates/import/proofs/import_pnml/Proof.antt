@@ -1,7 +1,7 @@
 -- 20, or what an export's import answers.
-use borrow.Author.Needs.{needs}
 use mathlib.Core.Path.{refl}
 use mathlib.Core.Logic.{inl, inr}
+use native.Mathlib.Omega.{arith}
 use Rattle.import.proofs.Answers.{checked-as}
 use Rattle.import.proofs.import_pnml.Statement.{statement}
 use Rattle.import.proofs.import_pnml.Tie as tie
@@ -21,11 +21,11 @@ pub import-pnml-spec : {M : Type 1} → statement M
 import-pnml-spec =
     tie.close
     (tie.spec
-    (λ c κs. search needs)
-    (λ c. search needs)
-    (λ c κs. search needs)
-    (λ c. search needs)
+    (λ c κs. search arith)
+    (λ c. search arith)
+    (λ c κs. search arith)
+    (λ c. search arith)
     import-export-requires
     returns
-    (λ c. search needs)
+    (λ c. search arith)
     returns-2)

@@ -1,5 +1,4 @@
 -- The number of the arc that was read.
-use borrow.Author.Needs.{needs}
 use native.Mathlib.Omega.{arith}
 use Rattle.numbers.proofs.ByNumbers.{number-is}
 use Rattle.numbers.proofs.arc_number.Statement.{statement}
@@ -12,4 +11,4 @@ returns : tie.Need-returns
 returns c = number-is _ (c .before .before .arc .ensures) (c .before .room-at .ensures) (c .pass-below .ensures)
 
 pub arc-number-spec : {M : Type 1} → statement M
-arc-number-spec = tie.close (tie.spec (λ c κs. search needs) room-at-requires (λ c κs. search needs) returns)
+arc-number-spec = tie.close (tie.spec (λ c κs. search arith) room-at-requires (λ c κs. search arith) returns)

@@ -55,15 +55,15 @@ pub fire-arc-spec : {M : Type 1} → statement M
 fire-arc-spec =
     tie.close
     (tie.spec
-    (λ c κs. search needs)
-    (λ c. search needs)
-    (λ c. search needs)
+    (λ c κs. search arith)
+    (λ c. search arith)
+    (λ c. search arith)
     (λ c. inside (c .before .before))
     lets-pass-requires
     returns
     sub-marking
     add-marking
-    (λ c. search needs)
+    (λ c. search arith)
     (λ c. inside (c .before .before .before .before .before .before))
     (λ c. search needs)
     returns-2)

@@ -4,6 +4,7 @@ use borrow.Author.Tests.{not-true, not-false}
 use Prim.Native.Nat.{_≤_, _-_}
 use mathlib.Core.Path.{_∙_, ap}
 use lib.ListN.{length}
+use native.Mathlib.Omega.{arith}
 use Rattle.sheets.specs.Decoded.{netOf}
 use Rattle.onepass.specs.OnePass.{PassedAndWritten}
 use Rattle.onepass.proofs.OnePass.{to-length, to-writable, wrote-none, wrote-more, through-stops, through-ends}
@@ -59,8 +60,8 @@ fire-through-spec =
     fire-arc-requires
     same-length
     returns
-    (λ c. search needs)
-    (λ c. search needs)
+    (λ c. search arith)
+    (λ c. search arith)
     loop-again
     same-length-2
     returns-2)

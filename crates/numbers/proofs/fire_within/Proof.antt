@@ -1,8 +1,14 @@
 -- An arc does not let the mode pass, and the marking found is there again; or each does, and the mode has fired.
-use borrow.Author.Needs.{needs}
+use native.Mathlib.Omega.{arith}
 use Rattle.onepass.proofs.OnePass.{fires-through, fires-back}
 use Rattle.numbers.proofs.fire_within.Statement.{statement}
 use Rattle.numbers.proofs.fire_within.Tie as tie
+
+take-back-requires : tie.Need-take-back-requires
+take-back-requires c κs =
+    let pass = c .before .before .before .before .before in
+    let pre = pass .before .before .before .before .before .pre in
+    (pre .0 .opened, (pre .1 .own, (_, pass .fire-through .ensures .wrote)))
 
 returns : tie.Need-returns
 returns c = λ t own.
@@ -21,9 +27,9 @@ pub fire-within-spec : {M : Type 1} → statement M
 fire-within-spec =
     tie.close
     (tie.spec
-    (λ c κs. search needs)
-    (λ c κs. search needs)
-    (λ c. search needs)
+    (λ c κs. search arith)
+    take-back-requires
+    (λ c. search arith)
     returns
-    (λ c. search needs)
+    (λ c. search arith)
     returns-2)

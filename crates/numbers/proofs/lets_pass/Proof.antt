@@ -1,5 +1,4 @@
 -- All four tests; below Pre; or tested by the arc's number.
-use borrow.Author.Needs.{needs}
 use native.Mathlib.Omega.{arith}
 use Rattle.sheets.specs.Decoded.{netOf}
 use Rattle.opened.proofs.Shapes.{sizes}
@@ -7,6 +6,12 @@ use Rattle.opened.proofs.Segments.{own-there}
 use Rattle.numbers.proofs.ByNumbers.{below-pre, below-number}
 use Rattle.numbers.proofs.lets_pass.Statement.{statement}
 use Rattle.numbers.proofs.lets_pass.Tie as tie
+
+room-at-requires : tie.Need-room-at-requires
+room-at-requires c κs =
+    let pre = c .before .before .before .pre in
+    let read = pre .1 .1 .0 in
+    (pre .0 .opened, (read .pair, omega (arith, read .pre)))
 
 returns : tie.Need-returns
 returns c = rw (c .before .room-at .ensures) at (c .is-free .ensures)
@@ -39,11 +44,11 @@ pub lets-pass-spec : {M : Type 1} → statement M
 lets-pass-spec =
     tie.close
     (tie.spec
-    (λ c κs. search needs)
-    (λ c κs. search needs)
+    room-at-requires
+    (λ c κs. search arith)
     returns
     returns-2
-    (λ c κs. search needs)
+    (λ c κs. search arith)
     mul-result
     shared-slice-read-result
     returns-3)

@@ -1,6 +1,6 @@
 -- The least of the three highest counts, and one more; or never.
-use borrow.Author.Needs.{needs}
 use mathlib.Core.Path.{sym}
+use native.Mathlib.Omega.{arith}
 use Rattle.numbers.proofs.Bounds.{never-passes, passes-below}
 use Rattle.numbers.proofs.pass_below.Statement.{statement}
 use Rattle.numbers.proofs.pass_below.Tie as tie
@@ -17,4 +17,4 @@ returns-2 c =
 pub pass-below-spec : {M : Type 1} → statement M
 pass-below-spec =
     tie.close
-    (tie.spec returns (λ c. search needs) (λ c. search needs) (λ c κs. search needs) (λ c κs. search needs) (λ c. search needs) returns-2)
+    (tie.spec returns (λ c. search arith) (λ c. search arith) (λ c κs. search arith) (λ c κs. search arith) (λ c. search arith) returns-2)

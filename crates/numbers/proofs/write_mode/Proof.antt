@@ -51,13 +51,13 @@ write-mode-spec =
     (tie.spec
     Inv-loop
     μ-loop
-    (λ c. (search needs, with-none (c .before .before .pre .1 .0) (c .before .before .pre .1 .1)))
-    (λ c κs. search needs)
+    (λ c. (search arith, with-none (c .before .before .pre .1 .0) (c .before .before .pre .1 .1)))
+    (λ c κs. search arith)
     slot-requires
     mul-numbers
     slice-write-numbers
-    (λ c. search needs)
-    (λ c. search needs)
+    (λ c. search arith)
+    (λ c. search arith)
     loop-again
     same-length
     returns)

@@ -19,6 +19,11 @@ abbrev μ-loop : tie.MeasureT-loop
 loop-holds : tie.Need-loop-holds Inv-loop μ-loop
 loop-holds c = (search needs, numbers-none _ _ (c .before .before .pre .1 .1))
 
+arcs-of-requires : tie.Need-arcs-of-requires Inv-loop μ-loop
+arcs-of-requires c κs =
+    let pre = c .before .before .before .before .pre in
+    (pre .0, (pre .1 .0, c .loop-test .taken))
+
 write-mode-requires : tie.Need-write-mode-requires Inv-loop μ-loop
 write-mode-requires c κs =
     let segment = c .before .arcs-of .ensures in
@@ -44,10 +49,10 @@ write-numbers-spec =
     μ-loop
     loop-holds
     (λ c. omega (arith, sizes (c .before .before .before .before .pre .0) .modesWithin))
-    (λ c κs. search needs)
+    arcs-of-requires
     write-mode-requires
-    (λ c. search needs)
-    (λ c. search needs)
+    (λ c. search arith)
+    (λ c. search arith)
     loop-again
     same-length
     returns)

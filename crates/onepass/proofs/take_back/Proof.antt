@@ -71,14 +71,14 @@ take-back-spec =
     loop-holds
     (λ c. omega (arith, c .loop-test .taken))
     arc-requires
-    (λ c. search needs)
-    (λ c. search needs)
+    (λ c. search arith)
+    (λ c. search arith)
     (λ c. here (c .before .before) .inside)
     (λ c. here (c .before .before .before) .enough)
     add-marking
-    (λ c. search needs)
+    (λ c. search arith)
     (λ c. here (c .before .before .before .before) .inside)
-    (λ c. search needs)
+    (λ c. search arith)
     loop-again
     same-length
     returns)

@@ -1,5 +1,5 @@
 -- The whole sheet's refusal, or its shape.
-use borrow.Author.Needs.{needs}
+use native.Mathlib.Omega.{arith}
 use Rattle.model.proofs.First.{left-none}
 use Rattle.model.proofs.Refusals.{answer-none}
 use Rattle.sheets.specs.Whole.{wholeNet}
@@ -20,4 +20,4 @@ returns-2 c = open-accepts _ (c .before .before .before .whole-net .ensures) (c 
 pub open-net-spec : {M : Type 1} → statement M
 open-net-spec =
     tie.close
-    (tie.spec (λ c κs. search needs) (λ c. search needs) (λ c. search needs) shape-of-requires returns returns-2)
+    (tie.spec (λ c κs. search arith) (λ c. search arith) (λ c. search arith) shape-of-requires returns returns-2)

@@ -1,6 +1,5 @@
--- What the call says that it wrote lies within the slice that it was lent.
-use borrow.Author.Needs.{needs}
-use mathlib.Core.Path.{sym}
+-- What the call says that it wrote lies within the slice that it was lent. The lengths of whole arrays compute, and each arm is handed its key.
+use mathlib.Core.Path.{refl, sym}
 use lib.Seq.{length-take-le}
 use Rattle.statement.proofs.Stating.{written-within}
 use Rattle.replay.proofs.main.Statement.{statement}
@@ -17,18 +16,18 @@ pub main-spec : {M : Type 1} → statement M
 main-spec =
     tie.close
     (tie.spec
-    (λ c. search needs)
-    (λ c κs. search needs)
-    (λ c. search needs)
-    (λ c. search needs)
-    (λ c. search needs)
-    (λ c κs. search needs)
-    (λ c. search needs)
+    (λ c. refl)
+    (λ c κs. tt)
+    (λ c. c .before .read-full .ensures .0)
+    (λ c. c .before .before .read-full .ensures .1)
+    (λ c. refl)
+    (λ c κs. tt)
+    (λ c. c .match .keys1)
     array-share-prefix-out
     slice-aggregate-write-all
-    (λ c κs. search needs)
-    (λ c. search needs)
-    (λ c. search needs)
-    (λ c. search needs)
-    (λ c. search needs)
-    (λ c. search needs))
+    (λ c κs. tt)
+    (λ c. c .match .keys2)
+    (λ c. refl)
+    (λ c κs. tt)
+    (λ c. tt)
+    (λ c. tt))

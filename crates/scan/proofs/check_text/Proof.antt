@@ -2,7 +2,6 @@
 use native.Mathlib.Omega.{arith}
 use Rattle.parts.proofs.Values.{whole-of, part-of, whole-within}
 use Rattle.scan.proofs.Answers.{lines-refused, lines-longer, lines-accepted, opening-part}
-use borrow.Author.Needs.{needs}
 use Rattle.scan.proofs.check_text.Statement.{statement}
 use Rattle.scan.proofs.check_text.Tie as tie
 
@@ -25,13 +24,13 @@ pub check-text-spec : {M : Type 1} → statement M
 check-text-spec =
     tie.close
     (tie.spec
-    (λ c κs. search needs)
-    (λ c. search needs)
-    (λ c. search needs)
+    (λ c κs. search arith)
+    (λ c. search arith)
+    (λ c. search arith)
     returns
-    (λ c κs. search needs)
-    (λ c. search needs)
-    (λ c. search needs)
+    (λ c κs. search arith)
+    (λ c. search arith)
+    (λ c. search arith)
     returns-2
     returns-3
     returns-4

@@ -12,4 +12,10 @@ returns c =
     rw (last-cut 4 4 (first .before .before .before .args .n)) (first .write-four .ensures and second .write-four2 .ensures)
 
 pub write-eight-spec : {M : Type 1} → statement M
-write-eight-spec = tie.close (tie.spec (λ c κs. search arith) (λ c κs. search arith) (λ c. search arith) returns)
+write-eight-spec =
+    tie.close
+    (tie.spec
+    (λ c κs. (c .before .before .pre .0, (omega arith, omega arith)))
+    (λ c κs. (c .before .before .before .before .before .before .pre .0, (omega arith, omega arith)))
+    (λ c. search arith)
+    returns)

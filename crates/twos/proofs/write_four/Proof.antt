@@ -12,4 +12,10 @@ returns c =
     rw (last-cut 2 2 (first .before .before .before .args .n)) (first .write-two .ensures and second .write-two2 .ensures)
 
 pub write-four-spec : {M : Type 1} → statement M
-write-four-spec = tie.close (tie.spec (λ c κs. search arith) (λ c κs. search arith) (λ c. search arith) returns)
+write-four-spec =
+    tie.close
+    (tie.spec
+    (λ c κs. (c .before .before .pre .0, (omega arith, omega arith)))
+    (λ c κs. (c .before .before .before .before .before .before .pre .0, (omega arith, omega arith)))
+    (λ c. search arith)
+    returns)

@@ -20,5 +20,13 @@ write-decimal-requires c κs = omega (arith, length-at-most (c .before .before .
 pub write-long-spec : {M : Type 1} → statement M
 write-long-spec =
     tie.close
-    (tie.spec (λ c. search arith) (λ c κs. search arith) (λ c. search arith) (λ c κs. search arith) (λ c. search arith)
-    returns write-decimal-requires (λ c. search arith) (λ c. search arith))
+    (tie.spec
+    (λ c. search arith)
+    (λ c κs. (c .before .before .before .pre .0, (omega arith, omega arith)))
+    (λ c. search arith)
+    (λ c κs. (c .before .before .before .before .before .before .before .pre .0, (omega arith, omega arith)))
+    (λ c. search arith)
+    returns
+    write-decimal-requires
+    (λ c. search arith)
+    (λ c. search arith))

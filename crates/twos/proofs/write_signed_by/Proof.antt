@@ -21,4 +21,13 @@ returns-2 c =
 
 pub write-signed-by-spec : {M : Type 1} → statement M
 write-signed-by-spec =
-    tie.close (tie.spec (λ c κs. search arith) (λ c κs. search arith) (λ c κs. search arith) (λ c. search arith) returns (λ c κs. search arith) (λ c. search arith) returns-2)
+    tie.close
+    (tie.spec
+    (λ c κs. search arith)
+    (λ c κs. search arith)
+    (λ c κs. (c .before .before .before .before .before .before .before .before .pre .0, omega arith))
+    (λ c. search arith)
+    returns
+    (λ c κs. (c .before .before .before .before .pre .0, omega arith))
+    (λ c. search arith)
+    returns-2)

@@ -1,7 +1,7 @@
 -- The first half has no leading zeros, and the second has all of its digits.
 use native.Mathlib.Omega.{arith}
 use Rattle.twos.proofs.TwoDigits.{decimal-cut}
-use Rattle.writes.proofs.Writing.{_and_}
+use Rattle.writes.proofs.Writing.{_and_, within}
 use Rattle.twos.proofs.write_to_eight.Statement.{statement}
 use Rattle.twos.proofs.write_to_eight.Tie as tie
 
@@ -14,4 +14,12 @@ returns-2 c =
 
 pub write-to-eight-spec : {M : Type 1} → statement M
 write-to-eight-spec =
-    tie.close (tie.spec (λ c κs. search arith) (λ c. search arith) (λ c. search arith) (λ c κs. search arith) (λ c κs. search arith) (λ c. search arith) returns-2)
+    tie.close
+    (tie.spec
+    (λ c κs. (c .before .before .before .pre .0, (omega arith, omega arith)))
+    (λ c. search arith)
+    (λ c. within (c .before .before .write-to-four .ensures) (omega arith))
+    (λ c κs. (c .before .before .before .pre .0, (omega arith, omega arith)))
+    (λ c κs. (c .before .before .before .before .before .before .before .pre .0, (omega arith, omega arith)))
+    (λ c. search arith)
+    returns-2)

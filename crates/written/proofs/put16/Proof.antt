@@ -15,11 +15,11 @@ pub put16-spec : {M : Type 1} → statement M
 put16-spec =
     tie.close
     (tie.spec
-    (λ c. search needs)
-    (λ c. search needs)
-    (λ c. search needs)
-    (λ c. search needs)
+    (λ c. search arith)
+    (λ c. search arith)
+    (λ c. search arith)
+    (λ c. search arith)
     slice-write-out-2
-    (λ c. search needs)
+    (λ c. search arith)
     (λ c. search needs)
     returns)

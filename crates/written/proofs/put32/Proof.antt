@@ -1,4 +1,4 @@
-use borrow.Author.Needs.{needs}
+use native.Mathlib.Omega.{arith}
 use Rattle.written.specs.Written.{bytes32}
 use Rattle.written.proofs.Puts.{puts}
 use Rattle.written.proofs.put32.Statement.{statement}
@@ -11,4 +11,4 @@ returns c = puts (c .before .before .before .before .before .before .put16 .ensu
 pub put32-spec : {M : Type 1} → statement M
 put32-spec =
     tie.close
-    (tie.spec (λ c. search needs) (λ c κs. search needs) (λ c. search needs) (λ c κs. search needs) (λ c. search needs) returns)
+    (tie.spec (λ c. search arith) (λ c κs. search arith) (λ c. search arith) (λ c κs. search arith) (λ c. search arith) returns)

@@ -1,4 +1,4 @@
-use borrow.Author.Needs.{needs}
+use native.Mathlib.Omega.{arith}
 use Rattle.written.specs.Written.{modeBytes}
 use Rattle.written.proofs.Puts.{nothing}
 use Rattle.written.proofs.put_arc_mode.Statement.{statement}
@@ -16,4 +16,4 @@ unfolding modeBytes
 returns-2 c = rw (c .enum-told2 .given .1) nothing
 
 pub put-arc-mode-spec : {M : Type 1} → statement M
-put-arc-mode-spec = tie.close (tie.spec (λ c. search needs) put16-requires (λ c. search needs) (λ c. search needs) returns returns-2)
+put-arc-mode-spec = tie.close (tie.spec (λ c. search arith) put16-requires (λ c. search arith) (λ c. search arith) returns returns-2)

@@ -1,4 +1,4 @@
-use borrow.Author.Needs.{needs}
+use native.Mathlib.Omega.{arith}
 use Rattle.written.specs.Written.{headBytes}
 use Rattle.written.proofs.Puts.{put-length, room-next, puts-both, long-fits}
 use Rattle.written.proofs.put_head.Statement.{statement}
@@ -20,4 +20,4 @@ returns c =
 
 pub put-head-spec : {M : Type 1} → statement M
 put-head-spec =
-    tie.close (tie.spec (λ c. search needs) (λ c. search needs) put32-requires (λ c κs. search needs) put-version-requires (λ c. search needs) returns)
+    tie.close (tie.spec (λ c. search arith) (λ c. search arith) put32-requires (λ c κs. search arith) put-version-requires (λ c. search arith) returns)

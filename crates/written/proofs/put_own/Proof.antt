@@ -1,4 +1,4 @@
-use borrow.Author.Needs.{needs}
+use native.Mathlib.Omega.{arith}
 use Rattle.written.specs.Written.{ownBytes}
 use Rattle.written.proofs.Puts.{nothing}
 use Rattle.written.proofs.put_own.Statement.{statement}
@@ -16,4 +16,4 @@ unfolding ownBytes
 returns-2 c = rw (c .before .before .before .before .enum-told2 .given .1) (c .before .before .put-count .ensures)
 
 pub put-own-spec : {M : Type 1} → statement M
-put-own-spec = tie.close (tie.spec (λ c. search needs) (λ c. search needs) put-count-requires returns (λ c. search needs) returns-2)
+put-own-spec = tie.close (tie.spec (λ c. search arith) (λ c. search arith) put-count-requires returns (λ c. search arith) returns-2)

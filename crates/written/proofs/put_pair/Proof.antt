@@ -1,4 +1,4 @@
-use borrow.Author.Needs.{needs}
+use native.Mathlib.Omega.{arith}
 use Rattle.written.specs.Written.{pairBytes}
 use Rattle.written.proofs.Records.{number-bound}
 use Rattle.written.proofs.Puts.{puts}
@@ -10,4 +10,4 @@ unfolding pairBytes
 returns c = rw number-bound (puts (c .before .before .before .before .before .before .put32 .ensures) (c .before .before .put322 .ensures))
 
 pub put-pair-spec : {M : Type 1} → statement M
-put-pair-spec = tie.close (tie.spec (λ c κs. search needs) (λ c κs. search needs) (λ c. search needs) returns)
+put-pair-spec = tie.close (tie.spec (λ c κs. search arith) (λ c κs. search arith) (λ c. search arith) returns)

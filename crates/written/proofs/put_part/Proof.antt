@@ -1,6 +1,7 @@
 -- The bytes passed are put.
 use borrow.Author.Needs.{needs}
 use Prim.Native.Nat.{_≤_, _-_}
+use native.Mathlib.Omega.{arith}
 use Rattle.written.specs.Puts.{Puts, partOf}
 use Rattle.written.proofs.Puts.{puts-none, room-more, puts-more, puts-end}
 use Rattle.written.proofs.put_part.Statement.{statement}
@@ -36,11 +37,11 @@ put-part-spec =
     Inv-loop
     μ-loop
     loop-holds
-    (λ c. search needs)
-    (λ c. search needs)
+    (λ c. search arith)
+    (λ c. search arith)
     put-byte-requires
-    (λ c. search needs)
-    (λ c. search needs)
+    (λ c. search arith)
+    (λ c. search arith)
     loop-again
     (λ c. c .before .loop .inv .1 .kept)
     returns)

@@ -1,5 +1,5 @@
-use borrow.Author.Needs.{needs}
 use mathlib.Core.Path.{sym}
+use native.Mathlib.Omega.{arith}
 use Rattle.written.proofs.Puts.{nothing, put-length, room-as, puts-as, count-fits}
 use Rattle.written.proofs.put_total.Statement.{statement}
 use Rattle.written.proofs.Versions.{total-one, total-two}
@@ -15,4 +15,4 @@ returns-2 : tie.Need-returns-2
 returns-2 c = puts-as (total-two _ (c .enum-told2 .given .1)) (put-length nothing)
 
 pub put-total-spec : {M : Type 1} → statement M
-put-total-spec = tie.close (tie.spec (λ c. search needs) put-count-requires (λ c. search needs) (λ c. search needs) returns returns-2)
+put-total-spec = tie.close (tie.spec (λ c. search arith) put-count-requires (λ c. search arith) (λ c. search arith) returns returns-2)

@@ -1,4 +1,3 @@
-use borrow.Author.Needs.{needs}
 use mathlib.Core.Path.{sym}
 use native.Mathlib.Omega.{arith}
 use Rattle.written.proofs.Puts.{puts, put-length, room-as, puts-as}
@@ -27,12 +26,12 @@ pub put-version-spec : {M : Type 1} → statement M
 put-version-spec =
     tie.close
     (tie.spec
-    (λ c. search needs)
+    (λ c. search arith)
     put-byte-requires
-    (λ c. search needs)
+    (λ c. search arith)
     put-byte-requires-2
     put-byte-requires-3
-    (λ c. search needs)
+    (λ c. search arith)
     returns
-    (λ c. search needs)
+    (λ c. search arith)
     returns-2)

@@ -1,4 +1,4 @@
-use borrow.Author.Needs.{needs}
+use native.Mathlib.Omega.{arith}
 use Rattle.model.specs.Nets.{ruleNumber}
 use Rattle.written.proofs.rule_byte.Statement.{statement}
 use Rattle.written.proofs.rule_byte.Tie as tie
@@ -12,4 +12,4 @@ unfolding ruleNumber
 returns-2 c = rw (c .enum-told2 .given .1)
 
 pub rule-byte-spec : {M : Type 1} → statement M
-rule-byte-spec = tie.close (tie.spec (λ c. search needs) (λ c. search needs) returns returns-2)
+rule-byte-spec = tie.close (tie.spec (λ c. search arith) (λ c. search arith) returns returns-2)

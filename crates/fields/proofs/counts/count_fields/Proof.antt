@@ -1,5 +1,5 @@
 -- The two counts, then each of the counts that they announce.
-use borrow.Author.Needs.{needs}
+use native.Mathlib.Omega.{arith}
 use Rattle.model.proofs.Refusals.{answer-none, answer-stops, answer-goes-on}
 use Rattle.fields.specs.Fields.{countFields}
 use Rattle.fields.proofs.RunningTotals.{sized}
@@ -38,15 +38,15 @@ pub count-fields-spec : {M : Type 1} → statement M
 count-fields-spec =
     tie.close
     (tie.spec
-    (λ c κs. search needs)
-    (λ c κs. search needs)
-    (λ c. search needs)
+    (λ c κs. search arith)
+    (λ c κs. search arith)
+    (λ c. search arith)
     returns
-    (λ c. search needs)
-    (λ c. search needs)
-    (λ c κs. search needs)
-    (λ c. search needs)
+    (λ c. search arith)
+    (λ c. search arith)
+    (λ c κs. search arith)
+    (λ c. search arith)
     returns-2
-    (λ c. search needs)
+    (λ c. search arith)
     each-count-requires
     returns-3)

@@ -1,5 +1,4 @@
 -- The colours of each place, then the modes of each transition.
-use borrow.Author.Needs.{needs}
 use native.Mathlib.Omega.{arith}
 use Rattle.model.proofs.Refusals.{answer-stops, answer-goes-on}
 use Rattle.fields.specs.Fields.{eachCount}
@@ -42,17 +41,17 @@ pub each-count-spec : {M : Type 1} → statement M
 each-count-spec =
     tie.close
     (tie.spec
-    (λ c κs. search needs)
-    (λ c κs. search needs)
-    (λ c. search needs)
+    (λ c κs. search arith)
+    (λ c κs. search arith)
+    (λ c. search arith)
     read-counts-requires
-    (λ c. search needs)
+    (λ c. search arith)
     returns
-    (λ c. search needs)
-    (λ c. search needs)
-    (λ c. search needs)
-    (λ c. search needs)
-    (λ c. search needs)
-    (λ c κs. search needs)
+    (λ c. search arith)
+    (λ c. search arith)
+    (λ c. search arith)
+    (λ c. search arith)
+    (λ c. search arith)
+    (λ c κs. search arith)
     read-counts-requires-2
     returns-2)

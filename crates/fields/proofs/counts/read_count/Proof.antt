@@ -1,5 +1,4 @@
 -- The three tests as the definition has them.
-use borrow.Author.Needs.{needs}
 use borrow.Author.Tests.{lt-ltb, le-ltb}
 use Prim.Native.Nat.{_+_}
 use native.Mathlib.Omega.{arith}
@@ -43,13 +42,13 @@ pub read-count-spec : {M : Type 1} → statement M
 read-count-spec =
     tie.close
     (tie.spec
-    (λ c κs. search needs)
-    (λ c. search needs)
-    (λ c κs. search needs)
+    (λ c κs. search arith)
+    (λ c. search arith)
+    (λ c κs. search arith)
     returns
-    (λ c κs. search needs)
-    (λ c κs. search needs)
+    (λ c κs. search arith)
+    (λ c κs. search arith)
     returns-2
-    (λ c κs. search needs)
+    (λ c κs. search arith)
     returns-3
     returns-4)

@@ -1,5 +1,4 @@
 -- The count itself, then the total that it makes.
-use borrow.Author.Needs.{needs}
 use borrow.Author.Tests.{lt-ltb, le-ltb}
 use Prim.Native.Nat.{_+_}
 use native.Mathlib.Omega.{arith}
@@ -39,14 +38,14 @@ pub read-running-spec : {M : Type 1} → statement M
 read-running-spec =
     tie.close
     (tie.spec
-    (λ c. search needs)
-    (λ c. search needs)
-    (λ c κs. search needs)
-    (λ c. search needs)
+    (λ c. search arith)
+    (λ c. search arith)
+    (λ c κs. search arith)
+    (λ c. search arith)
     returns
-    (λ c. search needs)
+    (λ c. search arith)
     count-at-requires
-    (λ c. search needs)
-    (λ c κs. search needs)
+    (λ c. search arith)
+    (λ c κs. search arith)
     returns-2
     returns-3)

@@ -36,11 +36,11 @@ total-of-spec =
     Inv-loop
     μ-loop
     loop-holds
-    (λ c. search needs)
-    (λ c. search needs)
-    (λ c κs. search needs)
-    (λ c. search needs)
-    (λ c. search needs)
-    (λ c. search needs)
+    (λ c. search arith)
+    (λ c. search arith)
+    (λ c κs. search arith)
+    (λ c. search arith)
+    (λ c. search arith)
+    (λ c. search arith)
     loop-again
     returns)

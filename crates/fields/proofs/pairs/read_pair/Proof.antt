@@ -1,5 +1,6 @@
 -- K, then the first marking.
 use borrow.Author.Needs.{needs}
+use native.Mathlib.Omega.{arith}
 use Rattle.model.proofs.Refusals.{answer-none, answer-stops, answer-goes-on}
 use Rattle.fields.specs.Fields.{pairRefusal}
 use Rattle.fields.proofs.PairFields.{capacity-holds}
@@ -22,4 +23,4 @@ returns-2 c = answer-goes-on _ _ (c .before .before .before .read-capacity .ensu
 pub read-pair-spec : {M : Type 1} → statement M
 read-pair-spec =
     tie.close
-    (tie.spec (λ c κs. search needs) (λ c. search needs) returns (λ c. search needs) read-start-requires returns-2)
+    (tie.spec (λ c κs. search arith) (λ c. search arith) returns (λ c. search arith) read-start-requires returns-2)

@@ -41,9 +41,9 @@ put-arcs-spec =
     μ-loop
     loop-holds
     write-line-requires
-    (λ c. search needs)
+    (λ c. search arith)
     same-length
     returns
-    (λ c. search needs)
+    (λ c. search arith)
     loop-less
     loop-again)

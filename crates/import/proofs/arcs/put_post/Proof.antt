@@ -1,5 +1,4 @@
 -- The Post of the arc in hand, or an arc of its own.
-use borrow.Author.Needs.{needs}
 use mathlib.Core.Path.{refl}
 use native.Mathlib.Omega.{arith}
 use Rattle.import.proofs.arcs.put_post.Statement.{statement}
@@ -30,9 +29,9 @@ put-post-spec =
     (tie.spec
     sub-put32
     put32-requires
-    (λ c. search needs)
+    (λ c. search arith)
     returns
-    (λ c. search needs)
+    (λ c. search arith)
     put-arc-requires
-    (λ c. search needs)
+    (λ c. search arith)
     returns-2)

@@ -1,5 +1,4 @@
 -- One line, by its kind.
-use borrow.Author.Needs.{needs}
 use native.Mathlib.Omega.{arith}
 use Rattle.scan.proofs.Onward.{step-as, arc-small}
 use Rattle.import.proofs.LineWrites.{post-room, begun-wrote, pre-wrote, post-wrote, place-wrote, close-wrote, stop-wrote}
@@ -46,23 +45,23 @@ pub write-line-spec : {M : Type 1} → statement M
 write-line-spec =
     tie.close
     (tie.spec
-    (λ c κs. search needs)
-    (λ c. search needs)
-    (λ c κs. search needs)
-    (λ c. search needs)
+    (λ c κs. search arith)
+    (λ c. search arith)
+    (λ c κs. search arith)
+    (λ c. search arith)
     sub-put-arc
     put-arc-requires
     after-pre-requires
-    (λ c. search needs)
+    (λ c. search arith)
     put-post-requires
     after-post-requires
-    (λ c. search needs)
-    (λ c. search needs)
-    (λ c. search needs)
+    (λ c. search arith)
+    (λ c. search arith)
+    (λ c. search arith)
     returns
-    (λ c. search needs)
+    (λ c. search arith)
     returns-2
-    (λ c. search needs)
+    (λ c. search arith)
     returns-3
     (λ c. place-wrote (c .before .before .read-line .ensures) (c .enum-told .given .1))
     (λ c. close-wrote (c .before .before .read-line .ensures) (c .enum-told2 .given .1))

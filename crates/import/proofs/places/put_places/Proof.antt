@@ -1,5 +1,4 @@
 -- Place by place, until another line.
-use borrow.Author.Needs.{needs}
 use Prim.Native.Nat.{_-_}
 use lib.ListN.{length}
 use native.Mathlib.Omega.{arith}
@@ -40,9 +39,9 @@ put-places-spec =
     μ-loop
     loop-holds
     write-place-requires
-    (λ c. search needs)
-    (λ c. search needs)
+    (λ c. search arith)
+    (λ c. search arith)
     returns
-    (λ c. search needs)
+    (λ c. search arith)
     loop-less
     loop-again)

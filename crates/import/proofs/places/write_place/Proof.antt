@@ -1,5 +1,5 @@
 -- One place; what is none leaves nothing.
-use borrow.Author.Needs.{needs}
+use native.Mathlib.Omega.{arith}
 use Rattle.scan.proofs.Onward.{step-as}
 use Rattle.import.proofs.LineWrites.{placed, begun-placed, pre-placed, post-placed, close-placed, stop-placed}
 use Rattle.import.proofs.places.write_place.Statement.{statement}
@@ -15,16 +15,16 @@ pub write-place-spec : {M : Type 1} → statement M
 write-place-spec =
     tie.close
     (tie.spec
-    (λ c κs. search needs)
-    (λ c. search needs)
+    (λ c κs. search arith)
+    (λ c. search arith)
     put-pair-requires
-    (λ c κs. search needs)
-    (λ c. search needs)
-    (λ c. search needs)
-    (λ c. search needs)
-    (λ c. search needs)
-    (λ c. search needs)
-    (λ c. search needs)
+    (λ c κs. search arith)
+    (λ c. search arith)
+    (λ c. search arith)
+    (λ c. search arith)
+    (λ c. search arith)
+    (λ c. search arith)
+    (λ c. search arith)
     returns
     (λ c. begun-placed (c .before .before .read-line .ensures) (c .enum-told .given .1))
     (λ c. pre-placed (c .before .before .read-line .ensures) (c .enum-told2 .given .1))

@@ -1,5 +1,5 @@
 -- Four parts in turn.
-use borrow.Author.Needs.{needs}
+use native.Mathlib.Omega.{arith}
 use Rattle.written.proofs.Puts.{put-length, count-fits, room-first, room-next, puts-both}
 use Rattle.import.proofs.sheet.put_counts.Statement.{statement}
 use Rattle.import.proofs.sheet.put_counts.Tie as tie
@@ -32,5 +32,5 @@ put-counts-spec =
     put-count-requires-2
     put-ones-requires
     put-ones-requires-2
-    (λ c. search needs)
+    (λ c. search arith)
     returns)

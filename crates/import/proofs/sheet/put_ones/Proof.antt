@@ -38,8 +38,8 @@ put-ones-spec =
     μ-loop
     loop-holds
     put-count-requires
-    (λ c. search needs)
-    (λ c. search needs)
+    (λ c. search arith)
+    (λ c. search arith)
     loop-again
     (λ c. c .before .loop .inv .1 .kept)
     returns)

@@ -1,5 +1,6 @@
 -- The parts of the sheet in turn.
-use borrow.Author.Needs.{needs}
+use mathlib.Core.Path.{_∙_}
+use native.Mathlib.Omega.{arith}
 use Rattle.import.proofs.SheetRoom.{head-room, counts-room, pairs-room, total-room, arcs-room, sheet-put}
 use Rattle.import.proofs.sheet.put_sheet.Statement.{statement}
 use Rattle.import.proofs.sheet.put_sheet.Tie as tie
@@ -29,6 +30,15 @@ put-arcs-requires c κs =
       ),
     )
 
+same-length : tie.Need-same-length
+same-length c =
+    let arcs = c .before .before in
+    let count = arcs .before .before .before .before in
+    let places = count .before .before .before .before .before in
+    let counts = places .before .before .before .before in
+    let head = counts .before .before .before .before .before .before in
+    arcs .put-arcs .kept .1 .1 .1 .0 ∙ count .put-count .kept .0 ∙ places .put-places .kept .1 .1 .0 ∙ counts .put-counts .kept .0 ∙ head .put-head .kept .0
+
 returns : tie.Need-returns
 returns c =
     let pre = c .before .before .before .before .before .before .before .before .before .before .before .before .before .before .before .before .before .before .before .before .before .before .before .before .before .pre in
@@ -40,12 +50,12 @@ put-sheet-spec =
     tie.close
     (tie.spec
     put-head-requires
-    (λ c. search needs)
-    (λ c. search needs)
+    (λ c. search arith)
+    (λ c. search arith)
     put-counts-requires
     put-places-requires
-    (λ c. search needs)
+    (λ c. record { fits = omega (arith, c .struct-known3 .given) })
     put-count-requires
     put-arcs-requires
-    (λ c. search needs)
+    same-length
     returns)

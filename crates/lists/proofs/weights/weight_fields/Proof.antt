@@ -1,5 +1,4 @@
 -- The count, then each weight, then what is left over.
-use borrow.Author.Needs.{needs}
 use borrow.Author.Tests.{lt-ltb, le-ltb, eq-eqb, ne-eqb}
 use mathlib.Core.Path.{ap}
 use mathlib.Core.Bool.{not}
@@ -46,17 +45,17 @@ pub weight-fields-spec : {M : Type 1} → statement M
 weight-fields-spec =
     tie.close
     (tie.spec
-    (λ c κs. search needs)
-    (λ c κs. search needs)
+    (λ c κs. search arith)
+    (λ c κs. search arith)
     returns
-    (λ c κs. search needs)
-    (λ c κs. search needs)
+    (λ c κs. search arith)
+    (λ c κs. search arith)
     returns-2
-    (λ c κs. search needs)
-    (λ c. search needs)
+    (λ c κs. search arith)
+    (λ c. search arith)
     returns-3
-    (λ c. search needs)
-    (λ c. search needs)
-    (λ c. search needs)
-    (λ c κs. search needs)
+    (λ c. search arith)
+    (λ c. search arith)
+    (λ c. search arith)
+    (λ c κs. search arith)
     returns-4)

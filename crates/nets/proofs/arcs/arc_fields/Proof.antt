@@ -1,5 +1,4 @@
 -- The arc count, then each arc, then what is left over.
-use borrow.Author.Needs.{needs}
 use native.Mathlib.Omega.{arith}
 use Rattle.model.proofs.Refusals.{answer-none, answer-stops, answer-goes-on}
 use Rattle.nets.specs.Nets.{arcFields}
@@ -35,18 +34,18 @@ pub arc-fields-spec : {M : Type 1} → statement M
 arc-fields-spec =
     tie.close
     (tie.spec
-    (λ c κs. search needs)
-    (λ c. search needs)
+    (λ c κs. search arith)
+    (λ c. search arith)
     returns
-    (λ c. search needs)
+    (λ c. search arith)
     count-at-requires
-    (λ c. search needs)
-    (λ c κs. search needs)
-    (λ c. search needs)
+    (λ c. search arith)
+    (λ c κs. search arith)
+    (λ c. search arith)
     returns-2
-    (λ c. search needs)
-    (λ c. search needs)
-    (λ c. search needs)
-    (λ c. search needs)
-    (λ c κs. search needs)
+    (λ c. search arith)
+    (λ c. search arith)
+    (λ c. search arith)
+    (λ c. search arith)
+    (λ c κs. search arith)
     returns-3)

@@ -1,5 +1,4 @@
 -- The three tests as the definition has them, mode and pair read once.
-use borrow.Author.Needs.{needs}
 use borrow.Author.Tests.{le-leb, lt-leb}
 use Prim.Native.Nat.{_+_}
 use mathlib.Core.Path.{sym, _∙_}
@@ -47,18 +46,18 @@ pub read-arc-names-spec : {M : Type 1} → statement M
 read-arc-names-spec =
     tie.close
     (tie.spec
-    (λ c. search needs)
-    (λ c. search needs)
-    (λ c κs. search needs)
-    (λ c. search needs)
-    (λ c. search needs)
-    (λ c κs. search needs)
+    (λ c. search arith)
+    (λ c. search arith)
+    (λ c κs. search arith)
+    (λ c. search arith)
+    (λ c. search arith)
+    (λ c κs. search arith)
     returns
-    (λ c. search needs)
-    (λ c. search needs)
-    (λ c κs. search needs)
+    (λ c. search arith)
+    (λ c. search arith)
+    (λ c κs. search arith)
     returns-2
-    (λ c κs. search needs)
-    (λ c κs. search needs)
+    (λ c κs. search arith)
+    (λ c κs. search arith)
     returns-3
     returns-4)

@@ -64,22 +64,22 @@ group-fields-spec =
     Inv-loop
     μ-loop
     loop-holds
-    (λ c κs. search needs)
-    (λ c. search needs)
+    (λ c κs. search arith)
+    (λ c. search arith)
     returns
-    (λ c. search needs)
-    (λ c. search needs)
-    (λ c. search needs)
-    (λ c. search needs)
-    (λ c. search needs)
+    (λ c. search arith)
+    (λ c. search arith)
+    (λ c. search arith)
+    (λ c. search arith)
+    (λ c. search arith)
     count-at-requires
-    (λ c. search needs)
-    (λ c. search needs)
-    (λ c. search needs)
+    (λ c. search arith)
+    (λ c. search arith)
+    (λ c. search arith)
     loop-again
-    (λ c. search needs)
-    (λ c. search needs)
-    (λ c. search needs)
-    (λ c. search needs)
-    (λ c κs. search needs)
+    (λ c. search arith)
+    (λ c. search arith)
+    (λ c. search arith)
+    (λ c. search arith)
+    (λ c κs. search arith)
     returns-2)

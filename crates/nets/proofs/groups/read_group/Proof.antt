@@ -1,5 +1,4 @@
 -- The count, within the total, then the arcs.
-use borrow.Author.Needs.{needs}
 use borrow.Author.Tests.{lt-ltb, le-ltb}
 use Prim.Native.Nat.{_+_, _*_}
 use native.Mathlib.Omega.{arith}
@@ -41,18 +40,18 @@ pub read-group-spec : {M : Type 1} → statement M
 read-group-spec =
     tie.close
     (tie.spec
-    (λ c. search needs)
-    (λ c. search needs)
-    (λ c. search needs)
-    (λ c. search needs)
-    (λ c κs. search needs)
-    (λ c. search needs)
-    (λ c κs. search needs)
+    (λ c. search arith)
+    (λ c. search arith)
+    (λ c. search arith)
+    (λ c. search arith)
+    (λ c κs. search arith)
+    (λ c. search arith)
+    (λ c κs. search arith)
     returns
-    (λ c κs. search needs)
-    (λ c. search needs)
-    (λ c κs. search needs)
+    (λ c κs. search arith)
+    (λ c. search arith)
+    (λ c κs. search arith)
     returns-2
-    (λ c. search needs)
-    (λ c κs. search needs)
+    (λ c. search arith)
+    (λ c κs. search arith)
     returns-3)

@@ -1,5 +1,4 @@
 -- The 14 bytes, then the names, then the numbers.
-use borrow.Author.Needs.{needs}
 use borrow.Author.Tests.{lt-ltb, le-ltb}
 use Prim.Native.Nat.{_+_}
 use native.Mathlib.Omega.{arith}
@@ -33,15 +32,15 @@ pub read-group-arc-spec : {M : Type 1} → statement M
 read-group-arc-spec =
     tie.close
     (tie.spec
-    (λ c. search needs)
-    (λ c. search needs)
-    (λ c κs. search needs)
-    (λ c. search needs)
-    (λ c κs. search needs)
+    (λ c. search arith)
+    (λ c. search arith)
+    (λ c κs. search arith)
+    (λ c. search arith)
+    (λ c κs. search arith)
     returns
-    (λ c κs. search needs)
-    (λ c. search needs)
+    (λ c κs. search arith)
+    (λ c. search arith)
     returns-2
-    (λ c. search needs)
-    (λ c κs. search needs)
+    (λ c. search arith)
+    (λ c κs. search arith)
     returns-3)

@@ -1,6 +1,6 @@
 -- By the version.
-use borrow.Author.Needs.{needs}
 use mathlib.Core.Path.{sym, _∙_}
+use native.Mathlib.Omega.{arith}
 use Rattle.nets.specs.Nets.{arcSection}
 use Rattle.nets.proofs.net.arc_section.Statement.{statement}
 use Rattle.nets.proofs.net.arc_section.Tie as tie
@@ -20,4 +20,4 @@ returns-2 c =
 pub arc-section-spec : {M : Type 1} → statement M
 arc-section-spec =
     tie.close
-    (tie.spec (λ c κs. search needs) (λ c. search needs) (λ c κs. search needs) (λ c. search needs) (λ c κs. search needs) returns returns-2)
+    (tie.spec (λ c κs. search arith) (λ c. search arith) (λ c κs. search arith) (λ c. search arith) (λ c κs. search arith) returns returns-2)

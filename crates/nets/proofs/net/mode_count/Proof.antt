@@ -1,5 +1,4 @@
 -- The total of the modes.
-use borrow.Author.Needs.{needs}
 use native.Mathlib.Omega.{arith}
 use Rattle.heads.specs.Layout.{modeCount}
 use Rattle.nets.proofs.net.mode_count.Statement.{statement}
@@ -23,12 +22,12 @@ pub mode-count-spec : {M : Type 1} → statement M
 mode-count-spec =
     tie.close
     (tie.spec
-    (λ c κs. search needs)
-    (λ c. search needs)
-    (λ c κs. search needs)
-    (λ c. search needs)
-    (λ c. search needs)
-    (λ c. search needs)
-    (λ c κs. search needs)
+    (λ c κs. search arith)
+    (λ c. search arith)
+    (λ c κs. search arith)
+    (λ c. search arith)
+    (λ c. search arith)
+    (λ c. search arith)
+    (λ c κs. search arith)
     total-of-requires
     returns)

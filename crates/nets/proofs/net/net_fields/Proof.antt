@@ -1,5 +1,5 @@
 -- The counts, then the pairs and arcs.
-use borrow.Author.Needs.{needs}
+use native.Mathlib.Omega.{arith}
 use Rattle.model.proofs.Refusals.{answer-none, answer-stops, answer-goes-on}
 use Rattle.nets.specs.Nets.{netFields}
 use Rattle.fields.proofs.RunningTotals.{counted}
@@ -33,13 +33,13 @@ pub net-fields-spec : {M : Type 1} → statement M
 net-fields-spec =
     tie.close
     (tie.spec
-    (λ c κs. search needs)
-    (λ c. search needs)
+    (λ c κs. search arith)
+    (λ c. search arith)
     returns
-    (λ c. search needs)
-    (λ c κs. search needs)
-    (λ c. search needs)
+    (λ c. search arith)
+    (λ c κs. search arith)
+    (λ c. search arith)
     returns-2
-    (λ c. search needs)
+    (λ c. search arith)
     pair-and-arc-fields-requires
     returns-3)

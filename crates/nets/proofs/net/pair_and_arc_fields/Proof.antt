@@ -1,5 +1,4 @@
 -- The pairs, then the arcs.
-use borrow.Author.Needs.{needs}
 use native.Mathlib.Omega.{arith}
 use Rattle.heads.proofs.Heads.{fields-at-most}
 use Rattle.model.proofs.Refusals.{answer-stops, answer-goes-on}
@@ -42,14 +41,14 @@ pub pair-and-arc-fields-spec : {M : Type 1} → statement M
 pair-and-arc-fields-spec =
     tie.close
     (tie.spec
-    (λ c κs. search needs)
-    (λ c κs. search needs)
+    (λ c κs. search arith)
+    (λ c κs. search arith)
     read-pairs-requires
-    (λ c. search needs)
+    (λ c. search arith)
     returns
-    (λ c. search needs)
-    (λ c κs. search needs)
-    (λ c. search needs)
-    (λ c. search needs)
+    (λ c. search arith)
+    (λ c κs. search arith)
+    (λ c. search arith)
+    (λ c. search arith)
     arc-section-requires
     returns-2)

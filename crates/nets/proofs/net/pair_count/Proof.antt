@@ -1,5 +1,4 @@
 -- The total of the colours.
-use borrow.Author.Needs.{needs}
 use native.Mathlib.Omega.{arith}
 use Rattle.heads.specs.Layout.{pairCount}
 use Rattle.nets.proofs.net.pair_count.Statement.{statement}
@@ -17,4 +16,4 @@ unfolding pairCount
 returns c = let at = c .before .before .fields-at .ensures .0 in rw (at, rw at at (c .before .count-at .ensures .0)) at (c .total-of .ensures)
 
 pub pair-count-spec : {M : Type 1} → statement M
-pair-count-spec = tie.close (tie.spec (λ c κs. search needs) (λ c. search needs) (λ c κs. search needs) total-of-requires returns)
+pair-count-spec = tie.close (tie.spec (λ c κs. search arith) (λ c. search arith) (λ c κs. search arith) total-of-requires returns)

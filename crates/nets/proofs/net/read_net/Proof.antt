@@ -1,5 +1,5 @@
 -- The head, then the fields.
-use borrow.Author.Needs.{needs}
+use native.Mathlib.Omega.{arith}
 use Rattle.model.proofs.Refusals.{answer-none, answer-stops, answer-goes-on}
 use Rattle.nets.specs.Nets.{netRefusal}
 use Rattle.heads.proofs.Heads.{head-holds}
@@ -20,4 +20,4 @@ returns-2 c = answer-goes-on _ _ (c .before .before .before .read-head .ensures)
 pub read-net-spec : {M : Type 1} → statement M
 read-net-spec =
     tie.close
-    (tie.spec (λ c κs. search needs) (λ c. search needs) returns (λ c. search needs) net-fields-requires returns-2)
+    (tie.spec (λ c κs. search arith) (λ c. search arith) returns (λ c. search arith) net-fields-requires returns-2)

@@ -1,5 +1,4 @@
 -- The byte is there, then it is 0 or 1.
-use borrow.Author.Needs.{needs}
 use borrow.Author.Tests.{lt-ltb, le-ltb}
 use native.Mathlib.Omega.{arith}
 use Rattle.model.specs.First.{_▸_}
@@ -29,10 +28,10 @@ pub read-rule-spec : {M : Type 1} → statement M
 read-rule-spec =
     tie.close
     (tie.spec
-    (λ c κs. search needs)
-    (λ c κs. search needs)
+    (λ c κs. search arith)
+    (λ c κs. search arith)
     returns
-    (λ c. search needs)
-    (λ c κs. search needs)
+    (λ c. search arith)
+    (λ c κs. search arith)
     returns-2
     returns-3)

@@ -1,6 +1,6 @@
 -- Version 2 alone has a rule byte.
-use borrow.Author.Needs.{needs}
 use mathlib.Core.Path.{sym, _∙_}
+use native.Mathlib.Omega.{arith}
 use Rattle.nets.specs.Nets.{ruleField}
 use Rattle.nets.proofs.net.rule_field.Statement.{statement}
 use Rattle.nets.proofs.net.rule_field.Tie as tie
@@ -15,4 +15,4 @@ returns-2 c = rw (sym (c .before .before .before .version-of .ensures) ∙ c .be
 pub rule-field-spec : {M : Type 1} → statement M
 rule-field-spec =
     tie.close
-    (tie.spec (λ c κs. search needs) (λ c. search needs) (λ c. search needs) (λ c κs. search needs) returns returns-2)
+    (tie.spec (λ c κs. search arith) (λ c. search arith) (λ c. search arith) (λ c κs. search arith) returns returns-2)

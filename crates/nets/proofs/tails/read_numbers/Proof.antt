@@ -1,5 +1,4 @@
 -- The four tests as the definition has them, each field read once.
-use borrow.Author.Needs.{needs}
 use borrow.Author.Tests.{lt-ltb, le-ltb}
 use Prim.Native.Nat.{_+_}
 use mathlib.Core.Path.{_≡_, sym, _∙_, ap}
@@ -40,12 +39,8 @@ returns-4 c =
     let d = c .before .before .before .before in
     let b = d .before .before .before in
     let a = b .before .before .before .before .args in
-    let p = b .before .before .u32-at .ensures .0 in
-    let q = b .before .u32-at2 .ensures .0 in
     let i = b .u32-at3 .ensures .0 in
-    let t = c .before .before .is-blank .ensures in
-    let h = c .before .if4 .taken in
-    let e : tailBlank (a .s .now) (a .tail) ≡ true = cc in
+    let e : tailBlank (a .s .now) (a .tail) ≡ true = rw (← b .before .before .u32-at .ensures .0, ← b .before .u32-at2 .ensures .0, ← i) (sym (c .before .before .is-blank .ensures) ∙ c .before .if4 .taken) in
     answer-passes _ _ (le-ltb 1000000 (u32At (a .s .now) (a .tail + 2)) (omega arith))
     (answer-passes _ _ (le-ltb 1000000 (u32At (a .s .now) (a .tail + 6)) (omega arith))
     (answer-passes _ _ (ap (λ x. outside (bound x)) (sym i) ∙ sym (d .bound-outside .ensures) ∙ c .before .before .before .if3 .left)
@@ -57,12 +52,8 @@ returns-5 c =
     let d = c .before .before .before in
     let b = d .before .before .before in
     let a = b .before .before .before .before .args in
-    let p = b .before .before .u32-at .ensures .0 in
-    let q = b .before .u32-at2 .ensures .0 in
     let i = b .u32-at3 .ensures .0 in
-    let t = c .before .is-blank .ensures in
-    let h = c .if4 .left in
-    let e : tailBlank (a .s .now) (a .tail) ≡ false = cc in
+    let e : tailBlank (a .s .now) (a .tail) ≡ false = rw (← b .before .before .u32-at .ensures .0, ← b .before .u32-at2 .ensures .0, ← i) (sym (c .before .is-blank .ensures) ∙ c .if4 .left) in
     answer-passes _ _ (le-ltb 1000000 (u32At (a .s .now) (a .tail + 2)) (omega arith))
     (answer-passes _ _ (le-ltb 1000000 (u32At (a .s .now) (a .tail + 6)) (omega arith))
     (answer-passes _ _ (ap (λ x. outside (bound x)) (sym i) ∙ sym (d .bound-outside .ensures) ∙ c .before .before .if3 .left)
@@ -72,23 +63,23 @@ pub read-numbers-spec : {M : Type 1} → statement M
 read-numbers-spec =
     tie.close
     (tie.spec
-    (λ c. search needs)
-    (λ c κs. search needs)
-    (λ c. search needs)
-    (λ c κs. search needs)
-    (λ c. search needs)
-    (λ c κs. search needs)
-    (λ c. search needs)
-    (λ c κs. search needs)
+    (λ c. search arith)
+    (λ c κs. search arith)
+    (λ c. search arith)
+    (λ c κs. search arith)
+    (λ c. search arith)
+    (λ c κs. search arith)
+    (λ c. search arith)
+    (λ c κs. search arith)
     returns
-    (λ c. search needs)
-    (λ c κs. search needs)
+    (λ c. search arith)
+    (λ c κs. search arith)
     returns-2
-    (λ c κs. search needs)
-    (λ c. search needs)
-    (λ c κs. search needs)
+    (λ c κs. search arith)
+    (λ c. search arith)
+    (λ c κs. search arith)
     returns-3
-    (λ c κs. search needs)
-    (λ c κs. search needs)
+    (λ c κs. search arith)
+    (λ c κs. search arith)
     returns-4
     returns-5)

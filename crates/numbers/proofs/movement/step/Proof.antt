@@ -1,5 +1,5 @@
 -- Not there; or what firing the mode's arcs gives.
-use borrow.Author.Needs.{needs}
+use native.Mathlib.Omega.{arith}
 use Rattle.numbers.proofs.Tried.{tries-at, absent-makes, there-makes}
 use Rattle.numbers.proofs.movement.step.Statement.{statement}
 use Rattle.numbers.proofs.movement.step.Tie as tie
@@ -25,8 +25,8 @@ pub step-spec : {M : Type 1} → statement M
 step-spec =
     tie.close
     (tie.spec
-    (λ c. search needs)
+    (λ c. search arith)
     returns
     fire-within-requires
-    (λ c. search needs)
+    (λ c. search arith)
     returns-2)

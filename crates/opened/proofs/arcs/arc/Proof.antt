@@ -1,7 +1,6 @@
 -- The four fields of the arc's 14 bytes; its mode is the segment's.
-use borrow.Author.Needs.{needs}
+use mathlib.Core.Path.{refl}
 use native.Mathlib.Omega.{arith}
-use Rattle.sheets.specs.Decoded.{netArcIn}
 use Rattle.opened.proofs.Shapes.{arc-read, arc-small}
 use Rattle.opened.proofs.Segments.{own-there, own-mode}
 use Rattle.opened.proofs.arcs.arc.Statement.{statement}
@@ -14,22 +13,22 @@ small-at-requires c κs =
     (omega (arith, e .1), rw (e .0) (arc-small (start .pre .0) _ _ (own-there (start .pre .1)) (own-mode (start .pre .1))))
 
 returns : tie.Need-returns
-unfolding netArcIn
 returns c =
-    let start = c .before .before .before .before .before .before .before in
-    let e = c .before .before .before .before .before .tail-of .ensures .0 in
-    arc-read (start .pre .0) _ _ (own-there (start .pre .1)) (own-mode (start .pre .1)) _ cc
+    let b = c .before .before .before in
+    let start = b .before .before .before .before in
+    arc-read (start .pre .0) _ _ (own-there (start .pre .1)) (own-mode (start .pre .1)) (b .before .before .tail-of .ensures .0) refl
+    (b .small-at .ensures) (c .before .before .u32-at .ensures .0) (c .before .u32-at2 .ensures .0) (c .u32-at3 .ensures .0)
 
 pub arc-spec : {M : Type 1} → statement M
 arc-spec =
     tie.close
     (tie.spec
-    (λ c κs. search needs)
+    (λ c κs. search arith)
     small-at-requires
-    (λ c. search needs)
-    (λ c κs. search needs)
-    (λ c. search needs)
-    (λ c κs. search needs)
-    (λ c. search needs)
-    (λ c κs. search needs)
+    (λ c. search arith)
+    (λ c κs. search arith)
+    (λ c. search arith)
+    (λ c κs. search arith)
+    (λ c. search arith)
+    (λ c κs. search arith)
     returns)

@@ -1,5 +1,4 @@
 -- In version 1 the arc's own mode stands before its 14 bytes.
-use borrow.Author.Needs.{needs}
 use Prim.Native.Nat.{_+_}
 use mathlib.Core.Path.{_≡_, sym, _∙_}
 use native.Mathlib.Omega.{arith}
@@ -26,4 +25,4 @@ returns-2 c =
 pub arc-offset-spec : {M : Type 1} → statement M
 arc-offset-spec =
     tie.close
-    (tie.spec (λ c κs. search needs) (λ c. search needs) (λ c. omega (arith, before c)) (λ c. search needs) (λ c. omega (arith, before c)) returns-2)
+    (tie.spec (λ c κs. search arith) (λ c. search arith) (λ c. omega (arith, before c)) (λ c. search arith) (λ c. omega (arith, before c)) returns-2)

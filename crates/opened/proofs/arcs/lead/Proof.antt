@@ -1,5 +1,4 @@
 -- By the version.
-use borrow.Author.Needs.{needs}
 use mathlib.Core.Path.{sym, ap}
 use native.Mathlib.Omega.{arith}
 use Rattle.opened.specs.Shape.{leadOf}
@@ -14,4 +13,4 @@ returns-2 c =
 pub lead-spec : {M : Type 1} → statement M
 lead-spec =
     tie.close
-    (tie.spec (λ c. search needs) (λ c. search needs) (λ c. search needs) (λ c. search needs) (λ c. search needs) (λ c. search needs) returns-2)
+    (tie.spec (λ c. search arith) (λ c. search arith) (λ c. search arith) (λ c. search arith) (λ c. search arith) (λ c. search arith) returns-2)

@@ -1,5 +1,4 @@
 -- The three numbers by the version; the arc is one of its mode's.
-use borrow.Author.Needs.{needs}
 use Prim.Native.Nat.{_+_, _*_, _≤_}
 use mathlib.Core.Path.{sym, _∙_, ap, subst}
 use lib.ListN.{length}
@@ -35,9 +34,9 @@ pub tail-of-spec : {M : Type 1} → statement M
 tail-of-spec =
     tie.close
     (tie.spec
-    (λ c κs. search needs)
+    (λ c κs. search arith)
     (λ c. omega (arith, arcs-at-most (c .before .before .before .before .pre .0), c .before .lead .ensures .1))
-    (λ c κs. search needs)
+    (λ c κs. search arith)
     (λ c. let start = c .before .before .before .before .before .before in omega (arith, within start))
     (λ c. fits (steps c))
     (λ c. sum-fits (arcs-at-most (c .before .before .before .before .before .before .pre .0)) (c .before .before .before .lead .ensures .1) (steps c))

@@ -38,7 +38,7 @@ arcs-before-spec =
     μ-loop
     loop-holds
     group-end-requires
-    (λ c. search needs)
-    (λ c. search needs)
-    (λ c. (search needs, c .group-end .ensures))
+    (λ c. search arith)
+    (λ c. search arith)
+    (λ c. (search arith, c .group-end .ensures))
     returns)

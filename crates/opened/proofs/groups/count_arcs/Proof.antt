@@ -1,5 +1,4 @@
 -- By the version.
-use borrow.Author.Needs.{needs}
 use mathlib.Core.Path.{sym, _∙_, ap}
 use native.Mathlib.Omega.{arith}
 use Rattle.heads.specs.Bytes.{u16At}
@@ -33,9 +32,9 @@ count-arcs-spec =
     tie.close
     (tie.spec
     (λ c κs. omega (arith, headed _ (c .before .pre .0)))
-    (λ c. search needs)
+    (λ c. search arith)
     count-at-requires
-    (λ c. search needs)
+    (λ c. search arith)
     arcs-before-requires
     returns
     returns-2)

@@ -1,5 +1,4 @@
 -- A movement sheet's modes stand from its first field on.
-use borrow.Author.Needs.{needs}
 use mathlib.Core.Path.{sym, _∙_}
 use native.Mathlib.Omega.{arith}
 use Rattle.sheets.proofs.Lists.{movements-length, movement-is, movements-stand}
@@ -17,4 +16,4 @@ returns c =
     rw (c .before .movements-at .ensures) at (c .mode-at .ensures) ∙ sym (movement-is _ _ (start .pre .1))
 
 pub movement-spec : {M : Type 1} → statement M
-movement-spec = tie.close (tie.spec (λ c κs. search needs) mode-at-requires returns)
+movement-spec = tie.close (tie.spec (λ c κs. search arith) mode-at-requires returns)

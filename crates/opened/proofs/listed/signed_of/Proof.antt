@@ -1,7 +1,7 @@
 -- A number of 2^31 or more stands for itself less 2^32.
-use borrow.Author.Needs.{needs}
 use mathlib.Core.Path.{refl}
 use mir.Facts.{toZ-ofZ}
+use native.Mathlib.Omega.{arith}
 use Rattle.lists.specs.Weights.{signed}
 use Rattle.opened.proofs.TwosComplement.{less, less-fits32, less-fits64}
 use Rattle.opened.proofs.listed.signed_of.Statement.{statement}
@@ -24,4 +24,4 @@ returns-2 c =
     rw (toZ-ofZ f, toZ-ofZ e) (less _ (c .if1 .left) (c .before .fits .x))
 
 pub signed-of-spec : {M : Type 1} → statement M
-signed-of-spec = tie.close (tie.spec (λ c. search needs) (λ c. search needs) sub-result cast-result-3 returns returns-2)
+signed-of-spec = tie.close (tie.spec (λ c. search arith) (λ c. search arith) sub-result cast-result-3 returns returns-2)

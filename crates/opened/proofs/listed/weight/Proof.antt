@@ -1,5 +1,4 @@
 -- The weight's four bytes are there, and within its limits.
-use borrow.Author.Needs.{needs}
 use mathlib.Core.Path.{_≡_, sym, _∙_}
 use native.Mathlib.Omega.{arith}
 use mir.Syntax.{w32}
@@ -28,4 +27,4 @@ returns c =
 pub weight-spec : {M : Type 1} → statement M
 weight-spec =
     tie.close
-    (tie.spec (λ c. search needs) (λ c. search needs) (λ c. search needs) u32-at-requires (λ c κs. search needs) returns)
+    (tie.spec (λ c. search arith) (λ c. search arith) (λ c. search arith) u32-at-requires (λ c κs. search arith) returns)

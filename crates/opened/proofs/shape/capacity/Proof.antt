@@ -1,5 +1,5 @@
 -- K of the pair that stands there.
-use borrow.Author.Needs.{needs}
+use native.Mathlib.Omega.{arith}
 use Rattle.opened.proofs.Shapes.{capacity-read}
 use Rattle.opened.proofs.shape.capacity.Statement.{statement}
 use Rattle.opened.proofs.shape.capacity.Tie as tie
@@ -10,4 +10,4 @@ returns c =
     rw (c .u32-at .ensures .0, c .before .pair-at .ensures .0) (capacity-read (start .pre .0) (start .args .pair .0) (start .pre .1))
 
 pub capacity-spec : {M : Type 1} → statement M
-capacity-spec = tie.close (tie.spec (λ c κs. search needs) (λ c κs. search needs) returns)
+capacity-spec = tie.close (tie.spec (λ c κs. search arith) (λ c κs. search arith) returns)

@@ -1,5 +1,4 @@
 -- The count is in the sheet, and is the place's.
-use borrow.Author.Needs.{needs}
 use Prim.Native.Nat.{_+_, _*_, _≤_}
 use lib.ListN.{length}
 use native.Mathlib.Omega.{arith}
@@ -21,7 +20,7 @@ colours-of-spec =
     tie.close
     (tie.spec
     (λ c κs. headed _ (c .before .pre .0 .accepted))
-    (λ c. search needs)
+    (λ c. search arith)
     (λ c. omega (arith, there c))
     (λ c. omega (arith, there c))
     (λ c κs. there c)

@@ -1,5 +1,4 @@
 -- The pair is in the sheet.
-use borrow.Author.Needs.{needs}
 use native.Mathlib.Omega.{arith}
 use Rattle.opened.proofs.Shapes.{shaped, pair-there}
 use Rattle.opened.proofs.shape.pair_at.Statement.{statement}
@@ -16,4 +15,4 @@ returns c =
     omega (arith, shaped (start .pre .0), pair-there (start .pre .0) (start .args .pair .0) (start .pre .1))
 
 pub pair-at-spec : {M : Type 1} → statement M
-pair-at-spec = tie.close (tie.spec (λ c. search needs) (λ c. search needs) add-result returns)
+pair-at-spec = tie.close (tie.spec (λ c. search arith) (λ c. search arith) add-result returns)

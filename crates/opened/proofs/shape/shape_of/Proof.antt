@@ -1,10 +1,10 @@
 -- The counts of an accepted sheet hold, and its arcs are counted by its version.
-use borrow.Author.Needs.{needs}
+use mathlib.Core.Path.{sym, _∙_}
 use native.Mathlib.Omega.{arith}
 use Rattle.heads.proofs.Heads.{fields-at-most}
 use Rattle.nets.proofs.Valid.{headed, counts-hold}
 use Rattle.sheets.proofs.Meaning.{rule-is}
-use Rattle.opened.specs.Shape.{shapeOf}
+use Rattle.opened.proofs.Shapes.{shape-is}
 use Rattle.opened.proofs.shape.shape_of.Statement.{statement}
 use Rattle.opened.proofs.shape.shape_of.Tie as tie
 
@@ -27,17 +27,30 @@ add-at c =
     let most = fields-at-most (start .args .s .now) in
     omega (arith, most, c .pairs-at .ensures, c .before .before .pair-count .ensures, counts .pairs, counts .sized .places, counts .sized .transitions)
 
+count-arcs-requires : tie.Need-count-arcs-requires
+count-arcs-requires c κs = (
+  c .before .before .before .before .before .before .before .before .before .pre,
+  (rw (c .pairs-at .ensures, c .before .before .pair-count .ensures), c .before .mode-count .ensures),
+)
+
 returns : tie.Need-returns
-unfolding shapeOf
 returns c =
-    let rule = c .before .before .before .before .before .before .before .rule-of .ensures in
-    let version = c .before .before .before .before .before .before .before .before .version-of .ensures in
-    let is = rw version at rule in
-    let fields = c .before .before .before .before .before .before .fields-at .ensures .0 in
-    let places = rw fields at (c .before .before .before .before .before .count-at .ensures .0) in
-    let transitions = rw fields at (c .before .before .before .before .count-at2 .ensures .0) in
-    let named = rule-is (c .before .before .before .before .before .before .before .before .before .before .args .s .now) in
-    cc
+    let counted = c .before .before .before in
+    let fields = counted .before .before .before in
+    let place = fields .fields-at .ensures .0 in
+    let version = fields .before .before .version-of .ensures in
+    shape-is
+    (record {
+      version = version;
+      rule = rw version at (fields .before .rule-of .ensures) ∙ sym (rule-is _);
+      places = rw place at (counted .before .before .count-at .ensures .0);
+      transitions = rw place at (counted .before .count-at2 .ensures .0);
+      pairs = counted .pair-count .ensures;
+      modes = c .before .before .mode-count .ensures;
+      arcs = c .count-arcs .ensures;
+      pairsAt = c .before .pairs-at .ensures;
+      arcsAt = rw (c .before .pairs-at .ensures, counted .pair-count .ensures);
+    })
 
 pub shape-of-spec : {M : Type 1} → statement M
 shape-of-spec =
@@ -47,12 +60,12 @@ shape-of-spec =
     rule-of-requires
     (λ c κs. headed _ (c .before .before .before .pre))
     count-at-requires
-    (λ c. search needs)
+    (λ c. search arith)
     count-at-requires-2
     (λ c κs. counts-hold _ (c .before .before .before .before .before .before .pre))
     (λ c κs. counts-hold _ (c .before .before .before .before .before .before .before .pre))
     (λ c κs. counts-hold _ (c .before .before .before .before .before .before .before .before .pre))
     mul-at
     add-at
-    (λ c κs. search needs)
+    count-arcs-requires
     returns)

@@ -1,5 +1,4 @@
 -- The first field of the arc, below 256.
-use borrow.Author.Needs.{needs}
 use Prim.Native.Nat.{_+_, _*_, _≤_, _<_}
 use mathlib.Core.Path.{_≡_, sym, _∙_}
 use lib.ListN.{length}
@@ -35,5 +34,5 @@ arc-mode-spec =
     (λ c. omega (arith, there (c .before .before)))
     (λ c. omega (arith, there (c .before .before)))
     (λ c κs. (there (c .before .before), small (c .before .before)))
-    (λ c. search needs)
+    (λ c. search arith)
     (λ c. c .small-at .ensures ∙ read (c .before .before .before)))

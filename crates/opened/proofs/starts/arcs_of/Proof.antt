@@ -1,5 +1,4 @@
 -- From the table's entry of the mode to the next.
-use borrow.Author.Needs.{needs}
 use Prim.Native.Nat.{_+_, _<_}
 use lib.ListN.{getD}
 use native.Mathlib.Omega.{arith}
@@ -28,12 +27,12 @@ pub arcs-of-spec : {M : Type 1} → statement M
 arcs-of-spec =
     tie.close
     (tie.spec
-    (λ c. search needs)
-    (λ c. search needs)
+    (λ c. search arith)
+    (λ c. search arith)
     (λ c. omega (arith, there (c .before)))
     (λ c. omega (arith, starts (c .before .before), sizes (c .before .before .pre .0)))
-    (λ c. search needs)
-    (λ c. search needs)
+    (λ c. search arith)
+    (λ c. search arith)
     (λ c. omega (arith, there (c .before .before)))
     (λ c. omega (arith, ends (c .before .before .before), sizes (c .before .before .before .pre .0)))
     (λ c. in-turn _ (c .before .before .before .args .mode) _ _ (starts (c .before .before .before)) (ends (c .before .before .before)))

@@ -1,5 +1,5 @@
 -- From the first arc of the mode to the first of a later one.
-use borrow.Author.Needs.{needs}
+use native.Mathlib.Omega.{arith}
 use Rattle.opened.proofs.Segments.{in-turn, segment-of}
 use Rattle.opened.proofs.starts.find_arcs.Statement.{statement}
 use Rattle.opened.proofs.starts.find_arcs.Tie as tie
@@ -11,4 +11,4 @@ returns : tie.Need-returns
 returns c = segment-of _ _ _ _ (c .before .find-start .ensures) (c .next-start .ensures)
 
 pub find-arcs-spec : {M : Type 1} → statement M
-find-arcs-spec = tie.close (tie.spec (λ c. search needs) (λ c κs. search needs) (λ c κs. search needs) sub-t7 returns)
+find-arcs-spec = tie.close (tie.spec (λ c. search arith) (λ c κs. search arith) (λ c κs. search arith) sub-t7 returns)

@@ -1,5 +1,4 @@
 -- By the version.
-use borrow.Author.Needs.{needs}
 use mathlib.Core.Path.{sym, _∙_}
 use native.Mathlib.Omega.{arith}
 use Rattle.opened.proofs.Shapes.{shaped}
@@ -21,4 +20,4 @@ returns-2 c =
 pub find-start-spec : {M : Type 1} → statement M
 find-start-spec =
     tie.close
-    (tie.spec (λ c. search needs) (λ c κs. search needs) (λ c. search needs) arcs-before-requires (λ c. search needs) returns-2)
+    (tie.spec (λ c. search arith) (λ c κs. search arith) (λ c. search arith) arcs-before-requires (λ c. search arith) returns-2)

@@ -1,5 +1,4 @@
 -- The middle arc decides the half.
-use borrow.Author.Needs.{needs}
 use native.Mathlib.Omega.{arith}
 use Rattle.opened.proofs.Shapes.{sizes}
 use Rattle.opened.proofs.Segments.{upper-half, lower-half}
@@ -22,4 +21,4 @@ returns-2 c =
     lower-half _ (sizes (pre .0) .wellFormed .rising) _ _ (pre .1 .1 .0) _ (omega arith) (omega (arith, pre .1 .1 .1)) (rw (← c .before .arc-mode .ensures) (c .if1 .left))
 
 pub halve-spec : {M : Type 1} → statement M
-halve-spec = tie.close (tie.spec (λ c. search needs) (λ c. search needs) arc-mode-requires (λ c. search needs) returns returns-2)
+halve-spec = tie.close (tie.spec (λ c. search arith) (λ c. search arith) arc-mode-requires (λ c. search arith) returns returns-2)

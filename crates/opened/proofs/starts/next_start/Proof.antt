@@ -1,5 +1,4 @@
 -- No arc before k has a later mode; in version 2 the count says how many have this one.
-use borrow.Author.Needs.{needs}
 use native.Mathlib.Omega.{arith}
 use Rattle.opened.proofs.Shapes.{shaped, sizes, group-before}
 use Rattle.opened.proofs.Segments.{below-up}
@@ -27,10 +26,10 @@ pub next-start-spec : {M : Type 1} → statement M
 next-start-spec =
     tie.close
     (tie.spec
-    (λ c. search needs)
-    (λ c. search needs)
+    (λ c. search arith)
+    (λ c. search arith)
     first-from-requires
-    (λ c. search needs)
+    (λ c. search arith)
     group-end-requires
-    (λ c. search needs)
+    (λ c. search arith)
     returns-2)

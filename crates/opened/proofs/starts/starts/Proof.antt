@@ -1,5 +1,4 @@
 -- The entries before t are right, k is the one for t, and the entries from t on say that no arc is left.
-use borrow.Author.Needs.{needs}
 use Prim.Native.Nat.{ℕ, _≤_, _<_, _-_}
 use mathlib.Core.Path.{_≡_, _∙_}
 use mathlib.Core.Logic.{⊎-elim}
@@ -71,8 +70,8 @@ starts-spec =
     (λ c. omega (arith, c .before .loop .inv .2 .inside, sizes (c .before .before .before .before .pre)))
     (λ c. omega (arith, sizes (c .before .before .before .before .pre)))
     (λ c. omega (arith, sizes (c .before .before .before .before .pre)))
-    (λ c κs. search needs)
-    (λ c. search needs)
-    (λ c. search needs)
+    (λ c κs. search arith)
+    (λ c. search arith)
+    (λ c. search arith)
     loop-again
     returns)

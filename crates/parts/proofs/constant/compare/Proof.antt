@@ -33,11 +33,11 @@ compare-spec =
     μ-loop
     (λ c. none-yet _ _ _ (c .pre))
     returns
-    (λ c. search needs)
-    (λ c. search needs)
+    (λ c. search arith)
+    (λ c. search arith)
     returns-2
-    (λ c. search needs)
-    (λ c. search needs)
-    (λ c. search needs)
+    (λ c. search arith)
+    (λ c. search arith)
+    (λ c. search arith)
     loop-again
     returns-3)

@@ -2,7 +2,6 @@
 use mathlib.Core.Path.{refl}
 use native.Mathlib.Omega.{arith}
 use Rattle.parts.proofs.Literals.{stopped, went-on}
-use borrow.Author.Needs.{needs}
 use Rattle.parts.proofs.constant.then_bytes.Statement.{statement}
 use Rattle.parts.proofs.constant.then_bytes.Tie as tie
 
@@ -17,4 +16,4 @@ returns-3 c = went-on (c .before .before .before .before2 .given .1) (λ h. c .c
 
 pub then-bytes-spec : {M : Type 1} → statement M
 then-bytes-spec =
-    tie.close (tie.spec (λ c. search needs) (λ c. search needs) returns (λ c κs. search needs) returns-2 returns-3)
+    tie.close (tie.spec (λ c. search arith) (λ c. search arith) returns (λ c κs. search arith) returns-2 returns-3)

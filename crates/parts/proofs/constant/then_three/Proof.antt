@@ -1,6 +1,6 @@
 -- Three digits are a constant.
+use native.Mathlib.Omega.{arith}
 use Rattle.pnml.specs.Pnml.{three}
-use borrow.Author.Needs.{needs}
 use Rattle.parts.proofs.constant.then_three.Statement.{statement}
 use Rattle.parts.proofs.constant.then_three.Tie as tie
 
@@ -12,12 +12,12 @@ pub then-three-spec : {M : Type 1} → statement M
 then-three-spec =
     tie.close
     (tie.spec
-    (λ c. search needs)
-    (λ c. search needs)
-    (λ c. search needs)
-    (λ c. search needs)
-    (λ c. search needs)
-    (λ c. search needs)
-    (λ c. search needs)
-    (λ c κs. search needs)
+    (λ c. search arith)
+    (λ c. search arith)
+    (λ c. search arith)
+    (λ c. search arith)
+    (λ c. search arith)
+    (λ c. search arith)
+    (λ c. search arith)
+    (λ c κs. search arith)
     returns)

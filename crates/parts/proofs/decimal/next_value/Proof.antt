@@ -1,5 +1,4 @@
 -- The tests in turn.
-use borrow.Author.Needs.{needs}
 use borrow.Author.Tests.{lt-ltb, le-ltb, eq-eqb, ne-eqb}
 use Prim.Native.Nat.{_-_}
 use native.Mathlib.Omega.{arith}
@@ -40,4 +39,4 @@ returns-6 c =
     simp (le-ltb (a .b) 48 (omega arith), le-ltb 57 (a .b) (omega arith), c .before .if3 .left, le-ltb (a .b - 48) (a .low) (omega arith), c .before .before .before .before .wide .ensures .0)
 
 pub next-value-spec : {M : Type 1} → statement M
-next-value-spec = tie.close (tie.spec (λ c κs. search needs) returns returns-2 returns-3 (λ c. search needs) (λ c. search needs) returns-4 returns-5 returns-6)
+next-value-spec = tie.close (tie.spec (λ c κs. search arith) returns returns-2 returns-3 (λ c. search arith) (λ c. search arith) returns-4 returns-5 returns-6)

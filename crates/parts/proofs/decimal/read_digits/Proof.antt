@@ -27,10 +27,10 @@ read-digits-spec =
     Inv-loop
     μ-loop
     (λ c. so-far-none _ _ _ (c .before .pre .0))
-    (λ c. search needs)
-    (λ c κs. search needs)
+    (λ c. search arith)
+    (λ c κs. search arith)
     returns
-    (λ c. search needs)
-    (λ c. search needs)
+    (λ c. search arith)
+    (λ c. search arith)
     loop-again
     (λ c. stuck (c .before .loop .inv) (λ h. absurd (omega (arith, c .loop-test .left)))))

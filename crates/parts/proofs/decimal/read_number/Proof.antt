@@ -1,5 +1,4 @@
 -- The digits, then the byte after them.
-use borrow.Author.Needs.{needs}
 use native.Mathlib.Omega.{arith}
 use Rattle.parts.proofs.Prefixes.{ended-empty, ended-later, found}
 use Rattle.parts.proofs.decimal.read_number.Statement.{statement}
@@ -34,4 +33,4 @@ returns-4 c =
 pub read-number-spec : {M : Type 1} → statement M
 read-number-spec =
     tie.close
-    (tie.spec (λ c κs. search needs) returns returns-2 (λ c. omega (arith, c .before .before .before .read-digits .ensures .inRun, c .before .if2 .left)) (λ c. search needs) returns-3 returns-4)
+    (tie.spec (λ c κs. search arith) returns returns-2 (λ c. omega (arith, c .before .before .before .read-digits .ensures .inRun, c .before .if2 .left)) (λ c. search arith) returns-3 returns-4)

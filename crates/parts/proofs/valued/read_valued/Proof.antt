@@ -2,7 +2,6 @@
 use native.Mathlib.Omega.{arith}
 use Rattle.parts.proofs.Threes.{reads-stop}
 use Rattle.parts.proofs.Values.{number-none, before-part, value-part, value-whole, whole-of, part-of, found-of, ended-of, found-within, tail-part-after, tail-whole-after}
-use borrow.Author.Needs.{needs}
 use Rattle.parts.proofs.valued.read_valued.Statement.{statement}
 use Rattle.parts.proofs.valued.read_valued.Tie as tie
 
@@ -39,17 +38,17 @@ pub read-valued-spec : {M : Type 1} → statement M
 read-valued-spec =
     tie.close
     (tie.spec
-    (λ c. search needs)
-    (λ c. search needs)
+    (λ c. search arith)
+    (λ c. search arith)
     returns
-    (λ c κs. search needs)
-    (λ c. search needs)
-    (λ c. search needs)
+    (λ c κs. search arith)
+    (λ c. search arith)
+    (λ c. search arith)
     returns-2
     sub-compare
     compare-requires
-    (λ c. search needs)
-    (λ c. search needs)
+    (λ c. search arith)
+    (λ c. search arith)
     returns-3
     returns-4
     returns-5)

@@ -4,7 +4,6 @@ use Rattle.pnml.specs.Pnml.{three}
 use Rattle.parts.proofs.Literals.{_and_}
 use Rattle.parts.proofs.Joints.{const-part}
 use Rattle.parts.proofs.Values.{whole-of, part-of, const-reads, whole-within}
-use borrow.Author.Needs.{needs}
 use Rattle.scan.proofs.arc.read_pair.Statement.{statement}
 use Rattle.scan.proofs.arc.read_pair.Tie as tie
 
@@ -30,11 +29,11 @@ pub read-pair-spec : {M : Type 1} → statement M
 read-pair-spec =
     tie.close
     (tie.spec
-    (λ c κs. search needs)
-    (λ c. search needs)
-    (λ c κs. search needs)
-    (λ c. search needs)
-    (λ c. search needs)
+    (λ c κs. search arith)
+    (λ c. search arith)
+    (λ c κs. search arith)
+    (λ c. search arith)
+    (λ c. search arith)
     read-three-requires
     returns
     returns-2)

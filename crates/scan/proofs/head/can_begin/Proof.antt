@@ -1,6 +1,6 @@
 -- Kind by kind.
+use native.Mathlib.Omega.{arith}
 use Rattle.scan.specs.Kinds.{possible}
-use borrow.Author.Needs.{needs}
 use Rattle.scan.proofs.head.can_begin.Statement.{statement}
 use Rattle.scan.proofs.head.can_begin.Tie as tie
 
@@ -28,18 +28,18 @@ pub can-begin-spec : {M : Type 1} → statement M
 can-begin-spec =
     tie.close
     (tie.spec
-    (λ c. search needs)
-    (λ c. search needs)
-    (λ c κs. search needs)
-    (λ c. search needs)
-    (λ c κs. search needs)
-    (λ c. search needs)
-    (λ c κs. search needs)
-    (λ c κs. search needs)
-    (λ c. search needs)
-    (λ c κs. search needs)
-    (λ c κs. search needs)
-    (λ c κs. search needs)
+    (λ c. search arith)
+    (λ c. search arith)
+    (λ c κs. search arith)
+    (λ c. search arith)
+    (λ c κs. search arith)
+    (λ c. search arith)
+    (λ c κs. search arith)
+    (λ c κs. search arith)
+    (λ c. search arith)
+    (λ c κs. search arith)
+    (λ c κs. search arith)
+    (λ c κs. search arith)
     returns
     returns-2
     returns-3

@@ -1,7 +1,7 @@
 -- The constant of each kind.
+use native.Mathlib.Omega.{arith}
 use Rattle.pnml.specs.Pnml.{closing}
 use Rattle.scan.specs.Kinds.{headText}
-use borrow.Author.Needs.{needs}
 use Rattle.scan.proofs.head.compare_head.Statement.{statement}
 use Rattle.scan.proofs.head.compare_head.Tie as tie
 
@@ -29,21 +29,21 @@ pub compare-head-spec : {M : Type 1} → statement M
 compare-head-spec =
     tie.close
     (tie.spec
-    (λ c. search needs)
-    (λ c. search needs)
-    (λ c κs. search needs)
-    (λ c. search needs)
-    (λ c. search needs)
-    (λ c κs. search needs)
-    (λ c. search needs)
-    (λ c. search needs)
-    (λ c κs. search needs)
-    (λ c. search needs)
-    (λ c. search needs)
-    (λ c κs. search needs)
-    (λ c. search needs)
-    (λ c. search needs)
-    (λ c κs. search needs)
+    (λ c. search arith)
+    (λ c. search arith)
+    (λ c κs. search arith)
+    (λ c. search arith)
+    (λ c. search arith)
+    (λ c κs. search arith)
+    (λ c. search arith)
+    (λ c. search arith)
+    (λ c κs. search arith)
+    (λ c. search arith)
+    (λ c. search arith)
+    (λ c κs. search arith)
+    (λ c. search arith)
+    (λ c. search arith)
+    (λ c κs. search arith)
     returns
     returns-2
     returns-3

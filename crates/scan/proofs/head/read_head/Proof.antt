@@ -1,6 +1,6 @@
 -- All five kinds in turn.
+use native.Mathlib.Omega.{arith}
 use Rattle.scan.proofs.Heads.{none-tried}
-use borrow.Author.Needs.{needs}
 use Rattle.scan.proofs.head.read_head.Statement.{statement}
 use Rattle.scan.proofs.head.read_head.Tie as tie
 
@@ -13,9 +13,9 @@ pub read-head-spec : {M : Type 1} → statement M
 read-head-spec =
     tie.close
     (tie.spec
-    (λ c κs. search needs)
-    (λ c κs. search needs)
-    (λ c κs. search needs)
-    (λ c κs. search needs)
-    (λ c κs. search needs)
+    (λ c κs. search arith)
+    (λ c κs. search arith)
+    (λ c κs. search arith)
+    (λ c κs. search arith)
+    (λ c κs. search arith)
     returns)

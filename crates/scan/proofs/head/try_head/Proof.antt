@@ -1,9 +1,9 @@
 -- One kind more, where none before stands.
 use borrow.Author.Tests.{not-true, not-false}
 use mathlib.Core.Path.{refl, sym, _∙_}
+use native.Mathlib.Omega.{arith}
 use Rattle.parts.proofs.Values.{whole-of, part-of}
 use Rattle.scan.proofs.Heads.{stays, not-possible, head-whole, head-farther, head-nearer}
-use borrow.Author.Needs.{needs}
 use Rattle.scan.proofs.head.try_head.Statement.{statement}
 use Rattle.scan.proofs.head.try_head.Tie as tie
 
@@ -26,14 +26,14 @@ pub try-head-spec : {M : Type 1} → statement M
 try-head-spec =
     tie.close
     (tie.spec
-    (λ c. search needs)
-    (λ c. search needs)
+    (λ c. search arith)
+    (λ c. search arith)
     returns
-    (λ c κs. search needs)
+    (λ c κs. search arith)
     returns-2
-    (λ c κs. search needs)
-    (λ c. search needs)
-    (λ c. search needs)
+    (λ c κs. search arith)
+    (λ c. search arith)
+    (λ c. search arith)
     returns-3
     returns-4
     returns-5)

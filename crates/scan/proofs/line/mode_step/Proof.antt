@@ -1,8 +1,8 @@
 -- A transition after its head.
+use native.Mathlib.Omega.{arith}
 use Rattle.parts.proofs.Literals.{_and_}
 use Rattle.parts.proofs.Values.{whole-of, part-of}
 use Rattle.scan.proofs.LineKinds.{transition-stands, transition-stops}
-use borrow.Author.Needs.{needs}
 use Rattle.scan.proofs.line.mode_step.Statement.{statement}
 use Rattle.scan.proofs.line.mode_step.Tie as tie
 
@@ -16,10 +16,10 @@ pub mode-step-spec : {M : Type 1} → statement M
 mode-step-spec =
     tie.close
     (tie.spec
-    (λ c κs. search needs)
-    (λ c. search needs)
-    (λ c κs. search needs)
-    (λ c. search needs)
-    (λ c. search needs)
+    (λ c κs. search arith)
+    (λ c. search arith)
+    (λ c κs. search arith)
+    (λ c. search arith)
+    (λ c. search arith)
     returns
     returns-2)

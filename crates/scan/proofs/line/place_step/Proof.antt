@@ -1,7 +1,7 @@
 -- A place after its head.
+use native.Mathlib.Omega.{arith}
 use Rattle.parts.proofs.Values.{read-is, read-not}
 use Rattle.scan.proofs.LineKinds.{place-stands, place-stops}
-use borrow.Author.Needs.{needs}
 use Rattle.scan.proofs.line.place_step.Statement.{statement}
 use Rattle.scan.proofs.line.place_step.Tie as tie
 
@@ -14,4 +14,4 @@ returns-2 c = record { rest = λ at x. record { how = place-stands (c .before .b
 pub place-step-spec : {M : Type 1} → statement M
 place-step-spec =
     tie.close
-    (tie.spec (λ c κs. search needs) (λ c. search needs) (λ c. search needs) returns returns-2)
+    (tie.spec (λ c κs. search arith) (λ c. search arith) (λ c. search arith) returns returns-2)

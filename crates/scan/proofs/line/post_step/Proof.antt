@@ -1,7 +1,6 @@
 -- A Post arc after its head.
 use native.Mathlib.Omega.{arith}
 use Rattle.scan.proofs.LineKinds.{post-bounds, post-stands, post-stops, arc-is, arc-not}
-use borrow.Author.Needs.{needs}
 use Rattle.scan.proofs.line.post_step.Statement.{statement}
 use Rattle.scan.proofs.line.post_step.Tie as tie
 
@@ -28,11 +27,11 @@ pub post-step-spec : {M : Type 1} → statement M
 post-step-spec =
     tie.close
     (tie.spec
-    (λ c κs. search needs)
-    (λ c κs. search needs)
+    (λ c κs. search arith)
+    (λ c κs. search arith)
     sub-read-arc
     read-arc-requires
-    (λ c. search needs)
-    (λ c. search needs)
+    (λ c. search arith)
+    (λ c. search arith)
     returns
     returns-2)

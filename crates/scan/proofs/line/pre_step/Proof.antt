@@ -1,7 +1,6 @@
 -- A Pre arc after its head.
 use native.Mathlib.Omega.{arith}
 use Rattle.scan.proofs.LineKinds.{pre-bounds, pre-stands, pre-stops, arc-is, arc-not}
-use borrow.Author.Needs.{needs}
 use Rattle.scan.proofs.line.pre_step.Statement.{statement}
 use Rattle.scan.proofs.line.pre_step.Tie as tie
 
@@ -28,10 +27,10 @@ pub pre-step-spec : {M : Type 1} → statement M
 pre-step-spec =
     tie.close
     (tie.spec
-    (λ c κs. search needs)
+    (λ c κs. search arith)
     sub-read-arc
     read-arc-requires
-    (λ c. search needs)
-    (λ c. search needs)
+    (λ c. search arith)
+    (λ c. search arith)
     returns
     returns-2)

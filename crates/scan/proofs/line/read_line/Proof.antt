@@ -1,7 +1,7 @@
 -- A head, and what follows it.
+use native.Mathlib.Omega.{arith}
 use Rattle.parts.proofs.Values.{whole-within}
 use Rattle.scan.proofs.LineKinds.{no-head, head-is, head-not}
-use borrow.Author.Needs.{needs}
 use Rattle.scan.proofs.line.read_line.Statement.{statement}
 use Rattle.scan.proofs.line.read_line.Tie as tie
 
@@ -18,9 +18,9 @@ pub read-line-spec : {M : Type 1} → statement M
 read-line-spec =
     tie.close
     (tie.spec
-    (λ c κs. search needs)
-    (λ c. search needs)
-    (λ c. search needs)
+    (λ c κs. search arith)
+    (λ c. search arith)
+    (λ c. search arith)
     read-rest-requires
     returns
     returns-2)

@@ -1,8 +1,8 @@
 -- The number of the pair, and its count.
 use mathlib.Core.Path.{refl}
+use native.Mathlib.Omega.{arith}
 use Rattle.scan.specs.Kinds.{placeTail}
 use Rattle.parts.proofs.Literals.{_and_}
-use borrow.Author.Needs.{needs}
 use Rattle.scan.proofs.line.read_place.Statement.{statement}
 use Rattle.scan.proofs.line.read_place.Tie as tie
 
@@ -13,9 +13,9 @@ pub read-place-spec : {M : Type 1} → statement M
 read-place-spec =
     tie.close
     (tie.spec
-    (λ c κs. search needs)
-    (λ c. search needs)
-    (λ c κs. search needs)
-    (λ c. search needs)
-    (λ c κs. search needs)
+    (λ c κs. search arith)
+    (λ c. search arith)
+    (λ c κs. search arith)
+    (λ c. search arith)
+    (λ c κs. search arith)
     returns)

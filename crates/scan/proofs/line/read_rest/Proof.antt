@@ -1,8 +1,8 @@
 -- What follows the head, by its kind.
 use mathlib.Core.Path.{sym, _∙_, ap}
+use native.Mathlib.Omega.{arith}
 use Rattle.scan.specs.Kinds.{possible}
 use Rattle.scan.proofs.LineKinds.{rest-of, closing-stands}
-use borrow.Author.Needs.{needs}
 use Rattle.scan.proofs.line.read_rest.Statement.{statement}
 use Rattle.scan.proofs.line.read_rest.Tie as tie
 
@@ -31,14 +31,14 @@ pub read-rest-spec : {M : Type 1} → statement M
 read-rest-spec =
     tie.close
     (tie.spec
-    (λ c. search needs)
-    (λ c. search needs)
-    (λ c κs. search needs)
-    (λ c. search needs)
-    (λ c κs. search needs)
-    (λ c. search needs)
+    (λ c. search arith)
+    (λ c. search arith)
+    (λ c κs. search arith)
+    (λ c. search arith)
+    (λ c κs. search arith)
+    (λ c. search arith)
     pre-step-requires
-    (λ c. search needs)
+    (λ c. search arith)
     post-step-requires
     returns
     returns-2

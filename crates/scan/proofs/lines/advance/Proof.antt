@@ -1,7 +1,7 @@
 -- A line, and the state after it.
+use native.Mathlib.Omega.{arith}
 use Rattle.grammar.specs.Lines.{place, transition, pre, post}
 use Rattle.scan.proofs.Onward.{step-as, arc-small}
-use borrow.Author.Needs.{needs}
 use Rattle.scan.proofs.lines.advance.Statement.{statement}
 use Rattle.scan.proofs.lines.advance.Tie as tie
 
@@ -33,17 +33,17 @@ pub advance-spec : {M : Type 1} → statement M
 advance-spec =
     tie.close
     (tie.spec
-    (λ c κs. search needs)
-    (λ c. search needs)
-    (λ c κs. search needs)
-    (λ c. search needs)
-    (λ c κs. search needs)
-    (λ c. search needs)
+    (λ c κs. search arith)
+    (λ c. search arith)
+    (λ c κs. search arith)
+    (λ c. search arith)
+    (λ c κs. search arith)
+    (λ c. search arith)
     after-pre-requires
-    (λ c. search needs)
+    (λ c. search arith)
     after-post-requires
-    (λ c. search needs)
-    (λ c. search needs)
+    (λ c. search arith)
+    (λ c. search arith)
     returns
     returns-2
     returns-3

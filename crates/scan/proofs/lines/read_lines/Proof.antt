@@ -1,5 +1,4 @@
 -- From line to line, until the closing or where none goes on.
-use borrow.Author.Needs.{needs}
 use Prim.Native.Nat.{_-_}
 use lib.ListN.{length}
 use native.Mathlib.Omega.{arith}
@@ -41,10 +40,10 @@ read-lines-spec =
     μ-loop
     loop-holds
     advance-requires
-    (λ c. search needs)
+    (λ c. search arith)
     returns
-    (λ c. search needs)
+    (λ c. search arith)
     returns-2
-    (λ c. search needs)
+    (λ c. search arith)
     loop-less
     loop-again)

@@ -1,6 +1,6 @@
 -- A pair below the least is the one in hand.
 use borrow.Author.Tests.{lt-ltb, le-ltb}
-use borrow.Author.Needs.{needs}
+use native.Mathlib.Omega.{arith}
 use Rattle.scan.proofs.states.after_post.Statement.{statement}
 use Rattle.scan.proofs.states.after_post.Tie as tie
 
@@ -11,4 +11,4 @@ returns-2 : tie.Need-returns-2
 returns-2 c = rw (le-ltb _ _ (c .before .if1 .left))
 
 pub after-post-spec : {M : Type 1} → statement M
-after-post-spec = tie.close (tie.spec (λ c. search needs) returns (λ c. search needs) (λ c. search needs) returns-2)
+after-post-spec = tie.close (tie.spec (λ c. search arith) returns (λ c. search arith) (λ c. search arith) returns-2)

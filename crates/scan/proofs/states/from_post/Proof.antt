@@ -1,5 +1,5 @@
 -- From the pair in hand on, or the next.
-use borrow.Author.Needs.{needs}
+use native.Mathlib.Omega.{arith}
 use Rattle.scan.proofs.states.from_post.Statement.{statement}
 use Rattle.scan.proofs.states.from_post.Tie as tie
 
@@ -10,4 +10,4 @@ returns : tie.Need-returns
 returns c = rw (c .before .if1 .taken)
 
 pub from-post-spec : {M : Type 1} → statement M
-from-post-spec = tie.close (tie.spec sub-result returns (λ c. search needs))
+from-post-spec = tie.close (tie.spec sub-result returns (λ c. search arith))

@@ -1,5 +1,4 @@
 -- The arc that was read, on its own pair or on the complement pair.
-use borrow.Author.Needs.{needs}
 use mathlib.Core.Path.{_∙_, ap}
 use native.Mathlib.Omega.{arith}
 use Rattle.sheets.specs.Decoded.{netOf}
@@ -36,11 +35,11 @@ pub half-arc-spec : {M : Type 1} → statement M
 half-arc-spec =
     tie.close
     (tie.spec
-    (λ c κs. search needs)
-    (λ c. search needs)
-    (λ c κs. search needs)
-    (λ c. search needs)
-    (λ c κs. search needs)
+    (λ c κs. search arith)
+    (λ c. search arith)
+    (λ c κs. search arith)
+    (λ c. search arith)
+    (λ c κs. search arith)
     complement-pair-requires
     complement-arc-requires
     returns

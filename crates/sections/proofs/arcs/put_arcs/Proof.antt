@@ -19,6 +19,11 @@ Inv-loop s net starts below dead out₀ at modes next₀ t₀ out next t = (t �
 abbrev μ-loop : tie.MeasureT-loop
 μ-loop s net starts below dead out₀ at modes next₀ t₀ out next t = modes - t
 
+arcs-of-requires : tie.Need-arcs-of-requires Inv-loop μ-loop
+arcs-of-requires c κs =
+    let pre = c .before .before .before .before .before .pre in
+    (pre .0, (pre .1 .0, c .before .loop-test .taken))
+
 put-mode-requires : tie.Need-put-mode-requires Inv-loop μ-loop
 put-mode-requires c κs =
     let l = c .before .before .before .before .loop in
@@ -46,13 +51,13 @@ put-arcs-spec =
     (tie.spec
     Inv-loop
     μ-loop
-    (λ c. (search needs, puts-none _))
+    (λ c. (search arith, puts-none _))
     (λ c. omega (arith, sizes (c .before .before .before .before .pre .0) .modesWithin))
     (λ c. omega (arith, sizes (c .before .before .before .before .before .pre .0) .modesWithin))
-    (λ c κs. search needs)
+    arcs-of-requires
     put-mode-requires
     (λ c. omega (arith, sizes (c .before .before .before .before .before .before .before .before .before .before .pre .0) .modesWithin))
-    (λ c. search needs)
+    (λ c. search arith)
     loop-again
     (λ c. c .before .loop .inv .1 .kept)
     returns)

@@ -1,7 +1,7 @@
 -- A blank arc is left out; another is put as its half asks.
-use borrow.Author.Needs.{needs}
 use Prim.Native.Nat.{_+_}
 use mathlib.Core.Path.{sym, _∙_, ap}
+use native.Mathlib.Omega.{arith}
 use Rattle.sheets.specs.Decoded.{netOf}
 use Rattle.written.specs.Written.{arcBytes}
 use Rattle.written.proofs.Puts.{nothing, put-length, room-as, puts-as, arc-fits}
@@ -9,6 +9,11 @@ use Rattle.sections.specs.Arcs.{halfArc}
 use Rattle.sections.proofs.Kept.{left-out, put-whole}
 use Rattle.sections.proofs.arcs.put_half_arc.Statement.{statement}
 use Rattle.sections.proofs.arcs.put_half_arc.Tie as tie
+
+half-arc-requires : tie.Need-half-arc-requires
+half-arc-requires c κs =
+    let pre = c .before .before .pre in
+    (pre .0, (pre .1 .0, (pre .1 .1 .0, pre .1 .1 .1 .0)))
 
 returns : tie.Need-returns
 returns c = puts-as (left-out (c .before .before .half-arc .ensures) (c .before .is-blank .ensures) _ (c .if1 .taken)) nothing
@@ -44,14 +49,14 @@ pub put-half-arc-spec : {M : Type 1} → statement M
 put-half-arc-spec =
     tie.close
     (tie.spec
-    (λ c κs. search needs)
-    (λ c κs. search needs)
+    half-arc-requires
+    (λ c κs. search arith)
     returns
-    (λ c. search needs)
+    (λ c. search arith)
     put-original-requires
-    (λ c. search needs)
+    (λ c. search arith)
     put-new-requires
-    (λ c. search needs)
+    (λ c. search arith)
     returns-2
-    (λ c. search needs)
+    (λ c. search arith)
     returns-3)

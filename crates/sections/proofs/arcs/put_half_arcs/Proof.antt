@@ -1,6 +1,7 @@
 -- The bytes of the arcs passed are put.
 use borrow.Author.Needs.{needs}
 use Prim.Native.Nat.{_≤_, _-_}
+use native.Mathlib.Omega.{arith}
 use Rattle.model.specs.Lists.{joined}
 use Rattle.sheets.specs.Decoded.{netOf}
 use Rattle.sections.specs.Arcs.{halfBytes}
@@ -42,8 +43,8 @@ put-half-arcs-spec =
     μ-loop
     loop-holds
     put-half-arc-requires
-    (λ c. search needs)
-    (λ c. search needs)
+    (λ c. search arith)
+    (λ c. search arith)
     loop-again
     same-length
     returns)

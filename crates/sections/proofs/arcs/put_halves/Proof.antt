@@ -2,6 +2,7 @@
 use borrow.Author.Needs.{needs}
 use Prim.Native.Nat.{_≤_, _-_}
 use mathlib.Core.Path.{sym, ap}
+use native.Mathlib.Omega.{arith}
 use Rattle.model.specs.Lists.{joined}
 use Rattle.sheets.specs.Decoded.{netOf}
 use Rattle.written.specs.Puts.{Puts}
@@ -46,11 +47,11 @@ put-halves-spec =
     (tie.spec
     Inv-loop
     μ-loop
-    (λ c. (search needs, puts-none _))
-    (λ c κs. search needs)
+    (λ c. (search arith, puts-none _))
+    (λ c κs. search arith)
     put-half-arcs-requires
-    (λ c. search needs)
-    (λ c. search needs)
+    (λ c. search arith)
+    (λ c. search arith)
     loop-again
     (λ c. c .before .loop .inv .1 .kept)
     returns)

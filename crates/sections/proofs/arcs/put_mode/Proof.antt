@@ -1,5 +1,4 @@
 -- The arcs, and their count before them where the version has it.
-use borrow.Author.Needs.{needs}
 use mathlib.Core.Path.{refl}
 use native.Mathlib.Omega.{arith}
 use Rattle.sheets.specs.Decoded.{netOf}
@@ -52,10 +51,10 @@ pub put-mode-spec : {M : Type 1} → statement M
 put-mode-spec =
     tie.close
     (tie.spec
-    (λ c κs. search needs)
+    (λ c κs. search arith)
     add-start
     put-halves-requires
     (λ c. omega (arith, c .before .before .before .put-halves .ensures .next))
     put-own-requires
-    (λ c. search needs)
+    (λ c. search arith)
     returns)

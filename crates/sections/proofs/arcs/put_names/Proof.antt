@@ -1,5 +1,5 @@
 -- In version 2 the pair is put where the mode was.
-use borrow.Author.Needs.{needs}
+use native.Mathlib.Omega.{arith}
 use Rattle.sections.proofs.Fields.{names-put}
 use Rattle.sections.proofs.arcs.put_names.Statement.{statement}
 use Rattle.sections.proofs.arcs.put_names.Tie as tie
@@ -13,9 +13,9 @@ pub put-names-spec : {M : Type 1} → statement M
 put-names-spec =
     tie.close
     (tie.spec
-    (λ c κs. search needs)
-    (λ c κs. search needs)
-    (λ c. search needs)
-    (λ c κs. search needs)
-    (λ c. search needs)
+    (λ c κs. search arith)
+    (λ c κs. search arith)
+    (λ c. search arith)
+    (λ c κs. search arith)
+    (λ c. search arith)
     returns)

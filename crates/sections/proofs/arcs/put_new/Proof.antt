@@ -1,6 +1,5 @@
 -- The three numbers, then mode and pair before them; the pair is the one that was worked out.
-use borrow.Author.Needs.{needs}
-use mathlib.Core.Path.{ap}
+use mathlib.Core.Path.{_∙_, ap}
 use mathlib.Core.List.{_++_, flatten}
 use native.Mathlib.Omega.{arith}
 use Rattle.opened.proofs.Shapes.{sizes}
@@ -25,16 +24,22 @@ put32-requires-3 : tie.Need-put32-requires-3
 put32-requires-3 c κs =
     let post = c .before .before .before .before in
     let pre = post .before .before .before .before .before in
-    let both = puts (pre .put32 .ensures) (post .put322 .ensures) in
-    omega (arith, both .kept, both .next, pre .before .mode-size .ensures, pre .before .before .before .before .before .pre .1 .1 .1 .1)
+    omega (arith, post .put322 .ensures .kept ∙ pre .put32 .ensures .kept, post .put322 .ensures .next, pre .put32 .ensures .next, pre .before .mode-size .ensures, pre .before .before .before .before .before .pre .1 .1 .1 .1)
 
 put-names-requires : tie.Need-put-names-requires
 put-names-requires c κs =
     let inhibitor = c .before .before .before .before in
     let post = inhibitor .before .before .before .before .before in
     let pre = post .before .before .before .before .before in
-    let numbers = puts (pre .put32 .ensures) (puts (post .put322 .ensures) (inhibitor .put323 .ensures)) in
-    omega (arith, numbers .kept, pre .before .mode-size .ensures, pre .before .before .before .before .before .pre .1 .1 .1 .1)
+    omega (arith, inhibitor .put323 .ensures .kept ∙ post .put322 .ensures .kept ∙ pre .put32 .ensures .kept, pre .before .mode-size .ensures, pre .before .before .before .before .before .pre .1 .1 .1 .1)
+
+same-length : tie.Need-same-length
+same-length c =
+    let names = c .before .before in
+    let inhibitor = names .before .before .before .before .before in
+    let post = inhibitor .before .before .before .before .before in
+    let pre = post .before .before .before .before .before in
+    names .put-names .ensures .kept ∙ inhibitor .put323 .ensures .kept ∙ post .put322 .ensures .kept ∙ pre .put32 .ensures .kept
 
 returns : tie.Need-returns
 unfolding arcBytes tailBytes flatten bytes32
@@ -55,14 +60,14 @@ pub put-new-spec : {M : Type 1} → statement M
 put-new-spec =
     tie.close
     (tie.spec
-    (λ c κs. search needs)
-    (λ c. search needs)
-    (λ c. search needs)
-    (λ c κs. search needs)
-    (λ c κs. search needs)
-    (λ c κs. search needs)
+    (λ c κs. search arith)
+    (λ c. search arith)
+    (λ c. search arith)
+    (λ c κs. search arith)
+    (λ c κs. search arith)
+    (λ c κs. search arith)
     complement-pair-requires
     put32-requires-3
     put-names-requires
-    (λ c. search needs)
+    same-length
     returns)

@@ -1,5 +1,4 @@
 -- Each read gives the same arc, and the sheet is not written.
-use borrow.Author.Needs.{needs}
 use mathlib.Core.Path.{_∙_, ap}
 use mathlib.Core.List.{flatten}
 use native.Mathlib.Omega.{arith}
@@ -48,11 +47,11 @@ pub put-original-spec : {M : Type 1} → statement M
 put-original-spec =
     tie.close
     (tie.spec
-    (λ c κs. search needs)
-    (λ c κs. search needs)
-    (λ c κs. search needs)
-    (λ c κs. search needs)
-    (λ c κs. search needs)
+    (λ c κs. search arith)
+    (λ c κs. search arith)
+    (λ c κs. search arith)
+    (λ c κs. search arith)
+    (λ c κs. search arith)
     put32-requires-2
     put32-requires-3
     same-length

@@ -1,5 +1,4 @@
 -- The pairs of the place are there.
-use borrow.Author.Needs.{needs}
 use Prim.Native.Nat.{_-_}
 use mathlib.Core.Path.{refl, _∙_, ap₂}
 use native.Mathlib.Omega.{arith}
@@ -38,9 +37,9 @@ pub half-colours-spec : {M : Type 1} → statement M
 half-colours-spec =
     tie.close
     (tie.spec
-    (λ c. search needs)
-    (λ c. search needs)
-    (λ c. search needs)
+    (λ c. search arith)
+    (λ c. search arith)
+    (λ c. search arith)
     bounded-between-requires
     returns
     returns-2)

@@ -72,12 +72,12 @@ put-half-places-spec =
     Inv-loop
     μ-loop
     loop-holds
-    (λ c κs. search needs)
+    (λ c κs. search arith)
     add-end
     half-colours-requires
     put-place-requires
-    (λ c. search needs)
-    (λ c. search needs)
+    (λ c. search arith)
+    (λ c. search arith)
     loop-again
     same-length
     returns)

@@ -1,5 +1,4 @@
 -- No colour, no place.
-use borrow.Author.Needs.{needs}
 use mathlib.Core.Path.{sym}
 use native.Mathlib.Omega.{arith}
 use Rattle.written.proofs.Puts.{nothing, put-length, room-as, puts-as, count-fits}
@@ -24,5 +23,5 @@ put-place-spec =
     (tie.spec
     returns
     put-count-requires
-    (λ c. search needs)
+    (λ c. search arith)
     returns-2)

@@ -1,6 +1,6 @@
 -- The original half, then the new one.
-use borrow.Author.Needs.{needs}
 use mathlib.Core.Path.{sym}
+use native.Mathlib.Omega.{arith}
 use Rattle.sections.proofs.PlaceHalves.{place-parts}
 use Rattle.written.proofs.Puts.{room-as, puts-as, room-first, room-next, puts-both}
 use Rattle.sections.proofs.places.put_places.Statement.{statement}
@@ -21,5 +21,5 @@ put-places-spec =
     (tie.spec
     put-half-places-requires
     put-half-places-requires-2
-    (λ c. search needs)
+    (λ c. search arith)
     returns)

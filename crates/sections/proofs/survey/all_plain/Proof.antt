@@ -1,9 +1,9 @@
 -- The arcs before the i-th are plain: none makes the mode dead, and each is clear.
 use borrow.Author.Needs.{needs}
 use borrow.Author.Tests.{not-false}
-use Prim.Native.Nat.{ℕ, _+_, _≤_, _-_}
+use Prim.Native.Nat.{_+_, _≤_, _-_}
 use mathlib.Core.Path.{_≡_, refl}
-use mathlib.Core.Bool.{true}
+use mathlib.Core.Bool.{true, false≢true}
 use native.Mathlib.Omega.{arith}
 use Rattle.model.proofs.Dead.{Passed}
 use Rattle.sheets.specs.Decoded.{netOf}
@@ -48,12 +48,12 @@ all-plain-spec =
     (tie.spec
     Inv-loop
     μ-loop
-    (λ c. (search needs, λ k h l. absurd (omega arith), every-none _))
-    (λ c κs. search needs)
-    (λ c κs. search needs)
-    (λ c κs. search needs)
-    (λ c e. let z : _≡_ {A = ℕ} 0 1 = cc in absurd (omega arith))
-    (λ c. search needs)
-    (λ c. search needs)
+    (λ c. (search arith, λ k h l. absurd (omega arith), every-none _))
+    (λ c κs. search arith)
+    (λ c κs. search arith)
+    (λ c κs. search arith)
+    (λ c e. absurd (false≢true e))
+    (λ c. search arith)
+    (λ c. search arith)
     loop-again
     returns-2)

@@ -1,5 +1,5 @@
 -- A finite K, or no finite I.
-use borrow.Author.Needs.{needs}
+use native.Mathlib.Omega.{arith}
 use Rattle.sections.proofs.Read.{clear-finite, clear-unbounded}
 use Rattle.sections.proofs.survey.arc_clear.Statement.{statement}
 use Rattle.sections.proofs.survey.arc_clear.Tie as tie
@@ -20,9 +20,9 @@ pub arc-clear-spec : {M : Type 1} → statement M
 arc-clear-spec =
     tie.close
     (tie.spec
-    (λ c κs. search needs)
-    (λ c κs. search needs)
-    (λ c κs. search needs)
+    (λ c κs. search arith)
+    (λ c κs. search arith)
+    (λ c κs. search arith)
     returns
-    (λ c κs. search needs)
+    (λ c κs. search arith)
     returns-2)

@@ -22,6 +22,11 @@ Inv-loop s net starts below dead modes count₀ t₀ count t = (t ≤ modes) × 
 abbrev μ-loop : tie.MeasureT-loop
 μ-loop s net starts below dead modes count₀ t₀ count t = modes - t
 
+arcs-of-requires : tie.Need-arcs-of-requires Inv-loop μ-loop
+arcs-of-requires c κs =
+    let pre = c .before .before .before .before .pre in
+    (pre .0, (pre .1 .0, c .before .loop-test .taken))
+
 count-mode-requires : tie.Need-count-mode-requires Inv-loop μ-loop
 count-mode-requires c κs =
     let start = c .before .before .before .before .before in
@@ -64,13 +69,13 @@ count-arcs-spec =
     (tie.spec
     Inv-loop
     μ-loop
-    (λ c. (search needs, count-none _))
+    (λ c. (search arith, count-none _))
     (λ c. omega (arith, sizes (c .before .before .before .pre .0) .modesWithin))
     (λ c. omega (arith, sizes (c .before .before .before .before .pre .0) .modesWithin))
-    (λ c κs. search needs)
+    arcs-of-requires
     count-mode-requires
     add-count
     (λ c. omega (arith, c .before .before .before .loop-test .taken, sizes (c .before .before .before .before .before .before .pre .0) .modesWithin))
-    (λ c. search needs)
+    (λ c. search arith)
     loop-again
     returns)

@@ -17,9 +17,9 @@ pub count-halves-spec : {M : Type 1} → statement M
 count-halves-spec =
     tie.close
     (tie.spec
-    (λ c κs. search needs)
-    (λ c κs. search needs)
-    (λ c κs. search needs)
-    (λ c κs. search needs)
-    (λ c. search needs)
+    (λ c κs. search arith)
+    (λ c κs. search arith)
+    (λ c κs. search arith)
+    (λ c κs. search arith)
+    (λ c. search arith)
     returns)

@@ -2,6 +2,7 @@
 use borrow.Author.Needs.{needs}
 use mathlib.Core.Path.{sym, ap}
 use lib.ListN.{length}
+use native.Mathlib.Omega.{arith}
 use Rattle.sheets.specs.Decoded.{netArc}
 use Rattle.sections.proofs.Kept.{kept-none, kept-one}
 use Rattle.sections.proofs.survey.count_kept.Statement.{statement}
@@ -17,6 +18,6 @@ pub count-kept-spec : {M : Type 1} → statement M
 count-kept-spec =
     tie.close
     (tie.spec
-    (λ c κs. search needs)
+    (λ c κs. search arith)
     returns
     returns-2)

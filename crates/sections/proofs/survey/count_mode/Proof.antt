@@ -21,6 +21,11 @@ Inv-loop s net below dead arcs end count₀ i₀ count i =
 abbrev μ-loop : tie.MeasureT-loop
 μ-loop s net below dead arcs end count₀ i₀ count i = end - i
 
+count-halves-requires : tie.Need-count-halves-requires Inv-loop μ-loop
+count-halves-requires c κs =
+    let pre = c .before .before .before .pre in
+    (pre .0, (pre .1 .0, (record { own = pre .1 .1 .0; there = c .loop-test .taken }, pre .1 .1 .1)))
+
 add-count : tie.Need-add-count Inv-loop μ-loop
 add-count c =
     let pre = c .before .before .before .before .pre in
@@ -50,10 +55,10 @@ count-mode-spec =
     (tie.spec
     Inv-loop
     μ-loop
-    (λ c. (search needs, count-none _, search needs))
-    (λ c κs. search needs)
+    (λ c. (search arith, count-none _, search arith))
+    count-halves-requires
     add-count
-    (λ c. search needs)
-    (λ c. search needs)
+    (λ c. search arith)
+    (λ c. search arith)
     loop-again
     returns)

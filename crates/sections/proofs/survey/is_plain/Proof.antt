@@ -1,9 +1,7 @@
 -- Within both bounds, and 15 does not stop it.
-use borrow.Author.Needs.{needs}
 use borrow.Author.Tests.{not-true}
-use Prim.Native.Nat.{ℕ}
-use mathlib.Core.Path.{_≡_, sym, _∙_, ap}
-use mathlib.Core.Bool.{not, _&&_}
+use mathlib.Core.Path.{sym, _∙_, ap}
+use mathlib.Core.Bool.{not, _&&_, false≢true}
 use native.Mathlib.Omega.{arith}
 use Rattle.model.specs.Complement.{finite}
 use Rattle.fields.specs.Numbers.{bound}
@@ -29,10 +27,10 @@ pub is-plain-spec : {M : Type 1} → statement M
 is-plain-spec =
     tie.close
     (tie.spec
-    (λ c e. let z : _≡_ {A = ℕ} 0 1 = cc in absurd (omega arith))
-    (λ c. search needs)
-    (λ c e. let z : _≡_ {A = ℕ} 0 1 = cc in absurd (omega arith))
-    (λ c κs. search needs)
+    (λ c e. absurd (false≢true e))
+    (λ c. search arith)
+    (λ c e. absurd (false≢true e))
+    (λ c κs. search arith)
     returns-3
-    (λ c κs. search needs)
+    (λ c κs. search arith)
     returns-4)

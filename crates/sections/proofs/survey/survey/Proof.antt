@@ -62,11 +62,11 @@ survey-spec =
     μ-loop
     loop-holds
     (λ c. omega (arith, sizes (c .before .before .before .pre .0) .modesWithin))
-    (λ c κs. search needs)
+    (λ c κs. search arith)
     survey-mode-requires
-    (λ c κs. search needs)
+    (λ c κs. search arith)
     (λ c. omega (arith, sizes (c .before .before .before .before .before .before .pre .0) .modesWithin, c .before .before .before .loop-test .taken, c .before .before .before .before .loop .inv .1))
     (λ c. omega (arith, sizes (c .before .before .before .before .before .before .pre .0) .modesWithin, c .before .before .before .loop-test .taken))
-    (λ c. search needs)
+    (λ c. search arith)
     loop-again
     returns)

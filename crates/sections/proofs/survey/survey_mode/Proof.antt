@@ -1,5 +1,5 @@
 -- Where all arcs are plain there is no fault.
-use borrow.Author.Needs.{needs}
+use native.Mathlib.Omega.{arith}
 use Rattle.sections.proofs.survey.survey_mode.Statement.{statement}
 use Rattle.sections.proofs.survey.survey_mode.Tie as tie
 
@@ -7,4 +7,4 @@ returns : tie.Need-returns
 returns c = c .before .all-plain .ensures (c .if1 .taken)
 
 pub survey-mode-spec : {M : Type 1} → statement M
-survey-mode-spec = tie.close (tie.spec (λ c κs. search needs) returns (λ c κs. search needs) (λ c. search needs))
+survey-mode-spec = tie.close (tie.spec (λ c κs. search arith) returns (λ c κs. search arith) (λ c. search arith))
