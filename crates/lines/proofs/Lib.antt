@@ -1,2 +1,2 @@
 pub mod LineSizes
-pub mod Room
+mod Room
