@@ -134,20 +134,6 @@ module _ (f : Fleet) (s : Ship) where
   unfolding entered shipRefusal
   chain = refl
 
-  -- the ways out of the chain up to the net
-  pub record-refused : isOutOfBounds f ≡ true → giving f (Refused (wrong Net RecordOutside)) ≡ entered f s
-  record-refused e = stops _ _ (record-stops f e) refl ∙ chain
-
-  pub ships-refused : isOutOfBounds f ≡ false → 1000 < f .ships + 1 → giving f (Refused (wrong Argument (CountOutside 0))) ≡ entered f s
-  ships-refused e h = goes-on _ _ (record-passes f e) (stops _ _ (room-stops f h) refl) ∙ chain
-
-  pub net-refused : {r : Refusal} → isOutOfBounds f ≡ false → f .ships + 1 ≤ 1000 → wholeNet (s .net) ≡ some r → giving f (Refused r) ≡ entered f s
-  net-refused e h q = goes-on _ _ (record-passes f e) (goes-on _ _ (room-passes f h) (stops _ _ q refl)) ∙ chain
-
-  pub net-passes : {x : Entered} → isOutOfBounds f ≡ false → f .ships + 1 ≤ 1000 → wholeNet (s .net) ≡ none
-      → x ≡ enteredBy (wholeWeights (pairs (netOf (s .net))) (s .weights) ▸ wholeMovements (s .movements) ▸ figureRefusal f s) f s → x ≡ entered f s
-  net-passes e h q g = goes-on _ _ (record-passes f e) (goes-on _ _ (room-passes f h) (goes-on _ _ q g)) ∙ chain
-
   module _ {v : Voyage} {next : Fleet} {a b : Bool} (at : v ≡ voyageOf s) (is : next ≡ withVoyage f v) (p : a ≡ isPast (next .added)) (q : b ≡ isPast (next .removed)) where
     next-is : next ≡ withVoyage f (voyageOf s)
     next-is = is ∙ ap (withVoyage f) at
