@@ -1,10 +1,10 @@
 -- One ship into the record: the chain of its refusals, and what 25 leaves of a record.
 use Prim.Native.Nat.{ℕ, _+_, _≤_, _<_}
 use mathlib.Core.Path.{_≡_, refl, sym, _∙_, ap}
-use mathlib.Core.Bool.{Bool, true, false, false≢true, true≢false, _||_}
+use mathlib.Core.Bool.{Bool, true, false, cond, false≢true, true≢false, _||_}
 use mathlib.Core.Option.{Option, none, some}
-use lib.Dec.{ltb}
-use lib.IntN.{ℤ, pos, negsuc, natAbs}
+use lib.Dec.{ltb, eqb}
+use lib.IntN.{ℤ, pos, negsuc, natAbs, _+ℤ_}
 use native.Mathlib.Omega.{arith}
 use borrow.Author.Tests.{ltb-true, ltb-false, lt-ltb, le-ltb}
 use Rattle.model.specs.declared.Thing.the-variants.{Net, Argument}
@@ -14,7 +14,7 @@ use Rattle.model.specs.declared.Answer.{Answer}
 use Rattle.model.specs.declared.Answer.the-variants.{Accepted, Refused}
 use Rattle.model.specs.First.{_▸_}
 use Rattle.model.specs.Nets.{pairs}
-use Rattle.model.specs.Refusals.{wrong}
+use Rattle.model.specs.Refusals.{number, wrong}
 use Rattle.model.proofs.Both.{or-neither}
 use Rattle.model.proofs.Decisions.{Decided}
 use Rattle.model.proofs.First.{none-then, some-then}
@@ -108,6 +108,14 @@ module _ (f : Fleet) where
   pub room-passes : f .ships + 1 ≤ 1000 → roomRefusal f ≡ none
   unfolding roomRefusal
   room-passes h = rw (le-ltb 1000 (f .ships + 1) h)
+
+-- nine sums, each made apart, are the record with one ship more
+pub summed : (f : Fleet) (v : Voyage) {n by6 by11 by12 by13 by14 : ℕ} {added removed : ℤ} → n ≡ number (v .answer)
+    → by6 ≡ f .by6 + cond (eqb n 6) 1 0 → by11 ≡ f .by11 + cond (eqb n 11) 1 0 → by12 ≡ f .by12 + cond (eqb n 12) 1 0
+    → by13 ≡ f .by13 + cond (eqb n 13) 1 0 → by14 ≡ f .by14 + cond (eqb n 14) 1 0 → added ≡ f .added +ℤ v .added → removed ≡ f .removed +ℤ v .removed
+    → _≡_ {A = Fleet} (record { ships = f .ships + 1; movements = f .movements + v .accepted; by6 = by6; by11 = by11; by12 = by12; by13 = by13; by14 = by14; added = added; removed = removed }) (withVoyage f v)
+unfolding withVoyage
+summed f v n by6 by11 by12 by13 by14 added removed = rw (by6, by11, by12, by13, by14, n, added, removed)
 
 abbrev pub giving : Fleet → Answer → Entered
 giving f a = record { fleet = f; answer = a }

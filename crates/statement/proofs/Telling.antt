@@ -118,9 +118,15 @@ module _ {s : List ℕ} {shape : NetShape} {w movements : List ℕ} (read : Read
       omega (arith, counted, short)
 
   module _ {out₀ : List ℕ} {at k : ℕ} {z : ℤ} {end : ℕ} {out : List ℕ} (along : Along net weights ts out₀ at k z end out) where
-    -- there is room for the last lines, and so for an accepted one
+    -- there is room for the last lines, and so for an accepted one, and for the line `end`
     pub along-room : k ≤ accepted → at + mostLines ≤ length out₀ → end + 159 ≤ length out
     along-room h l = rw (length-kept (along .told)) (omega (arith, along .told .next, along .told .within, at-most))
+
+    pub along-line : k < accepted → at + mostLines ≤ length out₀ → end + 84 ≤ length out
+    along-line h l = omega (arith, along-room (omega arith) l)
+
+    pub along-last : k ≤ accepted → at + mostLines ≤ length out₀ → end + 46 ≤ length out
+    along-last h l = omega (arith, along-room h l)
 
     module _ {t : Mode} (h : k < accepted) (q : t ≡ getD ts k (modeNo 0)) where
       next : drop k (passed net ts) ≡ t ∷ drop (k + 1) (passed net ts)

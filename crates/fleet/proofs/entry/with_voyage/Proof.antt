@@ -2,7 +2,7 @@
 use borrow.Author.Needs.{needs}
 use mir.Syntax.{w64}
 use mir.Facts.{toZ-ofZ}
-use Rattle.ships.specs.Ships.{withVoyage}
+use Rattle.fleet.proofs.Entering.{summed}
 use Rattle.fleet.proofs.entry.with_voyage.Statement.{statement}
 use Rattle.fleet.proofs.entry.with_voyage.Tie as tie
 
@@ -21,7 +21,6 @@ add-figure-requires-2 c κs =
     )
 
 returns : tie.Need-returns
-unfolding withVoyage
 returns c =
     let lost = c .before in
     let had = lost .before in
@@ -34,21 +33,22 @@ returns c =
     let by11 = by12 .before in
     let by6 = by11 .before in
     let number = by6 .before .before .before in
+    summed _ _ (number .number-of .ensures) (by6 .raise .ensures) (by11 .raise2 .ensures) (by12 .raise3 .ensures) (by13 .raise4 .ensures) (by14 .raise5 .ensures)
+    (
     rw (
-      by6 .raise .ensures,
-      by11 .raise2 .ensures,
-      by12 .raise3 .ensures,
-      by13 .raise4 .ensures,
-      by14 .raise5 .ensures,
-      number .number-of .ensures,
       toZ-ofZ {w = w64} (record { sfits = one .add-figure .ok }),
-      toZ-ofZ {w = w64} (record { sfits = c .add-figure2 .ok }),
       one .add-figure .ensures,
-      c .add-figure2 .ensures,
       toZ-ofZ {w = w64} (record { sfits = held .struct-told .given .1 .1 .1 .1 .1 .1 .1 .0 .1 }),
       toZ-ofZ {w = w64} (record { sfits = gained .struct-told2 .given .1 .1 .0 .1 }),
+    )
+    )
+    (
+    rw (
+      toZ-ofZ {w = w64} (record { sfits = c .add-figure2 .ok }),
+      c .add-figure2 .ensures,
       toZ-ofZ {w = w64} (record { sfits = had .struct-told3 .given .1 .1 .1 .1 .1 .1 .1 .1 .0 .1 }),
       toZ-ofZ {w = w64} (record { sfits = lost .struct-told4 .given .1 .1 .1 .0 .1 }),
+    )
     )
 
 pub with-voyage-spec : {M : Type 1} → statement M

@@ -9,7 +9,7 @@ use mir.Val.{toZ}
 use mir.Facts.{toZ-ofZ}
 use Rattle.sheets.specs.Decoded.{netOf, weightsOf, movementsOf}
 use Rattle.opened.proofs.Shapes.{sizes}
-use Rattle.statement.proofs.Telling.{Along, along-none, along-more, along-stops, along-ends, counted, refused-there, along-room, along-entry, next-fits}
+use Rattle.statement.proofs.Telling.{Along, along-none, along-more, along-stops, along-ends, counted, refused-there, along-room, along-line, along-last, along-entry, next-fits}
 use Rattle.statement.proofs.movements.put_movements.Statement.{statement}
 use Rattle.statement.proofs.movements.put_movements.Tie as tie
 
@@ -64,8 +64,7 @@ put-accepted-requires c κs =
     let test = c .before .before .before .before .before in
     let at = test .before in
     let pre = at .before .before .before .before .before .before .before .before .before .pre in
-    let k = test .loop-test .taken in
-    (at .before .before .before .before .twos .ensures, omega (arith, along-room (pre .0) (pre .1 .1 .0) (at .loop .inv .2) (omega arith) (pre .1 .1 .1 .1)))
+    (at .before .before .before .before .twos .ensures, along-line (pre .0) (pre .1 .1 .0) (at .loop .inv .2) (test .loop-test .taken) (pre .1 .1 .1 .1))
 
 loop-again : tie.Need-loop-again Inv-loop μ-loop
 loop-again c =
@@ -111,7 +110,7 @@ put-end-requires : tie.Need-put-end-requires Inv-loop μ-loop
 put-end-requires c κs =
     let at = c .before .before .before .before in
     let pre = at .before .before .before .before .before .before .before .before .before .pre in
-    omega (arith, along-room (pre .0) (pre .1 .1 .0) (at .loop .inv .2) (at .loop .inv .0) (pre .1 .1 .1 .1))
+    along-last (pre .0) (pre .1 .1 .0) (at .loop .inv .2) (at .loop .inv .0) (pre .1 .1 .1 .1)
 
 same-length-2 : tie.Need-same-length-2 Inv-loop μ-loop
 same-length-2 c = c .before .before .put-end .kept .0 ∙ c .before .before .before .before .before .before .before .loop .inv .1
