@@ -5,10 +5,10 @@ use reference::build::{PlainNet, movements, weights};
 use reference::{Fleet, Form};
 
 use crate::demand3::completed;
-use crate::generator::{self, Random, Style, total};
 use crate::guarded;
 use crate::same::Same;
 use crate::{fleet, pnml, rules, versions};
+use generator::{self, Random, Style, total};
 
 /// What every call is tried on.
 #[derive(Clone)]

@@ -4,7 +4,7 @@ use reference::Form;
 use reference::build::{OPEN, PlainNet, sheet};
 
 use crate::case::Case;
-use crate::generator::{Random, total};
+use generator::{Random, total};
 
 /// One fault more, in any of the things.
 pub fn damage(random: &mut Random, case: &mut Case, plain: &mut PlainNet) {

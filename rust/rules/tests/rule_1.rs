@@ -1,14 +1,10 @@
 //! The weak capacity rule: "rule byte 1 in version 2 means M + Post ≤ K + Pre, with the other two conditions as before".
 
-#[path = "support/generator.rs"]
-mod generator;
-mod support;
-
+use crate::support::*;
 use generator::{Random, Style, list, marking, net, step, total};
 use reference::build::{OPEN, PlainArc, PlainNet, arc, movements, weights};
 use reference::search::marking_where;
 use reference::*;
-use support::*;
 
 fn weak(net: &PlainNet) -> Vec<u8> {
     net.sheet_in(Form::Two(Rule::Weak))

@@ -1,13 +1,9 @@
 //! What must hold between the calls, on generated nets.
 
-#[path = "support/generator.rs"]
-mod generator;
-mod support;
-
+use crate::support::*;
 use generator::{Random, Style, list, marking, net, spoil, total};
 use reference::build::{OPEN, PlainNet, movements, weights};
 use reference::*;
-use support::*;
 
 const STYLES: [Style; 3] = [Style::Small, Style::Edges, Style::Lively];
 

@@ -1,13 +1,9 @@
 //! Exchange with PNML tools: the text byte for byte, 19 and 20 at their places, and nets that come back.
 
-#[path = "support/generator.rs"]
-mod generator;
-mod support;
-
+use crate::support::*;
 use generator::{Random, Style, form, net, total};
 use reference::build::{OPEN, PlainNet, arc};
 use reference::*;
-use support::*;
 
 /// The text of a net, with room for the longest.
 fn exported(sheet: &[u8]) -> Result<String, Answer> {

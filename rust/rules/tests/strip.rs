@@ -1,13 +1,9 @@
 //! Stripping a pair: one transition more, whose mode n takes n and is there only while at most n stand there.
 
-#[path = "support/generator.rs"]
-mod generator;
-mod support;
-
+use crate::support::*;
 use generator::{Random, Style, form, marking, net, total};
 use reference::build::{OPEN, PlainArc, PlainNet, arc};
 use reference::*;
-use support::*;
 
 /// What stripping a pair writes with room for the largest sheet.
 fn stripped(sheet: &[u8], pair: u16) -> Result<Vec<u8>, Answer> {

@@ -1,13 +1,9 @@
 //! Salvage of a cut movement sheet.
 
-#[path = "support/generator.rs"]
-mod generator;
-mod support;
-
+use crate::support::*;
 use generator::{Random, Style, form, list, net, spoil};
 use reference::build::{OPEN, PlainNet, arc, movements};
 use reference::*;
-use support::*;
 
 /// What is salvaged with room enough, and the fresh sheet.
 fn salvaged(net: &[u8], damaged: &[u8]) -> Result<(Salvaged, Vec<u8>), Answer> {

@@ -1,13 +1,9 @@
 //! Conversion of net sheets from version 1 to 2 and back.
 
-#[path = "support/generator.rs"]
-mod generator;
-mod support;
-
+use crate::support::*;
 use generator::{Random, Style, form, net, spoil, spoil_net};
 use reference::build::PlainNet;
 use reference::*;
-use support::*;
 
 type Conversion = fn(&[u8], &mut [u8]) -> Result<usize, Answer>;
 

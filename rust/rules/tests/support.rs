@@ -1,5 +1,4 @@
 //! What the tests share: the small net of docs/RULES.md and short ways to name an answer.
-#![allow(dead_code)]
 
 use reference::Answer;
 use reference::build::{OPEN, PlainNet, arc, movements, weights};
