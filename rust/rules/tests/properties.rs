@@ -205,7 +205,7 @@ fn refused_calls_write_nothing_whatever_the_bytes() {
         assert!(begin(&sheet, &mut begun) == ACCEPTED || begun == counts);
         let mut output = vec![170; 35_083];
         let length = complement(&sheet, &mut output).unwrap_or(0);
-        assert!(output[length..].iter().all(|&byte| byte == 170));
+        assert!(untouched(&output[length..]));
         let (answer, taken) = read_net(&sheet);
         assert_eq!(answer == ACCEPTED, taken > 0);
         assert!(taken <= sheet.len());

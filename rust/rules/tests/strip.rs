@@ -9,7 +9,7 @@ use reference::*;
 fn stripped(sheet: &[u8], pair: u16) -> Result<Vec<u8>, Answer> {
     let mut output = vec![170; 35_083];
     let length = strip(sheet, pair, &mut output)?;
-    assert!(output[length..].iter().all(|&byte| byte == 170));
+    assert!(untouched(&output[length..]));
     output.truncate(length);
     Ok(output)
 }
@@ -113,7 +113,7 @@ fn number_10_an_output_one_byte_too_short() {
         let whole = stripped(&sheet, 0).unwrap();
         let (mut short, mut enough) = (vec![170; whole.len() - 1], vec![170; whole.len()]);
         assert_eq!(strip(&sheet, 0, &mut short), Err(refused(10, NET, 0)));
-        assert!(short.iter().all(|&byte| byte == 170));
+        assert!(untouched(&short));
         assert_eq!(strip(&sheet, 0, &mut enough), Ok(whole.len()));
         assert_eq!(enough, whole);
     }

@@ -60,6 +60,11 @@ pub fn followed(sheet: &[u8], bytes: &[u8]) -> Vec<u8> {
     [sheet, bytes].concat()
 }
 
+/// Whether all of these bytes are as they were lent. Whole slices are compared, since byte by byte a test would take ten times as long.
+pub fn untouched(bytes: &[u8]) -> bool {
+    bytes == vec![170; bytes.len()]
+}
+
 /// How far a run comes: how many movements it accepts, and the answer.
 pub fn ran_to(net: &[u8], movements: &[u8], marking: &mut [u32]) -> (u64, Answer) {
     let ran = reference::run(net, movements, marking);
