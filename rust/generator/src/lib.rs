@@ -6,6 +6,7 @@ use reference::build::{OPEN, PlainArc, PlainNet};
 use reference::{Form, Rule};
 
 /// Xorshift, 64 bits.
+#[derive(Clone)]
 pub struct Random(u64);
 
 impl Random {
