@@ -5,10 +5,10 @@ use reference::build::{PlainNet, movements, weights};
 use reference::{Fleet, Form};
 
 use crate::demand3::completed;
-use crate::generator::{self, Random, Style, total};
 use crate::guarded;
 use crate::same::Same;
 use crate::{fleet, pnml, rules, versions};
+use generator::{self, Random, Style, total};
 
 /// What every call is tried on.
 #[derive(Clone)]
@@ -120,18 +120,12 @@ impl Case {
 /// A list of movements from a marking, such as are enabled when they come. One list in four goes on with any modes, and so mostly to
 /// one that is refused; one in eight has a mode somewhere that is refused or is not there.
 pub fn walk(random: &mut Random, net: &[u8], marking: &[u32], modes: usize, most: usize) -> Vec<u16> {
-    let (mut marking, mut list) = (marking.to_vec(), Vec::new());
+    let mut list = Vec::new();
     if modes > 0 {
-        let any = |random: &mut Random| random.below(modes) as u16;
-        for _ in 0..random.below(most + 1) {
-            let tries: Vec<u16> = (0..6).map(|_| any(random)).collect();
-            let enabled =
-                tries.into_iter().find(|&mode| guarded::fire(net, &mut marking, Mode(mode)).is_ok());
-            let Some(mode) = enabled else { break };
-            list.push(mode);
-        }
+        let length = random.below(most + 1);
+        list = enabled(random, net, marking.to_vec(), modes, length);
         if random.once_in(4) {
-            list.extend((0..8).map(|_| any(random)));
+            list.extend((0..8).map(|_| random.below(modes) as u16));
         }
     }
     if random.once_in(8) {
@@ -140,5 +134,33 @@ pub fn walk(random: &mut Random, net: &[u8], marking: &[u32], modes: usize, most
         list.insert(at, random.pick(&odd) as u16);
     }
     list.truncate(8_192);
+    list
+}
+
+/// So many movements from a marking, each the first of six modes that is enabled when it comes; none after one where no mode of the six is. The
+/// first modes of many movements are run as one list, since each call reads the whole net.
+fn enabled(random: &mut Random, net: &[u8], mut marking: Vec<u32>, modes: usize, length: usize) -> Vec<u16> {
+    let six = |random: &mut Random| [(); 6].map(|()| random.below(modes) as u16);
+    let (mut list, mut ahead) = (Vec::new(), 1);
+    while list.len() < length {
+        let mut next = random.clone();
+        let first: Vec<u16> = (0..ahead.min(length - list.len())).map(|_| six(&mut next)[0]).collect();
+        let accepted = guarded::run(net, &movements(&first), &mut marking).accepted;
+        list.extend(&first[..accepted]);
+        for _ in 0..accepted {
+            six(random);
+        }
+        if accepted == first.len() {
+            ahead *= 2;
+            continue;
+        }
+        ahead = 1;
+        let mode = six(random)[1..]
+            .iter()
+            .copied()
+            .find(|&mode| guarded::fire(net, &mut marking, Mode(mode)).is_ok());
+        let Some(mode) = mode else { break };
+        list.push(mode);
+    }
     list
 }

@@ -4,7 +4,7 @@ use reference::Form;
 use reference::build::{OPEN, PlainNet, sheet};
 
 use crate::case::Case;
-use crate::generator::{Random, total};
+use generator::{Random, total};
 
 /// One fault more, in any of the things.
 pub fn damage(random: &mut Random, case: &mut Case, plain: &mut PlainNet) {
@@ -79,9 +79,9 @@ fn spoil_sheet(random: &mut Random, sheet: &mut Vec<u8>) {
     }
 }
 
-/// L says how long the bytes are.
+/// L says how long the bytes are; where there are fewer than 4, it is near its largest, and they hold a part of it.
 pub fn relabel(sheet: &mut [u8]) {
-    let length = sheet.len() as u32 - 4;
+    let length = (sheet.len() as u32).wrapping_sub(4);
     put(sheet, 0, &length.to_be_bytes());
 }
 
@@ -122,7 +122,7 @@ fn spoil_net(random: &mut Random, net: &mut PlainNet) {
 fn spoil_weights(random: &mut Random, case: &mut Case) {
     match random.below(3) {
         0 => put(&mut case.weights, 5, &random.pick(&[0u16, 1, 300, 65_535]).to_be_bytes()),
-        1 => case.pairs = random.pick(&[0, case.pairs + 1, 65_536, usize::MAX]),
+        1 => case.pairs = random.pick(&[0, case.pairs.wrapping_add(1), 65_536, usize::MAX]),
         _ => {
             let weight = random.pick(&[1_000_001, -1_000_001, i32::MAX, i32::MIN]);
             let at = 7 + 4 * random.below((case.weights.len() / 4).max(2) - 1);

@@ -4,9 +4,9 @@ use pnet::Mode;
 use reference::build::PlainNet;
 use reference::search::marking_where;
 
-use crate::generator::total;
 use crate::same::Same;
 use crate::{guarded, rules};
+use generator::total;
 
 /// Counts up to this are tried, more than a small net's Pre.
 const MOST: u32 = 5;

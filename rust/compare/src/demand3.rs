@@ -4,11 +4,11 @@ use pnet::Mode;
 use reference::build::{OPEN, PlainArc, PlainNet, movements};
 
 use crate::case::walk;
-use crate::generator::{self, Random, Style, total};
 use crate::guarded;
 use crate::rules::{is_weak, over};
 use crate::same::{Plain, Same};
 use crate::versions::in_version_1;
+use generator::{self, Random, Style, total};
 
 /// The net and its complement accept the same movements, stop at the same one, and stay in step, from the first marking and from others.
 pub fn in_step(same: &mut Same, random: &mut Random, style: Style, net: &PlainNet, most: usize) -> bool {

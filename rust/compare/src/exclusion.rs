@@ -7,9 +7,9 @@ use reference::Form;
 use reference::build::{PlainNet, weights};
 use reference::search::marking_where;
 
-use crate::generator::total;
 use crate::guarded;
 use crate::same::Same;
+use generator::total;
 
 /// Counts up to this are tried as claims, K of a small net.
 const MOST: u32 = 4;

@@ -3,9 +3,9 @@
 use reference::Fleet;
 use reference::build::{OPEN, PlainNet, arc, movements, weights};
 
-use crate::generator::{self, Random, Style, form, list, net, spoil};
 use crate::guarded;
 use crate::same::Same;
+use generator::{self, Random, Style, form, list, net, spoil};
 
 /// 10^18.
 const MOST: i64 = 1_000_000_000_000_000_000;

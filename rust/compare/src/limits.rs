@@ -2,7 +2,7 @@
 
 use reference::build::{OPEN, PlainArc, PlainNet};
 
-use crate::generator::{Random, Style};
+use generator::{Random, Style};
 
 /// Places, colours of each, transitions, modes of each, arcs.
 pub const SHAPES: [(usize, u16, usize, u16, usize); 12] = [

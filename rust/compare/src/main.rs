@@ -9,14 +9,10 @@
 mod blank;
 mod case;
 mod damage;
-#[path = "../../reference/tests/support/damaged_text.rs"]
-mod damaged_text;
 mod dead;
 mod demand3;
 mod exclusion;
 mod fleet;
-#[path = "../../reference/tests/support/generator.rs"]
-mod generator;
 mod guarded;
 mod hits;
 mod limits;

@@ -6,9 +6,9 @@ use reference::Form;
 use reference::build::{OPEN, PlainNet, arc, movements};
 
 use crate::case::walk;
-use crate::damaged_text::damaged;
-use crate::generator::{Random, form, total};
 use crate::same::{Plain, Same};
+use generator::damaged_text::damaged;
+use generator::{Random, form, total};
 
 /// Room for the text of a net: 216 bytes open and close it, a place's line has at most 85, a transition's 30 and an arc's two lines 214.
 pub fn room(size: Size) -> usize {

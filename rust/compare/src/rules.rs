@@ -4,9 +4,9 @@ use pnet::Mode;
 use reference::build::{OPEN, PlainArc, PlainNet, arc};
 use reference::{Form, Rule};
 
-use crate::generator::{Random, Style, count, total};
 use crate::guarded;
 use crate::same::Same;
+use generator::{Random, Style, count, total};
 
 /// Whether a net sheet, if it is accepted, is of rule 1.
 pub fn is_weak(net: &[u8]) -> bool {

@@ -2,8 +2,8 @@
 
 use reference::build::{PlainNet, movements};
 
-use crate::generator::{Random, Style, form, list, net, spoil, total};
 use crate::same::{Plain, Same};
+use generator::{Random, Style, form, list, net, spoil, total};
 
 /// Kept, dropped, and the answer of the first dropped movement.
 pub type Report = (usize, usize, Plain);

@@ -5,9 +5,9 @@ use pnet::Mode;
 use reference::Form;
 use reference::build::{OPEN, PlainNet, arc};
 
-use crate::generator::{Random, Style, count, form, total};
 use crate::guarded;
 use crate::same::Same;
+use generator::{Random, Style, count, form, total};
 
 /// One pair of a small net, at its first marking and at another.
 pub fn bare(same: &mut Same, random: &mut Random, net: &PlainNet) {

@@ -5,8 +5,8 @@ use reference::build::{OPEN, PlainNet, arc};
 use reference::{Form, Rule};
 
 use crate::case::Case;
-use crate::generator::{Random, Style};
 use crate::same::{Plain, Same};
+use generator::{Random, Style};
 
 /// Which fault of version 2 alone a reader's refusal names.
 pub fn fault(net: &[u8], refusal: &Refusal) -> Option<&'static str> {

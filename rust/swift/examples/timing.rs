@@ -1,8 +1,5 @@
 //! How long each call takes on nets of several sizes: the best of many tries, in microseconds.
 
-#[path = "../../reference/tests/support/generator.rs"]
-mod generator;
-
 use std::hint::black_box;
 use std::time::Instant;
 

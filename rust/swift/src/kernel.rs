@@ -107,9 +107,9 @@ fn form(layout: &Layout, movements: usize) -> Form {
 #[cfg(test)]
 mod tests {
     use super::{Form, Reach, form, run_in};
-    use crate::generator::{Random, Style, form as sheet_form, list, net};
     use crate::layout::whole_net;
     use crate::list::whole_list;
+    use generator::{Random, Style, form as sheet_form, list, net};
     use reference::build::movements;
 
     /// What running in a form gives: how far, and the marking.

@@ -28,10 +28,6 @@ mod text;
 mod weights;
 mod writer;
 
-#[cfg(test)]
-#[path = "../../reference/tests/support/generator.rs"]
-mod generator;
-
 pub use answer::{ARGUMENT, Answer, LARGEST};
 pub use audit::audit;
 pub use complement::complement;

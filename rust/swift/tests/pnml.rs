@@ -1,13 +1,8 @@
 //! The same PNML texts, sheets and refusals as `reference`, of nets and of damaged texts.
 
-#[path = "../../reference/tests/support/damaged_text.rs"]
-mod damaged_text;
-#[path = "../../reference/tests/support/generator.rs"]
-mod generator;
-
 use std::collections::BTreeSet;
 
-use damaged_text::damaged;
+use generator::damaged_text::damaged;
 use generator::{Random, Style, form, net};
 use reference::build::{OPEN, PlainNet, arc};
 

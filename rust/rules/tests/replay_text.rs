@@ -1,10 +1,8 @@
 //! The lines of `replay`.
 
-mod support;
-
+use crate::support::*;
 use reference::build::{OPEN, PlainNet, arc, movements, weights};
 use reference::replay;
-use support::*;
 
 fn print(bytes: &[u8]) -> String {
     String::from_utf8(replay(bytes)).unwrap()

@@ -1,14 +1,10 @@
 //! The weak capacity rule: "rule byte 1 in version 2 means M + Post ≤ K + Pre, with the other two conditions as before".
 
-#[path = "support/generator.rs"]
-mod generator;
-mod support;
-
+use crate::support::*;
 use generator::{Random, Style, list, marking, net, step, total};
 use reference::build::{OPEN, PlainArc, PlainNet, arc, movements, weights};
 use reference::search::marking_where;
 use reference::*;
-use support::*;
 
 fn weak(net: &PlainNet) -> Vec<u8> {
     net.sheet_in(Form::Two(Rule::Weak))
@@ -303,7 +299,7 @@ fn number_23_after_the_nets_refusals_and_before_10() {
     for room in [0, 64, 65, 35_083] {
         let mut output = vec![170; room];
         assert_eq!(to_version_1(&weak(&net), &mut output), Err(refused(23, NET, 0)));
-        assert!(output.iter().all(|&byte| byte == 170));
+        assert!(untouched(&output));
     }
     let bytes_after = to_version_1(&followed(&weak(&net), &[0]), &mut []);
     assert_eq!(bytes_after, Err(refused(3, NET, 62)));

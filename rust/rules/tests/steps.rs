@@ -1,13 +1,9 @@
 //! Steps: several modes at once.
 
-#[path = "support/generator.rs"]
-mod generator;
-mod support;
-
+use crate::support::*;
 use generator::{Random, Style, marking, net, step, total};
 use reference::build::{OPEN, PlainArc, PlainNet, arc, movements};
 use reference::*;
-use support::*;
 
 /// Tests and fires a step; both must agree, and a refused one writes nothing.
 fn tried(net: &[u8], counts: &[u32], modes: &[u16]) -> Result<Vec<u32>, Answer> {

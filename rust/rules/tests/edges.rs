@@ -1,10 +1,8 @@
 //! "Either side of the edges": every case.
 
-mod support;
-
+use crate::support::*;
 use reference::build::{OPEN, PlainArc, PlainNet, arc, movements};
 use reference::{Answer, certify, fire, is_dead, read_net, test};
-use support::*;
 
 /// One pair of capacity K and one mode with one arc.
 fn one(capacity: u32, pre: u32, post: u32, inhibitor: u32) -> Vec<u8> {

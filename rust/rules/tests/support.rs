@@ -1,5 +1,4 @@
 //! What the tests share: the small net of docs/RULES.md and short ways to name an answer.
-#![allow(dead_code)]
 
 use reference::Answer;
 use reference::build::{OPEN, PlainNet, arc, movements, weights};
@@ -59,6 +58,11 @@ pub fn resized(sheet: &[u8], length: u64) -> Vec<u8> {
 /// The sheet with bytes after it.
 pub fn followed(sheet: &[u8], bytes: &[u8]) -> Vec<u8> {
     [sheet, bytes].concat()
+}
+
+/// Whether all of these bytes are as they were lent. Whole slices are compared, since byte by byte a test would take ten times as long.
+pub fn untouched(bytes: &[u8]) -> bool {
+    bytes == vec![170; bytes.len()]
 }
 
 /// How far a run comes: how many movements it accepts, and the answer.

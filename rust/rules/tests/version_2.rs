@@ -1,10 +1,8 @@
 //! Net sheets of version 2: their fields, refusals and limits.
 
-mod support;
-
+use crate::support::*;
 use reference::build::{OPEN, PlainArc, PlainNet, arc, movements, sheet_in};
 use reference::*;
-use support::*;
 
 fn version_2(net: &PlainNet) -> Vec<u8> {
     net.sheet_in(Version::Two)

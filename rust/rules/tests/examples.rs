@@ -1,12 +1,10 @@
 //! The examples of docs/RULES.md.
 
-mod support;
-
+use crate::support::*;
 use reference::build::{OPEN, PlainNet, arc, movements, weights};
 use reference::{
     Ran, begin, certify, complement, figure, read_movements, read_net, read_weights, replay, run,
 };
-use support::*;
 
 #[test]
 fn replay_prints_the_example_text() {

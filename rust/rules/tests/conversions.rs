@@ -1,13 +1,9 @@
 //! Conversion of net sheets from version 1 to 2 and back.
 
-#[path = "support/generator.rs"]
-mod generator;
-mod support;
-
+use crate::support::*;
 use generator::{Random, Style, form, net, spoil, spoil_net};
 use reference::build::PlainNet;
 use reference::*;
-use support::*;
 
 type Conversion = fn(&[u8], &mut [u8]) -> Result<usize, Answer>;
 
@@ -15,7 +11,7 @@ type Conversion = fn(&[u8], &mut [u8]) -> Result<usize, Answer>;
 fn converted(convert: Conversion, sheet: &[u8]) -> Result<Vec<u8>, Answer> {
     let mut output = vec![170; 35_083];
     let length = convert(sheet, &mut output)?;
-    assert!(output[length..].iter().all(|&byte| byte == 170));
+    assert!(untouched(&output[length..]));
     output.truncate(length);
     Ok(output)
 }
@@ -73,7 +69,7 @@ fn number_10_an_output_one_byte_too_short() {
     for (convert, from, to) in [(to_version_2 as Conversion, &one, &two), (to_version_1, &two, &one)] {
         let (mut short, mut enough) = (vec![170; to.len() - 1], vec![170; to.len()]);
         assert_eq!(convert(from, &mut short), Err(refused(10, NET, 0)));
-        assert!(short.iter().all(|&byte| byte == 170));
+        assert!(untouched(&short));
         assert_eq!(convert(from, &mut enough), Ok(to.len()));
         assert_eq!(&enough, to);
     }

@@ -1,13 +1,9 @@
 //! How many arcs a run visits.
 
-#[path = "support/generator.rs"]
-mod generator;
-mod support;
-
+use crate::support::*;
 use generator::{Random, Style, list, marking, net};
 use reference::build::{OPEN, PlainNet, arc, movements};
 use reference::*;
-use support::*;
 
 /// Modes of 2, 0 and 3 arcs; the third takes 2 from pair 0 and is refused when fewer are left.
 fn three_modes() -> PlainNet {

@@ -1,16 +1,12 @@
 //! A claimed marking that weights show to be out of reach.
 
-#[path = "support/generator.rs"]
-mod generator;
-mod support;
-
 use std::collections::BTreeSet;
 
+use crate::support::*;
 use generator::{Random, balanced};
 use reference::build::{OPEN, PlainNet, arc, weights};
 use reference::search::marking_where;
 use reference::*;
-use support::*;
 
 /// Two pairs of K 5 and an unbounded one; mode 0 takes two from pair 0 and puts one at pair 2, mode 1 has no arc, mode 2 takes one back
 /// from pair 2 and puts two at pair 0.

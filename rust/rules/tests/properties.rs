@@ -1,13 +1,9 @@
 //! What must hold between the calls, on generated nets.
 
-#[path = "support/generator.rs"]
-mod generator;
-mod support;
-
+use crate::support::*;
 use generator::{Random, Style, list, marking, net, spoil, total};
 use reference::build::{OPEN, PlainNet, movements, weights};
 use reference::*;
-use support::*;
 
 const STYLES: [Style; 3] = [Style::Small, Style::Edges, Style::Lively];
 
@@ -209,7 +205,7 @@ fn refused_calls_write_nothing_whatever_the_bytes() {
         assert!(begin(&sheet, &mut begun) == ACCEPTED || begun == counts);
         let mut output = vec![170; 35_083];
         let length = complement(&sheet, &mut output).unwrap_or(0);
-        assert!(output[length..].iter().all(|&byte| byte == 170));
+        assert!(untouched(&output[length..]));
         let (answer, taken) = read_net(&sheet);
         assert_eq!(answer == ACCEPTED, taken > 0);
         assert!(taken <= sheet.len());

@@ -1,13 +1,9 @@
 //! Equal nets answer equally, whichever version their sheets have.
 
-#[path = "support/generator.rs"]
-mod generator;
-mod support;
-
+use crate::support::*;
 use generator::{Random, Style, list, marking, net, step, total};
 use reference::build::{PlainNet, movements, weights};
 use reference::*;
-use support::*;
 
 /// What a call is given besides the net.
 struct Given {

@@ -1,10 +1,8 @@
 //! Several faults at once: which refusal comes first.
 
-mod support;
-
+use crate::support::*;
 use reference::build::{OPEN, PlainArc, PlainNet, arc, movements, sheet, weights};
 use reference::*;
-use support::*;
 
 fn net_answer(bytes: &[u8]) -> Answer {
     read_net(bytes).0

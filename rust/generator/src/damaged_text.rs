@@ -1,6 +1,6 @@
 //! Damaged PNML texts.
 
-use super::generator::Random;
+use crate::Random;
 
 /// One or two changes: cut, a byte changed, put in or taken out, two lines swapped, a line doubled or left out, another number.
 pub fn damaged(random: &mut Random, text: &[u8]) -> Vec<u8> {

@@ -1,10 +1,8 @@
 //! The table "Refusal numbers": each number, with each kind of its position.
 
-mod support;
-
+use crate::support::*;
 use reference::build::{OPEN, PlainNet, arc, movements, sheet, weights};
 use reference::*;
-use support::*;
 
 fn net_refusal(bytes: &[u8]) -> Answer {
     let (answer, taken) = read_net(bytes);

@@ -1,10 +1,8 @@
 //! What accepted calls give and write.
 
-mod support;
-
+use crate::support::*;
 use reference::build::{OPEN, PlainNet, arc, movements, weights};
 use reference::*;
-use support::*;
 
 #[test]
 fn begin_writes_the_first_marking() {

@@ -1,13 +1,9 @@
 //! A marking of a net beside one of its complement.
 
-#[path = "support/generator.rs"]
-mod generator;
-mod support;
-
+use crate::support::*;
 use generator::{Random, Style, list, net};
 use reference::build::{OPEN, PlainNet, arc};
 use reference::*;
-use support::*;
 
 /// The pair and the excess.
 fn out(pair: u16, excess: i64) -> Result<Option<OutOfStep>, Answer> {

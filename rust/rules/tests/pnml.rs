@@ -1,19 +1,15 @@
 //! Exchange with PNML tools: the text byte for byte, 19 and 20 at their places, and nets that come back.
 
-#[path = "support/generator.rs"]
-mod generator;
-mod support;
-
+use crate::support::*;
 use generator::{Random, Style, form, net, total};
 use reference::build::{OPEN, PlainNet, arc};
 use reference::*;
-use support::*;
 
 /// The text of a net, with room for the longest.
 fn exported(sheet: &[u8]) -> Result<String, Answer> {
     let mut output = vec![170; 467_928];
     let length = export_pnml(sheet, &mut output)?;
-    assert!(output[length..].iter().all(|&byte| byte == 170));
+    assert!(untouched(&output[length..]));
     output.truncate(length);
     Ok(String::from_utf8(output).unwrap())
 }
@@ -22,7 +18,7 @@ fn exported(sheet: &[u8]) -> Result<String, Answer> {
 fn imported(text: &str) -> Result<Vec<u8>, Answer> {
     let mut output = vec![170; 35_083];
     let length = import_pnml(text.as_bytes(), &mut output)?;
-    assert!(output[length..].iter().all(|&byte| byte == 170));
+    assert!(untouched(&output[length..]));
     output.truncate(length);
     Ok(output)
 }
@@ -138,7 +134,7 @@ fn of_an_export_the_net_then_19_then_10() {
     let complement = complement_of(&bounded);
     let mut short = vec![170; EXAMPLE.len() - 1];
     assert_eq!(export_pnml(&complement, &mut short), Err(refused(10, NET, 0)));
-    assert!(short.iter().all(|&byte| byte == 170));
+    assert!(untouched(&short));
     assert_eq!(export_pnml(&complement, &mut vec![0; EXAMPLE.len()]), Ok(EXAMPLE.len()));
 }
 
@@ -148,7 +144,7 @@ fn of_an_import_20_then_4_then_10() {
     let told = |text: &str, room: usize| {
         let mut output = vec![170; room];
         let answer = import_pnml(text.as_bytes(), &mut output);
-        assert!(answer.is_ok() || output.iter().all(|&byte| byte == 170));
+        assert!(answer.is_ok() || untouched(&output));
         answer
     };
     assert_eq!(told(&text(64, 64), 11 + 2 * 128 + 8 * 64), Ok(779));

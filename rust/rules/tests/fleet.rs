@@ -1,13 +1,9 @@
 //! The fleet statement: one ship after another into one running record.
 
-#[path = "support/generator.rs"]
-mod generator;
-mod support;
-
+use crate::support::*;
 use generator::{Random, Style, form, list, net};
 use reference::build::{OPEN, PlainNet, arc, movements, weights};
 use reference::*;
-use support::*;
 
 const ZEROS: Fleet = Fleet { ships: 0, movements: 0, refused: [0; 5], added: 0, removed: 0 };
 

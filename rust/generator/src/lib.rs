@@ -1,17 +1,21 @@
 //! A small deterministic generator of nets, markings, lists and spoiled sheets.
-#![allow(dead_code)]
+
+pub mod damaged_text;
 
 use reference::build::{OPEN, PlainArc, PlainNet};
 use reference::{Form, Rule};
 
 /// Xorshift, 64 bits.
+#[derive(Clone)]
 pub struct Random(u64);
 
 impl Random {
+    /// The numbers of a seed.
     pub fn new(seed: u64) -> Random {
         Random(seed.wrapping_mul(0x9E37_79B9_7F4A_7C15) | 1)
     }
 
+    /// The next number, of 48 bits.
     pub fn next(&mut self) -> u64 {
         self.0 ^= self.0 << 13;
         self.0 ^= self.0 >> 7;
@@ -29,6 +33,7 @@ impl Random {
         self.below(n) == 0
     }
 
+    /// One of these.
     pub fn pick<T: Copy>(&mut self, from: &[T]) -> T {
         from[self.below(from.len())]
     }
@@ -81,6 +86,7 @@ fn counts(random: &mut Random, fields: usize) -> Vec<u16> {
     counts
 }
 
+/// The sum of counts.
 pub fn total(counts: &[u16]) -> usize {
     counts.iter().map(|&count| usize::from(count)).sum()
 }

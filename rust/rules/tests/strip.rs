@@ -1,19 +1,15 @@
 //! Stripping a pair: one transition more, whose mode n takes n and is there only while at most n stand there.
 
-#[path = "support/generator.rs"]
-mod generator;
-mod support;
-
+use crate::support::*;
 use generator::{Random, Style, form, marking, net, total};
 use reference::build::{OPEN, PlainArc, PlainNet, arc};
 use reference::*;
-use support::*;
 
 /// What stripping a pair writes with room for the largest sheet.
 fn stripped(sheet: &[u8], pair: u16) -> Result<Vec<u8>, Answer> {
     let mut output = vec![170; 35_083];
     let length = strip(sheet, pair, &mut output)?;
-    assert!(output[length..].iter().all(|&byte| byte == 170));
+    assert!(untouched(&output[length..]));
     output.truncate(length);
     Ok(output)
 }
@@ -117,7 +113,7 @@ fn number_10_an_output_one_byte_too_short() {
         let whole = stripped(&sheet, 0).unwrap();
         let (mut short, mut enough) = (vec![170; whole.len() - 1], vec![170; whole.len()]);
         assert_eq!(strip(&sheet, 0, &mut short), Err(refused(10, NET, 0)));
-        assert!(short.iter().all(|&byte| byte == 170));
+        assert!(untouched(&short));
         assert_eq!(strip(&sheet, 0, &mut enough), Ok(whole.len()));
         assert_eq!(enough, whole);
     }

@@ -1,14 +1,10 @@
 //! Locally dead modes: "Pre is above the least of K less Post and I, or Post is above K".
 
-#[path = "support/generator.rs"]
-mod generator;
-mod support;
-
+use crate::support::*;
 use generator::{Random, Style, marking, net, total};
 use reference::build::{OPEN, PlainNet, arc};
 use reference::search::marking_where;
 use reference::*;
-use support::*;
 
 /// Whether the mode of a net of one pair and one arc is locally dead.
 fn dead(capacity: u32, pre: u32, post: u32, inhibitor: u32) -> bool {

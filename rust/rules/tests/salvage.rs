@@ -1,19 +1,15 @@
 //! Salvage of a cut movement sheet.
 
-#[path = "support/generator.rs"]
-mod generator;
-mod support;
-
+use crate::support::*;
 use generator::{Random, Style, form, list, net, spoil};
 use reference::build::{OPEN, PlainNet, arc, movements};
 use reference::*;
-use support::*;
 
 /// What is salvaged with room enough, and the fresh sheet.
 fn salvaged(net: &[u8], damaged: &[u8]) -> Result<(Salvaged, Vec<u8>), Answer> {
     let mut output = vec![170; 20_000];
     let salvaged = salvage(net, damaged, &mut output)?;
-    assert!(output[salvaged.length..].iter().all(|&byte| byte == 170));
+    assert!(untouched(&output[salvaged.length..]));
     output.truncate(salvaged.length);
     Ok((salvaged, output))
 }
@@ -125,7 +121,7 @@ fn number_10_an_output_shorter_than_the_fresh_sheet() {
     for (damaged, length) in [(movements(&[]), 5), (example_movements(), 11), (movements(&[9, 9, 9]), 5)] {
         let mut short = vec![170; length - 1];
         assert_eq!(salvage(&net, &damaged, &mut short), Err(refused(10, NET, 0)));
-        assert!(short.iter().all(|&byte| byte == 170));
+        assert!(untouched(&short));
         assert_eq!(salvage(&net, &damaged, &mut vec![0; length]).unwrap().length, length);
     }
 }
