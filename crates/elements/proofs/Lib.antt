@@ -1,2 +1,2 @@
 pub mod Lengths
-mod Room
+mod Digits

@@ -1,2 +1,1 @@
 pub mod LineSizes
-mod Room

@@ -3,7 +3,8 @@ use mathlib.Core.Path.{refl}
 use native.Mathlib.Omega.{arith}
 use Rattle.writes.proofs.Writing.{_and_}
 use Rattle.pnml.specs.Pnml.{placeText}
-use Rattle.elements.proofs.Room.{room, room-for, eight-digits}
+use Rattle.writes.proofs.Room.{room, room-for}
+use Rattle.elements.proofs.Digits.{eight-digits}
 use Rattle.elements.proofs.put_place.Statement.{statement}
 use Rattle.elements.proofs.put_place.Tie as tie
 

@@ -5,7 +5,7 @@ use mir.Facts.{toZ-ofZ}
 use native.Mathlib.Omega.{arith}
 use Rattle.text.specs.Decimals.{decimal, decimalWithin}
 use Rattle.writes.proofs.Writing.{_and_}
-use Rattle.lines.proofs.Room.{room, room-for, up-to}
+use Rattle.writes.proofs.Room.{room, room-for, up-to}
 use Rattle.lines.proofs.put_accepted.Statement.{statement}
 use Rattle.lines.proofs.put_accepted.Tie as tie
 

@@ -3,7 +3,7 @@ use Rattle.lines.specs.Lines.{line, refusedLine}
 use mathlib.Core.Path.{refl}
 use native.Mathlib.Omega.{arith}
 use Rattle.writes.proofs.Writing.{_and_}
-use Rattle.lines.proofs.Room.{room, room-for}
+use Rattle.writes.proofs.Room.{room, room-for}
 use Rattle.lines.proofs.put_refused.Statement.{statement}
 use Rattle.lines.proofs.put_refused.Tie as tie
 

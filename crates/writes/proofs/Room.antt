@@ -1,10 +1,10 @@
--- What room is left after bytes are written: the laws that the needs of a line's next word cite, so that no need is searched for among all that is known by then.
+-- What room is left after bytes are written: the laws that the needs of the next word cite, so that no need is searched for among all that is known by then.
 use Prim.Native.Nat.{ℕ, _+_, _≤_}
 use mathlib.Core.List.{List}
 use lib.ListN.{length}
 use native.Mathlib.Omega.{arith}
 use Rattle.writes.specs.Writes.{Writes}
 use Rattle.writes.proofs.Writing.{within, length-kept}
 
 module _ {out then : List ℕ} {at after most : ℕ} {bytes : List ℕ} where
   pub room : (left : ℕ) → Writes most out at bytes after then → at + (most + left) ≤ length out → after + left ≤ length then
