@@ -1,5 +1,5 @@
 -- Not there; or what firing the mode's arcs gives.
-use native.Mathlib.Omega.{arith}
+use borrow.Author.Needs.{needs}
 use Rattle.progress.proofs.Along.{absent-makes, there-makes}
 use Rattle.progress.proofs.Visiting.{tries-at}
 use Rattle.progress.proofs.step.Statement.{statement}
@@ -26,8 +26,8 @@ pub step-spec : {M : Type 1} → statement M
 step-spec =
     tie.close
     (tie.spec
-    (λ c. search arith)
+    (λ c. search needs)
     returns
     fire-within-requires
-    (λ c. search arith)
+    (λ c. search needs)
     returns-2)

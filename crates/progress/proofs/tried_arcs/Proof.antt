@@ -1,5 +1,5 @@
 -- None where the mode is not there; or what the table says.
-use native.Mathlib.Omega.{arith}
+use borrow.Author.Needs.{needs}
 use Rattle.progress.proofs.Visiting.{tries-absent, tries-there}
 use Rattle.progress.proofs.tried_arcs.Statement.{statement}
 use Rattle.progress.proofs.tried_arcs.Tie as tie
@@ -11,4 +11,4 @@ returns-2 : tie.Need-returns-2
 returns-2 c = tries-there (c .before .before .before .before .before .pre .0) _ (c .before .if1 .left) (c .arcs-of .ensures)
 
 pub tried-arcs-spec : {M : Type 1} → statement M
-tried-arcs-spec = tie.close (tie.spec (λ c. search arith) returns (λ c κs. search arith) returns-2)
+tried-arcs-spec = tie.close (tie.spec (λ c. search needs) returns (λ c κs. search needs) returns-2)
