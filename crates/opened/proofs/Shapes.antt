@@ -157,14 +157,18 @@ module _ {s : List ℕ} {net : NetShape} (o : Open s net) where
         let z = sizes in
         omega (arith, ap (λ a. a .pair .0) is)
 
-    -- each field read where the arc's 14 bytes stand
-    pub arc-read : {a : Arc} {at : ℕ} → at ≡ tailAt s t k → a .mode .0 ≡ t → a .pair .0 ≡ u16At s (tailPairAt at)
-        → a .pre ≡ u32At s (tailPreAt at) → a .post ≡ u32At s (tailPostAt at) → a .inhibitor ≡ u32At s (tailInhibitorAt at) → ArcIs s net k a
-    unfolding netArcIn
-    arc-read {a} {at} stands mode pair pre post inhibitor =
-        let read : netArc a ≡ netArcIn s t at =
-        λ i. record { mode = modeNo (mode i); pair = pairNo (pair i); entry = record { pre = pre i; post = post i; inhibitor = bound (inhibitor i) } } in
-        let is : netArc a ≡ arcNo (netOf s .arcs) k = read ∙ ap (netArcIn s t) stands ∙ tail-arc s (o .accepted) t k h own in
+    pub arc-read : (a : Arc) → netArc a ≡ netArcIn s t (tailAt s t k) → ArcIs s net k a
+    arc-read a e =
+        let is : netArc a ≡ arcNo (netOf s .arcs) k = e ∙ tail-arc s (o .accepted) t k h own in
         let w : ArcOf (netOf s) (netArc a) = rw is (sizes .wellFormed .eachArc k h) in
         let z = sizes in
         record { is = is; mode = omega arith; pair = omega arith; pre = w .pre; post = w .post; inhibitor = w .inhibitor }
+
+    -- each field read where the arc's 14 bytes stand
+    pub fields-read : {a : Arc} {at : ℕ} → at ≡ tailAt s t k → a .mode .0 ≡ t → a .pair .0 ≡ u16At s (tailPairAt at)
+        → a .pre ≡ u32At s (tailPreAt at) → a .post ≡ u32At s (tailPostAt at) → a .inhibitor ≡ u32At s (tailInhibitorAt at) → ArcIs s net k a
+    unfolding netArcIn
+    fields-read {a} {at} stands mode pair pre post inhibitor =
+        let read : netArc a ≡ netArcIn s t at =
+        λ i. record { mode = modeNo (mode i); pair = pairNo (pair i); entry = record { pre = pre i; post = post i; inhibitor = bound (inhibitor i) } } in
+        arc-read a (read ∙ ap (netArcIn s t) stands)

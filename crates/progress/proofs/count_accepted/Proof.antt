@@ -70,14 +70,14 @@ count-accepted-spec =
     Inv-loop
     μ-loop
     loop-holds
-    (λ c κs. search arith)
+    (λ c κs. search needs)
     tried-arcs-requires
     add-visited
     step-requires
     same-length
     returns
-    (λ c. search arith)
-    (λ c. search arith)
+    (λ c. search needs)
+    (λ c. search needs)
     loop-again
     same-length-2
     returns-2)
