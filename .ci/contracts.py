@@ -4,8 +4,8 @@
 1. On docs/CONTRACTS.md every code span with a '/' in it is a file or folder, from the top of the repository or below crates/; the code
    spans after it, up to the next such span in the same cell or sentence, are names that stand in it as words.
 2. Every `pub fn` of a library with a `requires` stands among the shared parts of docs/ARCHITECTURE.md; every other `pub fn` is one of them too, or is a
-   public call and stands on docs/CONTRACTS.md.
-3. A public call `x_y` has one `ensures`: `XYAllows`, which its crate's specs/Contracts.antt declares, over its arguments in their order and its outcome: the
+   public call and stands on docs/CONTRACTS.md. A `pub(crate) fn` may be a shared part, among modules.
+3. A public call `x_y` has one `ensures`: `XYAllows`, which specs/Contracts.antt of its crate, or of the module that docs/ARCHITECTURE.md lists, declares, over its arguments in their order and its outcome: the
    answer, and the final content of every slice or record that it is lent to write.
 4. Every `..Allows` of a specs/Contracts.antt is the contract of a public call and has its field in Uniqueness, in ConstantAnswers and, where it answers with a
    number of document 01, in CallTables (a field may serve two calls: the comment above it names them); a call for C in UniqueForC and ConstantAnswersForC.
@@ -63,10 +63,10 @@ def split(tokens, sign):
 
 
 class Function:
-    """A `pub fn`: its parameters, whether it has a result, and its clauses."""
+    """A `pub fn` or `pub(crate) fn`: the crate or module that it belongs to, its parameters, whether it has a result, and its clauses."""
 
-    def __init__(self, crate, path, head):
-        self.crate, self.path, self.name = crate, path, path.split('::')[-1]
+    def __init__(self, crate, path, head, inner=False):
+        self.crate, self.path, self.name, self.inner = crate, path, path.split('::')[-1], inner
         depth, end = 0, 0
         for end, letter in enumerate(head):
             depth += (letter == '(') - (letter == ')')
@@ -95,14 +95,25 @@ def camel(name):
     return ''.join(part.capitalize() for part in name.split('_'))
 
 
+def listed():
+    """The crates, and the modules `a::b` with specs of their own, that docs/ARCHITECTURE.md lists."""
+    return set(re.findall(r'^\| `([\w:]+)` \|', (top / 'docs/ARCHITECTURE.md').read_text().split('\n\nIn each crate ')[0], re.M))
+
+
 def functions():
+    parts = listed()
     for file in sorted(top.glob('crates/*/src/**/*.rt')):
-        crate = file.relative_to(top).parts[1]
         if file.name == 'main.rt' or (file.parent / 'main.rt').exists():
             continue
-        module = [] if file.stem == 'lib' else [file.stem]
-        for found in re.finditer(r'^pub (?:extern "C" )?fn (\w+)(.*?)\{$', file.read_text(), re.M | re.S):
-            yield Function(crate, '::'.join(module + [found.group(1)]), found.group(2))
+        way = [file.relative_to(top).parts[1], *file.relative_to(top).with_suffix('').parts[3:]]
+        way = way[:-1] if way[-1] == 'lib' else way
+        own = 2 if '::'.join(way[:2]) in parts else 1
+        for found in re.finditer(r'^pub(\(crate\))? (?:extern "C" )?fn (\w+)(.*?)\{$', file.read_text(), re.M | re.S):
+            yield Function('::'.join(way[:own]), '::'.join(way[own:] + [found.group(2)]), found.group(3), bool(found.group(1)))
+
+
+def contracts_of(crate):
+    return 'crates/' + '/specs/'.join((crate + '::').split('::', 1)).replace('::', '/') + 'Contracts.antt'
 
 
 def declarations(text):
@@ -168,7 +179,7 @@ def public_call(f, contracts):
     if len(f.ensures) != 1 or f.ensures[0] not in may:
         return [f'{where} states {" and ".join(f.ensures) or "nothing"}, and not {may[0]}']
     name = may[0].split(' ')[0]
-    return [] if name in contracts else [f'{where} states {name}, which crates/{f.crate}/specs/Contracts.antt does not declare']
+    return [] if name in contracts else [f'{where} states {name}, which {contracts_of(f.crate)} does not declare']
 
 
 def fields(text, record):
@@ -191,12 +202,12 @@ def theorem_fields(crate, name, outcome, unique, constant, tables):
     for text, record in (unique, ('Unique' + for_c if for_c else 'Uniqueness')), (constant, 'ConstantAnswers' + for_c):
         kind = fields(text, record).get(field, ('', ''))[1]
         if not re.search(r'(?<![\w.])' + re.escape(said) + r'(?!\w)', kind):
-            faults.append(f'{record} has no field `{field}` of {said} (crates/{crate})')
+            faults.append(f'{record} has no field `{field}` of {said} ({crate})')
     if crate != 'abi' and has_number(outcome):
         given = fields(tables, 'CallTables')
         spoken = re.sub(r'([A-Z])', lambda m: ' ' + m.group(1).lower(), field)
         if field not in given and not any(re.search(r'\b' + spoken + r'\b', above) for above, _ in given.values()):
-            faults.append(f'CallTables has no field `{field}` (crates/{crate}), and no comment in it names {spoken}')
+            faults.append(f'CallTables has no field `{field}` ({crate}), and no comment in it names {spoken}')
     return faults
 
 
@@ -237,15 +248,17 @@ def check_names(page, faults):
 def check_functions(page, faults):
     parts = (top / 'docs/ARCHITECTURE.md').read_text().split('## Shared parts')[1].split('\n## ')[0]
     declared, contracts, stated, count = {}, {}, set(), 0
-    for file in sorted(top.glob('crates/*/specs/*.antt')):
+    for file in sorted(top.glob('crates/*/specs/**/*.antt')):
         declared.update(declarations(file.read_text()))
         if file.name == 'Contracts.antt':
-            contracts[file.parts[-3]] = allows(file.read_text())
+            contracts['::'.join(part for part in file.relative_to(top).parts[1:-1] if part != 'specs')] = allows(file.read_text())
     for f in functions():
-        count += 1
+        count += not f.inner
         row = next((line.split('|')[2] for line in parts.split('\n') if line.startswith(f'| `{f.crate}` |')), '')
         if re.search(r'`(?:\w+::)*' + f.name + '`', row):
             faults += shared_part(f, declared)
+            continue
+        if f.inner:
             continue
         if f.requires:
             faults.append(f'{f.crate}::{f.path} has a `requires` and is no shared part')
@@ -259,7 +272,7 @@ def check_functions(page, faults):
     for crate, names in contracts.items():
         for name, outcome in names.items():
             if (crate, name) not in stated:
-                faults.append(f'crates/{crate}/specs/Contracts.antt declares {name}, which no public call states')
+                faults.append(f'{contracts_of(crate)} declares {name}, which no public call states')
             faults += theorem_fields(crate, name, outcome, unique, constant, tables)
     return count
 

@@ -6,26 +6,26 @@ use Rattle.model.specs.declared.Pair.{Pair}
 use Rattle.model.specs.declared.Mode.{Mode}
 use Rattle.model.specs.declared.Version.the-variants.{One, Two}
 use Rattle.model.specs.Refusals.{answer}
-use Rattle.nets.specs.Nets.{netRefusal}
+use Rattle.sheets.specs.nets.Nets.{netRefusal}
 use Rattle.lists.specs.Weights.{weightsRefusal}
 use Rattle.lists.specs.Movements.{movementsRefusal}
 use Rattle.fire.specs.Calls.{beginRefusal, begun, testRefusal, firedBy}
 use Rattle.run.specs.Calls.{ranOf, runOf, visitedBy, certifyRefusal}
-use Rattle.step.specs.Calls.{testStepRefusal, steppedBy}
-use Rattle.weigh.specs.Calls as weigh
-use Rattle.exclude.specs.Calls.{excludeRefusal}
-use Rattle.dead.specs.IsDead as one
-use Rattle.dead.specs.FirstDead as first
-use Rattle.size.specs.Sizes as size
+use Rattle.fire.specs.step.Calls.{testStepRefusal, steppedBy}
+use Rattle.statement.specs.weigh.Calls as weigh
+use Rattle.statement.specs.exclude.Calls.{excludeRefusal}
+use Rattle.opened.specs.dead.IsDead as one
+use Rattle.opened.specs.dead.FirstDead as first
+use Rattle.opened.specs.size.Sizes as size
 use Rattle.complement.specs.Complemented as complement
 use Rattle.convert.specs.Converted as convert
-use Rattle.strip.specs.Stripped as strip
+use Rattle.convert.specs.strip.Stripped as strip
 use Rattle.export.specs.Exports as export
 use Rattle.import.specs.declared.Imported.{Imported}
 use Rattle.import.specs.Imports as import
 use Rattle.import.specs.Contracts as importing
-use Rattle.audit.specs.Audits as audit
-use Rattle.salvage.specs.Salvaged as salvage
+use Rattle.complement.specs.audit.Audits as audit
+use Rattle.run.specs.salvage.Salvaged as salvage
 use Rattle.ships.specs.declared.Fleet.{Fleet}
 use Rattle.ships.specs.Ships.{ship}
 use Rattle.ships.specs.Entered.{entered}

@@ -1,8 +1,8 @@
 // One ship more in a fleet's record, which the caller lends.
 use answers::Answered;
 use answers::tell;
-use fleet::add_ship;
 use ships::Fleet;
+use statement::fleet::add_ship;
 ghost use Rattle.abi.specs.Contracts.{FleetAddAllows};
 
 #[no_mangle]

@@ -1,7 +1,7 @@
 // An audit of a net's marking beside its complement's.
 use answers::Audited;
 use answers::tell_audit;
-use audit::audit;
+use complement::audit::audit;
 ghost use Rattle.abi.specs.Contracts.{AuditAllows};
 
 #[no_mangle]

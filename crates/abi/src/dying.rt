@@ -3,9 +3,9 @@ use answers::Decided;
 use answers::Named;
 use answers::tell_deadness;
 use answers::tell_first_dead;
-use dead::first_dead;
-use dead::is_dead;
 use model::Mode;
+use opened::dead::first_dead;
+use opened::dead::is_dead;
 ghost use Rattle.abi.specs.Contracts.{IsDeadAllows, FirstDeadAllows};
 
 #[no_mangle]

@@ -1,7 +1,7 @@
 // Weights that show a marking to be out of reach.
 use answers::Answered;
 use answers::tell;
-use exclude::exclude;
+use statement::exclude::exclude;
 ghost use Rattle.abi.specs.Contracts.{ExcludeAllows};
 
 #[no_mangle]

@@ -4,12 +4,12 @@ use answers::Tallied;
 use answers::tell;
 use fire::begin;
 use fire::fire;
+use fire::step::fire_step;
+use fire::step::test_step;
 use fire::test;
 use model::Mode;
 use run::certify;
 use run::run;
-use step::fire_step;
-use step::test_step;
 ghost use Rattle.abi.specs.Contracts.{BeginAllows, TestAllows, FireAllows, TestStepAllows, FireStepAllows, RunAllows, CertifyAllows};
 
 #[no_mangle]

@@ -5,7 +5,7 @@ use heads::head::sheet_end;
 use lists::movements::read_movements;
 use lists::weights::read_weights;
 use model::Answer;
-use nets::net::read_net;
+use sheets::nets::net::read_net;
 ghost use mathlib.Core.Path.{_≡_};
 ghost use Rattle.heads.specs.Held.{Headed};
 ghost use Rattle.abi.specs.Told.{taken};

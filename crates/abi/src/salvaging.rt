@@ -1,7 +1,7 @@
 // What can be kept of a damaged movement sheet.
 use answers::Reported;
 use answers::tell_salvage;
-use salvage::salvage;
+use run::salvage::salvage;
 ghost use Rattle.abi.specs.Contracts.{SalvageAllows};
 
 #[no_mangle]

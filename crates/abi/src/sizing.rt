@@ -1,7 +1,7 @@
 // How large a net is.
 use answers::Sized;
 use answers::tell_size;
-use size::size;
+use opened::size::size;
 ghost use Rattle.abi.specs.Contracts.{SizeAllows};
 
 #[no_mangle]

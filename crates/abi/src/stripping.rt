@@ -1,8 +1,8 @@
 // A net with a transition that strips a pair bare.
 use answers::Counted;
 use answers::tell_stripped;
+use convert::strip::strip;
 use model::Pair;
-use strip::strip;
 ghost use Rattle.abi.specs.Contracts.{StripAllows};
 
 #[no_mangle]

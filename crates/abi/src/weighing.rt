@@ -2,8 +2,8 @@
 use answers::Weighed;
 use answers::tell_kilograms;
 use model::Mode;
-use weigh::change;
-use weigh::figure;
+use statement::weigh::change;
+use statement::weigh::figure;
 ghost use Rattle.abi.specs.Contracts.{FigureAllows, ChangeAllows};
 
 #[no_mangle]

@@ -1,1 +1,1 @@
-pub mod Fields
+mod Fields

@@ -11,10 +11,10 @@ use Rattle.model.specs.declared.Answer.the-variants.{Accepted}
 use Rattle.model.specs.Refusals.{Carried, carried}
 use Rattle.model.specs.Replies.{Reply, yields, refuses}
 use Rattle.model.specs.Nets.{pairNo, modeNo}
-use Rattle.model.specs.Dead.{DeadMode}
-use Rattle.model.specs.Audit.{Finding}
-use Rattle.salvage.specs.declared.Report.{Report}
-use Rattle.size.specs.declared.NetSize.{NetSize}
+use Rattle.second_form.specs.Dead.{DeadMode}
+use Rattle.both_forms.specs.Audit.{Finding}
+use Rattle.run.specs.declared.salvage.Report.{Report}
+use Rattle.opened.specs.declared.size.NetSize.{NetSize}
 use Rattle.statement.specs.declared.Stated.{Stated}
 use Rattle.statement.specs.declared.Stated.the-variants.{Written, NoRoom}
 use Rattle.answers.specs.declared.Answered.{Answered}

@@ -1,9 +1,8 @@
 // What a call tells C, as structs by value: document 01's number, thing and position, document 02's amount, and the value, 0 where a refused call has none.
-use audit::Found;
 use complement::Complemented;
+use complement::audit::Found;
 use convert::Converted;
-use dead::Deadness;
-use dead::FirstDead;
+use convert::strip::Stripped;
 use export::Exported;
 use import::Imported;
 use model::Answer;
@@ -12,28 +11,29 @@ use model::Mode;
 use model::Pair;
 use model::Refusal;
 use model::Thing;
-use salvage::Salvaged;
-use size::Measured;
+use opened::dead::Deadness;
+use opened::dead::FirstDead;
+use opened::size::Measured;
+use run::salvage::Salvaged;
 use statement::Stated;
-use strip::Stripped;
-use told::line_of;
-use told::thing_of;
-use weigh::Figured;
+use statement::told::line_of;
+use statement::told::thing_of;
+use statement::weigh::Figured;
 ghost use mathlib.Core.Path.{_≡_};
 ghost use mathlib.Core.Option.{none};
 ghost use Rattle.model.specs.declared.Answer.the-variants.{Refused};
 ghost use Rattle.model.specs.Replies.{yields, refuses};
-ghost use Rattle.audit.specs.Audits.{told as auditTold};
+ghost use Rattle.complement.specs.audit.Audits.{told as auditTold};
 ghost use Rattle.complement.specs.Complemented.{told as complementTold};
 ghost use Rattle.convert.specs.Converted.{told as convertedTold};
-ghost use Rattle.dead.specs.FirstDead.{told as firstDeadTold};
-ghost use Rattle.dead.specs.IsDead.{told as deadnessTold};
+ghost use Rattle.opened.specs.dead.FirstDead.{told as firstDeadTold};
+ghost use Rattle.opened.specs.dead.IsDead.{told as deadnessTold};
 ghost use Rattle.export.specs.Exports.{told as exportTold};
 ghost use Rattle.import.specs.Imports.{told as importTold};
-ghost use Rattle.salvage.specs.Salvaged.{told as salvageTold};
-ghost use Rattle.size.specs.Sizes.{told as measuredTold};
-ghost use Rattle.strip.specs.Stripped.{told as strippedTold};
-ghost use Rattle.weigh.specs.Calls.{told as figuredTold};
+ghost use Rattle.run.specs.salvage.Salvaged.{told as salvageTold};
+ghost use Rattle.opened.specs.size.Sizes.{told as measuredTold};
+ghost use Rattle.convert.specs.strip.Stripped.{told as strippedTold};
+ghost use Rattle.statement.specs.weigh.Calls.{told as figuredTold};
 ghost use Rattle.answers.specs.Told.{answered, counted, textTold, weighed, decided, naming, named, sized, finding, audited, reported};
 
 #[repr(C)]
@@ -110,7 +110,7 @@ pub struct Reported {
     pub stop: Answered,
 }
 
-pub fn accepted() -> Answered
+pub(crate) fn accepted() -> Answered
     ensures { λ r. ⌜ r ≡ answered Answer.Accepted ⌝ }
 {
     Answered {

@@ -15,7 +15,7 @@ use Rattle.model.specs.Lists.{table}
 use Rattle.model.specs.Rows.{noArc}
 use Rattle.model.specs.Nets.{NetArc, PNet, total, pairs, modes, arcNo, stands, entryAt, row}
 use Rattle.model.specs.WellFormed.{WellFormed}
-use Rattle.model.proofs.Each.{Each, each-append, at-each}
+use Rattle.movement.proofs.Each.{Each, each-append, at-each}
 use Rattle.model.proofs.Tables.{table-length}
 use Rattle.bare.specs.Strip.{stripEntry, newMode, stripArc, strip}
 

@@ -19,9 +19,9 @@ use Rattle.model.specs.WellFormed.{WellFormed}
 use Rattle.model.specs.Firing.{after, roomFor, modeRefusal, fired}
 use Rattle.model.proofs.First.{below-or}
 use Rattle.model.proofs.Numbers.{le-le∞}
-use Rattle.model.proofs.Rooms.{within-room}
+use Rattle.movement.proofs.Rooms.{within-room}
 use Rattle.model.proofs.Firing.{accepted-passes, passes-accepted}
-use Rattle.model.proofs.Markings.{fired-at, fired-length}
+use Rattle.movement.proofs.Markings.{fired-at, fired-length}
 use Rattle.bare.specs.Strip.{stripEntry, newMode, strip}
 use Rattle.bare.specs.Promises.{BareAfter}
 use Rattle.bare.proofs.Arcs.{same-pairs, modes-many, new-row}

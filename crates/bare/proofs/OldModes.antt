@@ -22,14 +22,14 @@ use Rattle.model.specs.Nets.{NetArc, PNet, total, pairs, modes, modeNo, pairNo,
 use Rattle.model.specs.Markings.{unequal, markingRefusal}
 use Rattle.model.specs.WellFormed.{WellFormed}
 use Rattle.model.specs.Firing.{rowRefusal, rooms, modeRefusal, firedRow, fired}
-use Rattle.model.specs.Runs.{runFrom, run, elsewhere, endsAt, certificateRefusal}
-use Rattle.model.specs.Steps.{beside, together, stepOutside, stepRefusal, firedTogether}
-use Rattle.model.specs.Visits.{arcsAmong, modeArcs, visited}
-use Rattle.model.specs.Figures.{sum, weight, figure, change}
-use Rattle.model.specs.Dead.{preRoom, highestPre, kills, deadPair, firstDead}
+use Rattle.movement.specs.Runs.{runFrom, run, elsewhere, endsAt, certificateRefusal}
+use Rattle.both_forms.specs.Steps.{beside, together, stepOutside, stepRefusal, firedTogether}
+use Rattle.both_forms.specs.Visits.{arcsAmong, modeArcs, visited}
+use Rattle.movement.specs.Figures.{sum, weight, figure, change}
+use Rattle.second_form.specs.Dead.{preRoom, highestPre, kills, deadPair, firstDead}
 use Rattle.model.proofs.First.{then-none, first-ext, first-all, first-split}
 use Rattle.model.proofs.Numbers.{false-above, below-least}
-use Rattle.model.proofs.Each.{Each}
+use Rattle.movement.proofs.Each.{Each}
 use Rattle.model.proofs.Firing.{mode-there, there}
 use Rattle.bare.specs.Strip.{stripEntry, newMode, strip}
 use Rattle.bare.specs.Promises.{Old, OldModes, NoNewDead}

@@ -15,9 +15,9 @@ use Rattle.model.specs.Markings.{Marking}
 use Rattle.model.specs.WellFormed.{ArcOf, WellFormed}
 use Rattle.model.proofs.Both.{and-both}
 use Rattle.model.proofs.First.{below-or}
-use Rattle.model.proofs.Nets.{Rising}
+use Rattle.movement.proofs.Nets.{Rising}
 use Rattle.model.proofs.Tables.{table-at}
-use Rattle.model.proofs.Each.{Each, each-append, each-at, at-each}
+use Rattle.movement.proofs.Each.{Each, each-append, each-at, at-each}
 use Rattle.bare.specs.Strip.{stripArc, strip, stripLimits}
 use Rattle.bare.proofs.Arcs.{newArcs, each-new, modes-many, arcs-many}
 

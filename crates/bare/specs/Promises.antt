@@ -14,11 +14,11 @@ use Rattle.model.specs.Nets.{PNet, pairs, modes, modeNo, K, count, row}
 use Rattle.model.specs.Markings.{Marking, markingRefusal}
 use Rattle.model.specs.WellFormed.{WellFormed}
 use Rattle.model.specs.Firing.{modeRefusal, fired}
-use Rattle.model.specs.Runs.{run, certificateRefusal}
-use Rattle.model.specs.Steps.{stepRefusal, firedTogether}
-use Rattle.model.specs.Visits.{visited}
-use Rattle.model.specs.Figures.{figure, change}
-use Rattle.model.specs.Dead.{deadPair, firstDead}
+use Rattle.movement.specs.Runs.{run, certificateRefusal}
+use Rattle.both_forms.specs.Steps.{stepRefusal, firedTogether}
+use Rattle.both_forms.specs.Visits.{visited}
+use Rattle.movement.specs.Figures.{figure, change}
+use Rattle.second_form.specs.Dead.{deadPair, firstDead}
 use Rattle.bare.specs.Strip.{newMode, strip}
 
 -- 1. "at every marking within capacity exactly one of the new modes is enabled": the one numbered by the count, which is one of them; "it leaves 0 at that pair,

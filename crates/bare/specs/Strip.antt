@@ -16,7 +16,7 @@ use Rattle.model.specs.Lists.{table}
 use Rattle.model.specs.Numbers.{ℕ∞, fin, ∞}
 use Rattle.model.specs.Rows.{Entry}
 use Rattle.model.specs.Nets.{NetArc, PNet, pairs, modes, modeNo, K}
-use Rattle.model.specs.Complement.{finite}
+use Rattle.second_form.specs.Complement.{finite}
 use Rattle.model.specs.Refusals.{wrong}
 
 -- "its mode n .. has Pre n and I n at the chosen pair": one inscription on the normal and the inhibitor arc

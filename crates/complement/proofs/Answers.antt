@@ -17,20 +17,20 @@ use Rattle.model.specs.declared.Version.the-variants.{One, Two}
 use Rattle.model.specs.Nets.{PNet, arcNo}
 use Rattle.model.specs.First.{_▸_, first, onlyIf}
 use Rattle.model.specs.Refusals.{answer, wrong}
-use Rattle.model.specs.Complement.{inhibitsUnbounded, refusal15, sheetLimits, complementRefusal}
+use Rattle.second_form.specs.Complement.{inhibitsUnbounded, refusal15, sheetLimits, complementRefusal}
 use Rattle.model.proofs.First.{then-assoc, none-then, left-none, right-none, first-all, only-if-none}
 use Rattle.opened.specs.declared.shape.NetShape.{NetShape}
 use Rattle.sheets.specs.Decoded.{netOf}
 use Rattle.opened.specs.Shape.{Open, arcOffset}
 use Rattle.opened.specs.Starts.{StartsAre}
-use Rattle.sections.specs.Arcs.{clearAt, every}
-use Rattle.sections.proofs.Every.{and-left, and-right, every-each}
-use Rattle.written.proofs.Puts.{from-start}
+use Rattle.complement.specs.sections.Arcs.{clearAt, every}
+use Rattle.complement.proofs.sections.Every.{and-left, and-right, every-each}
+use Rattle.sheets.proofs.written.Puts.{from-start}
 use Rattle.complement.specs.declared.Complemented.the-variants.{Length, Refused}
 use Rattle.complement.specs.declared.sheet.Sizes.{Sizes}
 use Rattle.complement.specs.ArcRefusals.{inhibitedAt}
 use Rattle.complement.specs.Complemented.{complementSheet, tooShort, roomRefusal, complemented, output}
-use Rattle.written.specs.Puts.{Puts, sheetSize}
+use Rattle.sheets.specs.written.Puts.{Puts, sheetSize}
 use Rattle.complement.specs.Sizes.{sizesOf, SizesWith, inLimits, sizesRefusal, firstOf}
 use Rattle.complement.proofs.SheetParts.{sizes-are, arcs-at-most, size-is, sheet-is}
 

@@ -8,18 +8,18 @@ use Rattle.model.specs.declared.Version.{Version}
 use Rattle.model.specs.declared.Version.the-variants.{One, Two}
 use Rattle.model.specs.Lists.{joined}
 use Rattle.model.specs.Nets.{PNet}
-use Rattle.model.specs.Complement.{complement}
+use Rattle.second_form.specs.Complement.{complement}
 use Rattle.sheets.specs.Decoded.{netOf}
 use Rattle.opened.specs.declared.shape.NetShape.{NetShape}
 use Rattle.opened.specs.Shape.{Open}
 use Rattle.opened.specs.Starts.{StartsAre}
 use Rattle.opened.proofs.Shapes.{sizes}
-use Rattle.written.specs.Written.{totalBytes, sectionBytes, sheetOf}
-use Rattle.written.specs.Puts.{Room, Puts, headSize, totalSize, sectionSize}
-use Rattle.written.proofs.Versions.{total-length}
-use Rattle.written.proofs.SheetLength.{section-size}
-use Rattle.sections.specs.Arcs.{rowBytes}
-use Rattle.sections.proofs.Rows.{by-mode}
+use Rattle.sheets.specs.written.Written.{totalBytes, sectionBytes, sheetOf}
+use Rattle.sheets.specs.written.Puts.{Room, Puts, headSize, totalSize, sectionSize}
+use Rattle.sheets.proofs.written.Versions.{total-length}
+use Rattle.sheets.proofs.written.SheetLength.{section-size}
+use Rattle.complement.specs.sections.Arcs.{rowBytes}
+use Rattle.complement.proofs.sections.Rows.{by-mode}
 use Rattle.complement.specs.Sizes.{countsBytes, recordsBytes}
 use Rattle.complement.proofs.SheetParts.{sheet-parts, counts-size, modes-kept, arcs-at-most, arc-parts}
 

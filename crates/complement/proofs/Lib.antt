@@ -1,4 +1,4 @@
-pub mod SheetParts
-pub mod Answers
-pub mod WithoutOutput
+mod SheetParts
+mod Answers
+mod WithoutOutput
 mod Last

@@ -5,21 +5,21 @@ use mathlib.Core.List.{List, _++_, append-assoc, append-nil, flatten}
 use lib.ListN.{length, length-append}
 use native.Mathlib.Omega.{arith}
 use Rattle.model.specs.Nets.{PNet, ruleNumber, pairs, modes}
-use Rattle.model.specs.Complement.{complement}
+use Rattle.second_form.specs.Complement.{complement}
 use Rattle.model.specs.declared.Version.{Version}
 use Rattle.model.specs.declared.Version.the-variants.{One, Two}
 use Rattle.opened.specs.declared.shape.NetShape.{NetShape}
 use Rattle.sheets.specs.Decoded.{netOf}
 use Rattle.opened.specs.Shape.{Open}
 use Rattle.opened.specs.Starts.{StartsAre}
-use Rattle.written.specs.Puts.{headSize, sheetSize}
-use Rattle.written.specs.Written.{bytes16, headBytes, totalBytes, sectionBytes, sheetOf, lengthOf}
+use Rattle.sheets.specs.written.Puts.{headSize, sheetSize}
+use Rattle.sheets.specs.written.Written.{bytes16, headBytes, totalBytes, sectionBytes, sheetOf, lengthOf}
 use Rattle.opened.proofs.Shapes.{shaped, sizes}
-use Rattle.written.proofs.BigEndian.{length16}
-use Rattle.written.proofs.SheetLength.{head-size, sheet-length, sheet-size}
-use Rattle.sections.proofs.ModeHalves.{complement-arcs}
-use Rattle.sections.proofs.Rows.{by-mode, section-rows, arcs-few}
-use Rattle.sections.specs.Arcs.{rowBytes}
+use Rattle.sheets.proofs.written.BigEndian.{length16}
+use Rattle.sheets.proofs.written.SheetLength.{head-size, sheet-length, sheet-size}
+use Rattle.complement.proofs.sections.ModeHalves.{complement-arcs}
+use Rattle.complement.proofs.sections.Rows.{by-mode, section-rows, arcs-few}
+use Rattle.complement.specs.sections.Arcs.{rowBytes}
 use Rattle.model.specs.Lists.{joined}
 use Rattle.complement.specs.declared.sheet.Sizes.{Sizes}
 use Rattle.complement.specs.Complemented.{complementSheet}

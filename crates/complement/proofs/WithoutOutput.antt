@@ -7,7 +7,7 @@ use borrow.Author.Tests.{le-ltb}
 use native.Mathlib.Omega.{arith}
 use Rattle.model.specs.declared.Answer.{Answer}
 use Rattle.model.specs.Refusals.{answer}
-use Rattle.model.specs.Complement.{complementRefusal}
+use Rattle.second_form.specs.Complement.{complementRefusal}
 use Rattle.model.proofs.First.{then-none}
 use Rattle.sheets.specs.Decoded.{netOf}
 use Rattle.opened.specs.declared.shape.NetShape.{NetShape}

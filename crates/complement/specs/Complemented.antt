@@ -10,13 +10,13 @@ use Rattle.model.specs.declared.Fault.the-variants.{NoRoom}
 use Rattle.model.specs.declared.Refusal.{Refusal}
 use Rattle.model.specs.First.{_▸_, onlyIf}
 use Rattle.model.specs.Replies.{Reply, yields, refuses}
-use Rattle.model.specs.Complement.{complement, complementRefusal}
+use Rattle.second_form.specs.Complement.{complement, complementRefusal}
 use Rattle.model.specs.Refusals.{wrong}
 use Rattle.heads.specs.Version.{versionOf}
 use Rattle.sheets.specs.Whole.{wholeNet}
 use Rattle.sheets.specs.Decoded.{netOf}
 use Rattle.opened.specs.Shape.{arcOffset}
-use Rattle.written.specs.Written.{sheetOf}
+use Rattle.sheets.specs.written.Written.{sheetOf}
 use Rattle.complement.specs.declared.Complemented.{Complemented}
 use Rattle.complement.specs.declared.Complemented.the-variants.{Length, Refused}
 

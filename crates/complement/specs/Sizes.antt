@@ -15,11 +15,11 @@ use Rattle.model.specs.declared.Answer.the-variants.{Accepted, Refused}
 use Rattle.model.specs.declared.Version.{Version}
 use Rattle.model.specs.First.{_▸_, onlyIf}
 use Rattle.model.specs.Nets.{PNet, ruleNumber, pairs}
-use Rattle.model.specs.Complement.{complement}
+use Rattle.second_form.specs.Complement.{complement}
 use Rattle.model.specs.Refusals.{wrong}
-use Rattle.written.specs.Puts.{sheetSize}
+use Rattle.sheets.specs.written.Puts.{sheetSize}
 use Rattle.opened.specs.declared.shape.NetShape.{NetShape}
-use Rattle.written.specs.Written.{bytes16, headBytes, pairsBytes, lengthOf}
+use Rattle.sheets.specs.written.Written.{bytes16, headBytes, pairsBytes, lengthOf}
 use Rattle.complement.specs.declared.sheet.Sizes.{Sizes}
 
 unfoldable pub sizesOf : PNet → Sizes

@@ -1,11 +1,15 @@
 // The complementing call: the second form of a net, in which a token left behind shows at once (document 01, "The complemented net").
 // It writes the sheet of the complement straight from the sheet of the net.
+pub mod audit;
 pub mod check;
 mod refusals;
 mod room;
+pub mod sections;
 mod sheet;
 
 use crate::room::complement_answer;
+use crate::sections::bounded::bounded_below;
+use crate::sections::survey::survey;
 use crate::sheet::complement_sizes;
 use crate::sheet::put_sheet;
 use model::Answer;
@@ -14,8 +18,6 @@ use opened::Opened;
 use opened::open_net;
 use opened::shape::NetShape;
 use opened::starts::starts;
-use sections::bounded::bounded_below;
-use sections::survey::survey;
 ghost use mathlib.Core.Path.{_≡_};
 ghost use lib.ListN.{length};
 ghost use Rattle.opened.specs.Shape.{Open};

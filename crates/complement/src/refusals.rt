@@ -15,7 +15,7 @@ ghost use mathlib.Core.Path.{_≡_};
 ghost use Prim.Native.Nat.{_+_};
 ghost use Rattle.model.specs.First.{first};
 ghost use Rattle.model.specs.Refusals.{answer};
-ghost use Rattle.model.specs.Complement.{refusal15};
+ghost use Rattle.second_form.specs.Complement.{refusal15};
 ghost use Rattle.sheets.specs.Decoded.{netOf};
 ghost use Rattle.opened.specs.Shape.{Open, arcOffset};
 ghost use Rattle.opened.specs.Starts.{StartsAre, ModeArcs, OwnArc};

@@ -1,13 +1,13 @@
 // Refusal 10, after 15.
 use crate::refusals::arcs_answer;
+use crate::sections::survey::count_arcs;
 use crate::sheet::Sizes;
 use heads::head::refused;
 use model::Answer;
 use model::Fault;
 use model::Thing;
 use opened::shape::NetShape;
-use sections::survey::count_arcs;
-use written::sheet_size;
+use sheets::written::sheet_size;
 ghost use mathlib.Core.Path.{_≡_};
 ghost use Prim.Native.Nat.{_*_, _≤_};
 ghost use lib.Dec.{ltb};
@@ -17,8 +17,8 @@ ghost use Rattle.sheets.specs.Decoded.{netOf};
 ghost use Rattle.opened.specs.Shape.{Open};
 ghost use Rattle.opened.specs.Starts.{StartsAre};
 ghost use Rattle.halves.specs.Bounded.{BelowAre};
-ghost use Rattle.sections.specs.Arcs.{clearAt, every};
-ghost use Rattle.sections.specs.DeadModes.{DeadAre};
+ghost use Rattle.complement.specs.sections.Arcs.{clearAt, every};
+ghost use Rattle.complement.specs.sections.DeadModes.{DeadAre};
 ghost use Rattle.complement.specs.Complemented.{roomRefusal};
 ghost use Rattle.complement.specs.Sizes.{sizesOf, SizesWith, Few, inLimits, sizesRefusal, firstOf};
 

@@ -1,28 +1,28 @@
 // The sheet of the complement: how large it is, and its parts in turn.
+use crate::sections::arcs::put_arcs;
+use crate::sections::bounded::bounded_between;
+use crate::sections::pairs::put_pairs;
+use crate::sections::places::count_new_places;
+use crate::sections::places::put_modes;
+use crate::sections::places::put_places;
 use opened::shape::NetShape;
-use sections::arcs::put_arcs;
-use sections::bounded::bounded_between;
-use sections::pairs::put_pairs;
-use sections::places::count_new_places;
-use sections::places::put_modes;
-use sections::places::put_places;
-use written::head_size;
-use written::put_count;
-use written::put_head;
-use written::put_total;
-use written::total_size;
+use sheets::written::head_size;
+use sheets::written::put_count;
+use sheets::written::put_head;
+use sheets::written::put_total;
+use sheets::written::total_size;
 ghost use mathlib.Core.Path.{_≡_};
 ghost use Prim.Native.Nat.{_*_, _≤_, _<_};
 ghost use lib.ListN.{length};
-ghost use Rattle.model.specs.Complement.{complement};
+ghost use Rattle.second_form.specs.Complement.{complement};
 ghost use Rattle.sheets.specs.Decoded.{netOf};
 ghost use Rattle.opened.specs.Shape.{Open};
 ghost use Rattle.opened.specs.Starts.{StartsAre};
-ghost use Rattle.written.specs.Written.{sectionBytes, sheetOf};
-ghost use Rattle.sections.specs.DeadModes.{DeadAre};
+ghost use Rattle.sheets.specs.written.Written.{sectionBytes, sheetOf};
+ghost use Rattle.complement.specs.sections.DeadModes.{DeadAre};
 ghost use Rattle.halves.specs.Bounded.{BelowAre};
 ghost use Rattle.complement.specs.Sizes.{SizesWith, Few, countsBytes, recordsBytes};
-ghost use Rattle.written.specs.Puts.{Room, Puts};
+ghost use Rattle.sheets.specs.written.Puts.{Room, Puts};
 
 // How many places and pairs the complement has, and how many arcs: as many as it has, or at most so many.
 pub(crate) struct Sizes {

@@ -19,17 +19,17 @@ use Rattle.model.proofs.First.{then-assoc, then-under, none-then, some-then, le
 use Rattle.heads.specs.Layout.{version}
 use Rattle.heads.specs.Version.{versionOf}
 use Rattle.heads.specs.Checks.{headRefusal}
-use Rattle.nets.specs.Nets.{netRefusal}
+use Rattle.sheets.specs.nets.Nets.{netRefusal}
 use Rattle.sheets.specs.Whole.{wholeNet}
 use Rattle.sheets.specs.Decoded.{netOf}
 use Rattle.opened.specs.declared.shape.NetShape.{NetShape}
 use Rattle.opened.specs.declared.Opened.the-variants as opening
 use Rattle.opened.specs.Opened.{opened}
-use Rattle.written.specs.Written.{versionNumber}
-use Rattle.written.specs.Puts.{Puts}
-use Rattle.written.proofs.Puts.{from-start}
-use Rattle.written.proofs.Versions.{version-is}
-use Rattle.written.proofs.RoundTrip.{own-sheet}
+use Rattle.sheets.specs.written.Written.{versionNumber}
+use Rattle.sheets.specs.written.Puts.{Puts}
+use Rattle.sheets.proofs.written.Puts.{from-start}
+use Rattle.sheets.proofs.written.Versions.{version-is}
+use Rattle.sheets.proofs.written.RoundTrip.{own-sheet}
 use Rattle.convert.specs.declared.Converted.the-variants.{Length, Refused}
 use Rattle.convert.specs.Converted.{ofVersion, convertedSheet, lostRule, tooShort, openRefusal, converted, output}
 

@@ -1,4 +1,4 @@
-pub mod Segments
-pub mod Parts
+mod Segments
+mod Parts
 pub mod Answers
 pub mod Promises

@@ -10,19 +10,19 @@ use Rattle.model.specs.Nets.{PNet, ruleNumber, pairs}
 use Rattle.heads.specs.Bytes.{byteAt}
 use Rattle.heads.specs.Layout.{fieldsAt}
 use Rattle.heads.specs.Version.{versionOf}
-use Rattle.nets.proofs.Valid.{headed}
+use Rattle.sheets.proofs.nets.Valid.{headed}
 use Rattle.sheets.specs.Decoded.{netOf}
 use Rattle.opened.specs.declared.shape.NetShape.{NetShape}
 use Rattle.opened.specs.Shape.{Open}
 use Rattle.opened.proofs.Shapes.{shaped, sizes}
-use Rattle.written.specs.Written.{bytes16, headBytes, totalBytes, sectionBytes, fieldsOf, lengthOf, sheetOf}
-use Rattle.written.specs.Puts.{partOf, sheetSize}
-use Rattle.written.proofs.Stands.{Stands, stands-left}
-use Rattle.written.proofs.SheetLength.{ByMode, counts-section, pairs-section, section-by-mode, sheet-length, sheet-size, sheet-least, sheet-most}
-use Rattle.written.proofs.ByMode.{by-mode}
-use Rattle.written.proofs.Puts.{part-is}
-use Rattle.written.proofs.NetStands.{fields-stand}
-use Rattle.written.proofs.RoundTrip.{pairs-there}
+use Rattle.sheets.specs.written.Written.{bytes16, headBytes, totalBytes, sectionBytes, fieldsOf, lengthOf, sheetOf}
+use Rattle.sheets.specs.written.Puts.{partOf, sheetSize}
+use Rattle.sheets.proofs.written.Stands.{Stands, stands-left}
+use Rattle.sheets.proofs.written.SheetLength.{ByMode, counts-section, pairs-section, section-by-mode, sheet-length, sheet-size, sheet-least, sheet-most}
+use Rattle.sheets.proofs.written.ByMode.{by-mode}
+use Rattle.sheets.proofs.written.Puts.{part-is}
+use Rattle.sheets.proofs.written.NetStands.{fields-stand}
+use Rattle.sheets.proofs.written.RoundTrip.{pairs-there}
 use Rattle.convert.specs.Parts.{commonBytes, modeGroup}
 
 module _ (v : Version) (net : PNet) where

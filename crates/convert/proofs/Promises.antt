@@ -10,14 +10,14 @@ use Rattle.model.specs.declared.Refusal.{Refusal}
 use Rattle.model.specs.declared.Version.{Version}
 use Rattle.model.proofs.First.{left-none, right-none, none-then}
 use Rattle.heads.specs.Bytes.{byteAt}
-use Rattle.nets.specs.Nets.{netRefusal}
+use Rattle.sheets.specs.nets.Nets.{netRefusal}
 use Rattle.sheets.specs.Whole.{wholeNet}
 use Rattle.sheets.specs.Decoded.{netOf}
 use Rattle.sheets.proofs.Accepted.{well-formed}
-use Rattle.written.specs.Written.{versionNumber, sheetOf}
-use Rattle.written.specs.Promises.{ReadBack}
-use Rattle.written.proofs.Versions.{number-is, version-is}
-use Rattle.written.proofs.RoundTrip.{known-holds, read-then-written, written-then-read}
+use Rattle.sheets.specs.written.Written.{versionNumber, sheetOf}
+use Rattle.sheets.specs.written.Promises.{ReadBack}
+use Rattle.sheets.proofs.written.Versions.{number-is, version-is}
+use Rattle.sheets.proofs.written.RoundTrip.{known-holds, read-then-written, written-then-read}
 use Rattle.convert.specs.declared.Converted.the-variants.{Length}
 use Rattle.convert.specs.Converted.{ofVersion, lostRule, convertedSheet, openRefusal, convertRefusal, converted, output, conversionOf, outputOf}
 use Rattle.convert.specs.Promises.{SourceOnly, ConvertedReads, Returned, ThereAndBack}

@@ -8,8 +8,8 @@ use Rattle.model.specs.declared.Version.{Version}
 use Rattle.model.specs.Nets.{NetArc, arcNo}
 use Rattle.model.specs.Lists.{joined}
 use Rattle.opened.specs.Starts.{ModeArcs}
-use Rattle.written.specs.Written.{arcBytes, ofMode}
-use Rattle.written.proofs.Together.{together-count, together-each}
+use Rattle.sheets.specs.written.Written.{arcBytes, ofMode}
+use Rattle.sheets.proofs.written.Together.{together-count, together-each}
 
 module _ (arcs : List NetArc) (t : Mode) (start count : ℕ) (own : ModeArcs arcs t start count) where
   pub segment-count : count ≡ length (ofMode arcs (t .0))

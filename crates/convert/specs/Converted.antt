@@ -19,10 +19,10 @@ use Rattle.model.specs.Refusals.{wrong}
 use Rattle.model.specs.Replies.{Reply, yields, refuses}
 use Rattle.heads.specs.Layout.{version}
 use Rattle.heads.specs.Checks.{headRefusal}
-use Rattle.nets.specs.Nets.{netFields}
+use Rattle.sheets.specs.nets.Nets.{netFields}
 use Rattle.sheets.specs.Whole.{bytesAfter}
 use Rattle.sheets.specs.Decoded.{netOf}
-use Rattle.written.specs.Written.{versionNumber, sheetOf}
+use Rattle.sheets.specs.written.Written.{versionNumber, sheetOf}
 use Rattle.convert.specs.declared.Converted.{Converted}
 use Rattle.convert.specs.declared.Converted.the-variants.{Length, Refused}
 

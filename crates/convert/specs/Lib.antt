@@ -2,3 +2,4 @@ pub mod Converted
 pub mod Contracts
 pub mod Parts
 pub mod Promises
+pub mod strip

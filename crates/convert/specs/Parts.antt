@@ -5,7 +5,7 @@ use mathlib.Core.List.{List, _++_, flatMap}
 use lib.ListN.{length}
 use Rattle.model.specs.declared.Version.{Version}
 use Rattle.model.specs.Nets.{PNet, arcNo}
-use Rattle.written.specs.Written.{bytes16, pairsBytes, ofMode, arcBytes, groupBytes}
+use Rattle.sheets.specs.written.Written.{bytes16, pairsBytes, ofMode, arcBytes, groupBytes}
 
 -- "Place count ..; transition count ..; colours of each place ..; modes of each transition ..; for each pair K and the first marking"
 unfoldable pub commonBytes : PNet → List ℕ

@@ -5,10 +5,10 @@ use opened::arcs::arc;
 use opened::shape::NetShape;
 use opened::starts::Segment;
 use opened::starts::arcs_of;
-use written::put_arc_mode;
-use written::put_own;
-use written::put16;
-use written::put32;
+use sheets::written::put_arc_mode;
+use sheets::written::put_own;
+use sheets::written::put16;
+use sheets::written::put32;
 ghost use mathlib.Core.List.{flatMap};
 ghost use Prim.Native.Nat.{_+_, _≤_};
 ghost use lib.ListN.{length};
@@ -16,8 +16,8 @@ ghost use Rattle.model.specs.Lists.{joined};
 ghost use Rattle.sheets.specs.Decoded.{netOf};
 ghost use Rattle.opened.specs.Shape.{Open};
 ghost use Rattle.opened.specs.Starts.{StartsAre, ModeArcs, OwnArc};
-ghost use Rattle.written.specs.Written.{arcBytes, ofMode};
-ghost use Rattle.written.specs.Puts.{Put, Room, Puts, modeSize};
+ghost use Rattle.sheets.specs.written.Written.{arcBytes, ofMode};
+ghost use Rattle.sheets.specs.written.Puts.{Put, Room, Puts, modeSize};
 ghost use Rattle.convert.specs.Parts.{arcNoBytes, modeGroup};
 
 // The i-th arc of a mode.
@@ -85,7 +85,7 @@ fn put_group(
     put_mode_arcs(s, net, arcs, version, out, next)
 }
 
-pub fn put_groups(
+pub(crate) fn put_groups(
     s: &[u8],
     net: NetShape,
     starts: &[u16; 257],

@@ -1,6 +1,7 @@
 // The conversions of a net sheet between its two versions (document 02, P9): the same net, written in the other version.
 pub mod arcs;
 mod sheet;
+pub mod strip;
 
 use crate::sheet::put_sheet;
 use heads::head::read_head;
@@ -14,13 +15,13 @@ use model::Version;
 use opened::Opened;
 use opened::open_net;
 use opened::shape::NetShape;
-use written::sheet_size;
+use sheets::written::sheet_size;
 ghost use mathlib.Core.Path.{_≡_};
 ghost use lib.ListN.{length};
 ghost use Rattle.model.specs.Refusals.{answer};
 ghost use Rattle.opened.specs.Shape.{shapeOf, Open};
 ghost use Rattle.opened.specs.Opened.{opened};
-ghost use Rattle.written.specs.Written.{versionNumber};
+ghost use Rattle.sheets.specs.written.Written.{versionNumber};
 ghost use Rattle.convert.specs.Converted.{ofVersion, lostRule, convertedSheet, openRefusal, converted, output, conversionOf, outputOf};
 ghost use Rattle.convert.specs.Contracts.{ToVersion1Allows, ToVersion2Allows};
 

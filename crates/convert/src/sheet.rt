@@ -4,15 +4,15 @@ use heads::head::fields_at;
 use model::Version;
 use opened::shape::NetShape;
 use opened::starts::starts;
-use written::put_head;
-use written::put_part;
-use written::put_total;
+use sheets::written::put_head;
+use sheets::written::put_part;
+use sheets::written::put_total;
 ghost use mathlib.Core.Path.{_≡_};
 ghost use lib.ListN.{length};
 ghost use Rattle.sheets.specs.Decoded.{netOf};
 ghost use Rattle.opened.specs.Shape.{Open};
-ghost use Rattle.written.specs.Written.{sectionBytes, sheetOf};
-ghost use Rattle.written.specs.Puts.{Room, Puts};
+ghost use Rattle.sheets.specs.written.Written.{sectionBytes, sheetOf};
+ghost use Rattle.sheets.specs.written.Puts.{Room, Puts};
 ghost use Rattle.convert.specs.Parts.{commonBytes};
 
 // The counts, the colours, the modes and the pairs, which are the same bytes in both versions.

@@ -2,8 +2,8 @@
 use Prim.Native.Nat.{ℕ, _-_, _≤_, max}
 use mathlib.Core.Path.{_≡_}
 use native.Mathlib.Omega.{arith}
-use Rattle.model.specs.Complement.{reserve}
-use Rattle.model.proofs.ComplementRow.{reserve-is}
+use Rattle.second_form.specs.Complement.{reserve}
+use Rattle.second_form.proofs.ComplementRow.{reserve-is}
 use Rattle.fields.specs.Numbers.{unbounded, bound}
 use Rattle.fields.proofs.Bounds.{by-bound}
 

@@ -5,7 +5,7 @@ ghost use mathlib.Core.Path.{_≡_};
 ghost use mathlib.Core.Bool.{cond};
 ghost use Prim.Native.Nat.{_+_, _-_, _≤_, max};
 ghost use Rattle.model.specs.Numbers.{limit};
-ghost use Rattle.model.specs.Complement.{reserve, claim, complementPre};
+ghost use Rattle.second_form.specs.Complement.{reserve, claim, complementPre};
 ghost use Rattle.fields.specs.Numbers.{bound};
 ghost use Rattle.fields.specs.Arcs.{netArc};
 

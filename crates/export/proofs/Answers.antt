@@ -13,8 +13,8 @@ use Rattle.sheets.specs.Decoded.{netOf}
 use Rattle.opened.specs.declared.shape.NetShape.{NetShape}
 use Rattle.opened.specs.Shape.{Open, inhibitorOffset}
 use Rattle.opened.proofs.Shapes.{sizes}
-use Rattle.written.specs.Puts.{Puts}
-use Rattle.written.proofs.Puts.{from-start}
+use Rattle.sheets.specs.written.Puts.{Puts}
+use Rattle.sheets.proofs.written.Puts.{from-start}
 use Rattle.export.specs.declared.Exported.the-variants.{Length, Refused}
 use Rattle.export.specs.Exports.{boundedCapacity, boundedInhibitor, capacityOffset, exportText, roomRefusal, exported, output}
 use Rattle.export.specs.Bounds.{capacityRefusal, inhibitorRefusal}

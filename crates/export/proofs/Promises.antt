@@ -13,14 +13,14 @@ use Rattle.model.specs.Lists.{listIf}
 use Rattle.model.specs.Numbers.{ℕ∞, fin, ∞}
 use Rattle.model.specs.Rows.{Entry, Row}
 use Rattle.model.specs.Nets.{NetArc, PNet, pairs, modes, pairNo, modeNo, K, row}
-use Rattle.model.specs.Dead.{isDead}
-use Rattle.model.specs.Complement.{finite, blank, written, allPairs, arcsOf, complement}
+use Rattle.second_form.specs.Dead.{isDead}
+use Rattle.second_form.specs.Complement.{finite, blank, written, allPairs, arcsOf, complement}
 use Rattle.model.specs.Refusals.{wrong}
-use Rattle.model.proofs.Each.{Each, each-joined, each-at}
+use Rattle.movement.proofs.Each.{Each, each-joined, each-at}
 use Rattle.model.proofs.First.{left-none, right-none, none-then, first-each, first-all, only-if-none}
-use Rattle.model.proofs.ComplementNet.{capacity-complement}
-use Rattle.model.proofs.ComplementRow.{row-uninhibited}
-use Rattle.nets.specs.Nets.{netRefusal}
+use Rattle.second_form.proofs.ComplementNet.{capacity-complement}
+use Rattle.second_form.proofs.ComplementRow.{row-uninhibited}
+use Rattle.sheets.specs.nets.Nets.{netRefusal}
 use Rattle.sheets.specs.Whole.{wholeNet}
 use Rattle.sheets.specs.Decoded.{netOf}
 use Rattle.sheets.proofs.Accepted.{well-formed}

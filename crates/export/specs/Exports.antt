@@ -10,7 +10,7 @@ use Rattle.model.specs.declared.Fault.the-variants.{NotUnbounded, NoRoom}
 use Rattle.model.specs.declared.Refusal.{Refusal}
 use Rattle.model.specs.First.{_▸_, onlyIf, lowest}
 use Rattle.model.specs.Nets.{PNet, pairs, K, arcNo}
-use Rattle.model.specs.Complement.{finite}
+use Rattle.second_form.specs.Complement.{finite}
 use Rattle.model.specs.Refusals.{wrong}
 use Rattle.model.specs.Replies.{Reply, yields, refuses}
 use Rattle.heads.specs.Layout.{pairsAt, pairAt, capacityAt}

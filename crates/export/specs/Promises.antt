@@ -5,7 +5,7 @@ use mathlib.Core.List.{List}
 use mathlib.Core.Option.{none}
 use Rattle.model.specs.Nets.{PNet}
 use Rattle.model.specs.WellFormed.{WellFormed}
-use Rattle.model.specs.Complement.{complement}
+use Rattle.second_form.specs.Complement.{complement}
 use Rattle.sheets.specs.Whole.{wholeNet}
 use Rattle.sheets.specs.Decoded.{netOf}
 use Rattle.pnml.specs.Pnml.{Exportable}

@@ -1,7 +1,11 @@
 // The exporting call: a net whose K and I are all unbounded as a text in PNML, for tools that read place/transition nets (document 02, P5).
 mod bounds;
+pub mod elements;
+pub mod texts;
 
 use crate::bounds::bounds_answer;
+use crate::texts::lengths::text_length;
+use crate::texts::puts::put_text;
 use heads::head::refused;
 use model::Answer;
 use model::Fault;
@@ -11,8 +15,6 @@ use opened::Opened;
 use opened::open_net;
 use opened::shape::NetShape;
 use opened::starts::starts;
-use texts::lengths::text_length;
-use texts::puts::put_text;
 ghost use mathlib.Core.Path.{_≡_};
 ghost use lib.ListN.{length};
 ghost use Rattle.model.specs.Refusals.{answer};

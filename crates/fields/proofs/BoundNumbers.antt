@@ -7,7 +7,7 @@ use lib.Dec.{eqb}
 use native.Mathlib.Omega.{arith}
 use borrow.Author.Tests.{eqb-true, eqb-false}
 use Rattle.model.specs.Numbers.{fin, ∞, leastOf}
-use Rattle.model.specs.Complement.{finite}
+use Rattle.second_form.specs.Complement.{finite}
 use Rattle.fields.specs.Numbers.{unbounded, bound}
 use Rattle.fields.proofs.Bounds.{bound-unbounded, bound-finite, by-bound}
 

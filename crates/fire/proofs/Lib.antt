@@ -1,4 +1,4 @@
-pub mod Filling
+mod Filling
 pub mod Opened
 pub mod Opening
 pub mod Promises

@@ -10,8 +10,8 @@ use Rattle.model.specs.declared.Refusal.{Refusal}
 use Rattle.model.specs.Markings.{Marking, markingRefusal}
 use Rattle.model.specs.Firing.{modeRefusal, fired}
 use Rattle.model.proofs.First.{left-none, right-none, none-then}
-use Rattle.model.proofs.Markings.{mode-rule, marking-after, marking-test, marking-kept}
-use Rattle.nets.specs.Nets.{netRefusal}
+use Rattle.movement.proofs.Markings.{mode-rule, marking-after, marking-test, marking-kept}
+use Rattle.sheets.specs.nets.Nets.{netRefusal}
 use Rattle.sheets.specs.Whole.{wholeNet}
 use Rattle.sheets.specs.Decoded.{netOf}
 use Rattle.sheets.proofs.Accepted.{well-formed}

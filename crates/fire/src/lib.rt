@@ -1,10 +1,10 @@
 // Movements over a lent marking, one at a time: begin, test, fire.
 // What each call answers, and what it leaves in the marking, is said in specs/Calls.antt.
 use crate::advance::mode_answer;
+use crate::firing::mode::fire_arcs;
+use crate::firing::mode::row_answer;
 use crate::marking::marking_answer;
 use crate::start::write_start;
-use firing::mode::fire_arcs;
-use firing::mode::row_answer;
 use heads::head::refused;
 use model::Answer;
 use model::Fault;
@@ -25,8 +25,10 @@ ghost use Rattle.model.specs.Markings.{unequal};
 ghost use Rattle.fire.specs.Contracts.{BeginAllows, TestAllows, FireAllows};
 
 pub mod advance;
+pub mod firing;
 pub mod marking;
 pub mod start;
+pub mod step;
 
 fn begin_open(s: &[u8], net: NetShape, marking: &mut [u32]) -> Answer
     requires { ⌜ Open (now s) net ⌝ }

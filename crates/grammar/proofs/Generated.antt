@@ -16,12 +16,12 @@ use Rattle.model.specs.Numbers.{limit, ∞}
 use Rattle.model.specs.Nets.{NetArc, PNet, total, pairs, modes, count, arcNo}
 use Rattle.model.specs.WellFormed.{Rises, Counted}
 use Rattle.model.specs.Lists.{table}
-use Rattle.model.proofs.Each.{Each, Sorted, at-each}
-use Rattle.model.proofs.Nets.{rises-all}
+use Rattle.movement.proofs.Each.{Each, Sorted, at-each}
+use Rattle.movement.proofs.Nets.{rises-all}
 use Rattle.sheets.proofs.GroupArcs.{all-sorted}
 use Rattle.model.proofs.Tables.{table-length, table-at}
-use Rattle.written.proofs.ByMode.{by-mode}
-use Rattle.written.specs.Written.{ofMode}
+use Rattle.sheets.proofs.written.ByMode.{by-mode}
+use Rattle.sheets.specs.written.Written.{ofMode}
 use Rattle.pnml.specs.Pnml.{closing, placeText, transitionText, preText, postText, positive, arcText, modeText, body, Exportable}
 use Rattle.grammar.specs.declared.State.{State}
 use Rattle.grammar.specs.Gathered.{Gathered, nothing, withArcs, arc, lastPost, gather, finish, Tells}

@@ -6,12 +6,12 @@ use mathlib.Core.Option.{Option, none, some}
 use lib.ListN.{length, length-append}
 use native.Mathlib.Omega.{arith}
 use Rattle.pnml.specs.Agrees.{Agrees}
-use Rattle.parts.proofs.Steps.{agrees-both, agrees-rest, agrees-fewer, agrees-more}
+use Rattle.grammar.proofs.parts.Steps.{agrees-both, agrees-rest, agrees-fewer, agrees-more}
 use Rattle.pnml.specs.Pnml.{closing}
-use Rattle.parts.proofs.Reading.{the-one, whole-first}
+use Rattle.grammar.proofs.parts.Reading.{the-one, whole-first}
 use Rattle.grammar.specs.declared.State.{State}
 use Rattle.grammar.specs.Lines.{Line, place, transition, pre, post, Allowed, after, lineText, AllowedNext, nextText, Valid, textFrom}
-use Rattle.parts.specs.Stands.{Stands, Stops}
+use Rattle.grammar.specs.parts.Stands.{Stands, Stops}
 
 -- a state after a line can be closed
 pub closable : (q : State) (l : Line) → Allowed q l → 1 ≤ after q l .places

@@ -16,15 +16,15 @@ use Rattle.model.specs.Lists.{joined}
 use Rattle.model.specs.Numbers.{limit, ∞}
 use Rattle.model.specs.Nets.{NetArc, PNet, total, pairs, modes, K, count, arcNo}
 use Rattle.model.specs.WellFormed.{Rises, Counted}
-use Rattle.model.proofs.Each.{Each, Sorted, each-append, each-at, sorted-rising}
-use Rattle.model.proofs.Joined.{joined-ext}
-use Rattle.written.specs.Written.{ofMode}
+use Rattle.movement.proofs.Each.{Each, Sorted, each-append, each-at, sorted-rising}
+use Rattle.movement.proofs.Joined.{joined-ext}
+use Rattle.sheets.specs.written.Written.{ofMode}
 use Rattle.pnml.specs.Pnml.{opening, closing, pnml, placeText, transitionText, preText, postText, positive, arcText, modeText, body, Exportable}
 use Rattle.grammar.specs.declared.State.{State}
 use Rattle.grammar.specs.Lines.{Line, place, transition, pre, post, Allowed, after, upTo, lineText, start, Valid, textFrom}
 use Rattle.grammar.specs.Gathered.{Gathered, nothing, withArcs, arc, lastPost, gather}
-use Rattle.written.proofs.ByMode.{of-append, of-own, of-other}
-use Rattle.written.proofs.Sections.{section-append}
+use Rattle.sheets.proofs.written.ByMode.{of-append, of-own, of-other}
+use Rattle.sheets.proofs.written.Sections.{section-append}
 use Rattle.grammar.proofs.Generated.{each-map, last-post}
 
 -- one arc more in the last mode

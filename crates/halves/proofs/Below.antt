@@ -10,10 +10,10 @@ use native.Mathlib.Omega.{arith}
 use native.Mathlib.Numerals.{add-one}
 use Rattle.model.specs.Rows.{Capacities}
 use Rattle.model.specs.Nets.{pairs, K}
-use Rattle.model.specs.Complement.{finite, boundedBelow, complement}
+use Rattle.second_form.specs.Complement.{finite, boundedBelow, complement}
 use Rattle.model.proofs.First.{below-or}
-use Rattle.model.proofs.Bounded.{below-none, below-next, below-at-most, below-rises}
-use Rattle.model.proofs.ComplementNet.{pairs-complement}
+use Rattle.second_form.proofs.Bounded.{below-none, below-next, below-at-most, below-rises}
+use Rattle.second_form.proofs.ComplementNet.{pairs-complement}
 use Rattle.opened.specs.declared.shape.NetShape.{NetShape}
 use Rattle.sheets.specs.Decoded.{netOf}
 use Rattle.opened.specs.Shape.{Open}

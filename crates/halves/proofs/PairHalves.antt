@@ -7,16 +7,16 @@ use native.Mathlib.Omega.{arith}
 use Rattle.model.specs.Numbers.{ℕ∞, fin}
 use Rattle.model.specs.Nets.{PNet, pairs, K, count}
 use Rattle.model.specs.WellFormed.{WellFormed}
-use Rattle.model.specs.Complement.{bounded, boundedBelow, complementPair, complement}
+use Rattle.second_form.specs.Complement.{bounded, boundedBelow, complementPair, complement}
 use Rattle.model.specs.Lists.{joined}
-use Rattle.model.proofs.Joined.{joined-ext, joined-split, joined-sparse}
-use Rattle.model.proofs.Bounded.{bounded-pair, at-complements, bounded-rises, unbounded as not-bounded}
-use Rattle.model.proofs.ComplementNet.{pairs-complement, capacity-complement, start-corresponds}
+use Rattle.movement.proofs.Joined.{joined-ext, joined-split, joined-sparse}
+use Rattle.second_form.proofs.Bounded.{bounded-pair, at-complements, bounded-rises, unbounded as not-bounded}
+use Rattle.second_form.proofs.ComplementNet.{pairs-complement, capacity-complement, start-corresponds}
 use Rattle.opened.specs.declared.shape.NetShape.{NetShape}
 use Rattle.fields.specs.Numbers.{unbounded, bound}
 use Rattle.sheets.specs.Decoded.{netOf}
 use Rattle.opened.specs.Shape.{Open}
-use Rattle.written.specs.Written.{pairBytes, pairsBytes}
+use Rattle.sheets.specs.written.Written.{pairBytes, pairsBytes}
 use Rattle.fields.proofs.Bounds.{bound-unbounded}
 use Rattle.opened.proofs.Shapes.{sizes}
 use Rattle.halves.specs.declared.half.Half.{Half}

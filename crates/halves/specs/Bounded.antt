@@ -5,7 +5,7 @@ use mathlib.Core.Path.{_≡_}
 use mathlib.Core.List.{List}
 use lib.ListN.{getD}
 use Rattle.model.specs.Nets.{PNet, pairs, K}
-use Rattle.model.specs.Complement.{boundedBelow}
+use Rattle.second_form.specs.Complement.{boundedBelow}
 
 pub record BelowAre (net : PNet) (below : List ℕ) : Type 0 where
   pub each : (p : ℕ) → p ≤ pairs net → getD below p 0 ≡ boundedBelow (K net) p

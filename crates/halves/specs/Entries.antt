@@ -8,7 +8,7 @@ use Rattle.model.specs.declared.Arc.{Arc}
 use Rattle.model.specs.Numbers.{ℕ∞, limit}
 use Rattle.model.specs.Nets.{NetArc}
 use Rattle.model.specs.WellFormed.{InRange}
-use Rattle.model.specs.Complement.{complementEntry}
+use Rattle.second_form.specs.Complement.{complementEntry}
 use Rattle.fields.specs.Numbers.{bound}
 
 -- an arc that was read, and the capacity of its pair

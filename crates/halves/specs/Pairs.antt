@@ -4,8 +4,8 @@ use Prim.Native.Nat.{ℕ}
 use mathlib.Core.List.{List, []}
 use Rattle.model.specs.Numbers.{ℕ∞, fin, ∞}
 use Rattle.model.specs.Nets.{PNet, K, count}
-use Rattle.model.specs.Complement.{less}
-use Rattle.written.specs.Written.{pairBytes}
+use Rattle.second_form.specs.Complement.{less}
+use Rattle.sheets.specs.written.Written.{pairBytes}
 use Rattle.halves.specs.declared.half.Half.{Half}
 use Rattle.halves.specs.declared.half.Half.the-variants.{Original, Complement}
 

@@ -4,13 +4,13 @@ use opened::finite::is_finite;
 use opened::shape::NetShape;
 use opened::shape::capacity;
 use opened::shape::start_count;
-use written::put_pair;
+use sheets::written::put_pair;
 ghost use Prim.Native.Nat.{_<_};
 ghost use Rattle.model.specs.Nets.{K, count};
 ghost use Rattle.sheets.specs.Decoded.{netOf};
 ghost use Rattle.opened.specs.Shape.{Open};
 ghost use Rattle.halves.specs.Pairs.{newPair};
-ghost use Rattle.written.specs.Puts.{Room, Puts};
+ghost use Rattle.sheets.specs.written.Puts.{Room, Puts};
 
 // "first marking: K less the original's"; an unbounded pair has no complement.
 pub fn put_new_pair(s: &[u8], net: NetShape, pair: Pair, out: &mut [u8], at: usize) -> usize

@@ -12,14 +12,14 @@ use Rattle.model.specs.declared.Refusal.{Refusal}
 use Rattle.model.specs.declared.Version.the-variants.{One}
 use Rattle.model.specs.Nets.{PNet}
 use Rattle.model.specs.Refusals.{wrong}
-use Rattle.written.specs.Puts.{sheetSize}
-use Rattle.written.proofs.Puts.{from-start}
+use Rattle.sheets.specs.written.Puts.{sheetSize}
+use Rattle.sheets.proofs.written.Puts.{from-start}
 use Rattle.pnml.specs.Pnml.{pnml, Exportable}
 use Rattle.pnml.specs.Singles.{importedSheet}
 use Rattle.pnml.proofs.ImportRefusal.{too-many, short, roomy}
 use Rattle.grammar.specs.declared.State.{State}
-use Rattle.scan.specs.declared.Checked.{Checked}
-use Rattle.scan.specs.Kinds.{ExportOf, CheckAllows, CheckedAs}
+use Rattle.import.specs.declared.scan.Checked.{Checked}
+use Rattle.import.specs.scan.Kinds.{ExportOf, CheckAllows, CheckedAs}
 use Rattle.import.specs.declared.Imported.{Imported}
 use Rattle.import.specs.declared.Imported.the-variants.{Length, Refused}
 use Rattle.import.specs.Imports.{imported, output}

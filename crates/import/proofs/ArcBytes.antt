@@ -11,11 +11,11 @@ use Rattle.model.specs.declared.Version.the-variants.{One}
 use Rattle.model.specs.Nets.{NetArc}
 use Rattle.model.proofs.First.{below-or}
 use Rattle.fields.specs.Numbers.{unbounded}
-use Rattle.written.specs.Written.{bytes16, bytes32, modeBytes, tailBytes, arcBytes}
-use Rattle.written.specs.Puts.{Written, Put, Puts}
-use Rattle.written.proofs.Puts.{puts, put-length, puts-as}
-use Rattle.written.proofs.Sections.{section-append, section-one}
-use Rattle.written.proofs.SheetLength.{arcs-section}
+use Rattle.sheets.specs.written.Written.{bytes16, bytes32, modeBytes, tailBytes, arcBytes}
+use Rattle.sheets.specs.written.Puts.{Written, Put, Puts}
+use Rattle.sheets.proofs.written.Puts.{puts, put-length, puts-as}
+use Rattle.sheets.proofs.written.Sections.{section-append, section-one}
+use Rattle.sheets.proofs.written.SheetLength.{arcs-section}
 use Rattle.grammar.specs.declared.State.{State}
 use Rattle.grammar.specs.Lines.{post}
 use Rattle.grammar.specs.Gathered.{Gathered, arc, lastPost, gather}

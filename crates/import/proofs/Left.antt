@@ -11,16 +11,16 @@ use native.Mathlib.Nat.{zero-add}
 use Rattle.model.specs.Nets.{PNet, pairs}
 use Rattle.pnml.specs.Agrees.{Agrees}
 use Rattle.pnml.specs.Pnml.{opening, pnml, Exportable}
-use Rattle.parts.specs.Stands.{Stands, Stops}
-use Rattle.parts.proofs.Steps.{agrees-rest}
-use Rattle.parts.proofs.Reading.{the-one, whole-first}
+use Rattle.grammar.specs.parts.Stands.{Stands, Stops}
+use Rattle.grammar.proofs.parts.Steps.{agrees-rest}
+use Rattle.grammar.proofs.parts.Reading.{the-one, whole-first}
 use Rattle.grammar.specs.declared.State.{State}
 use Rattle.grammar.specs.Lines.{Line, place, transition, pre, post, after, start, lineText, AllowedNext, nextText, Valid, textFrom}
 use Rattle.grammar.specs.Gathered.{Gathered, nothing, gather, finish, Tells}
 use Rattle.grammar.proofs.Lists.{differ, differ′, same}
 use Rattle.grammar.proofs.Made.{made-start, made-line}
-use Rattle.scan.proofs.Answers.{lines-of, all-agree}
-use Rattle.scan.proofs.Onward.{sound-start, sound-after}
+use Rattle.import.proofs.scan.Answers.{lines-of, all-agree}
+use Rattle.import.proofs.scan.Onward.{sound-start, sound-after}
 use Rattle.import.specs.Parts.{Left, Going, LineAt}
 
 left-start : {s : List ℕ} (net : PNet) → Exportable net → s ≡ pnml net → Left s net start nothing (length opening)

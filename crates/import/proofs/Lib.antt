@@ -1,10 +1,10 @@
-pub mod Left
-pub mod Overwritten
-pub mod ArcBytes
+mod Left
+mod Overwritten
+mod ArcBytes
 pub mod Singles
-pub mod LineWrites
-pub mod Loops
-pub mod Answers
-pub mod SheetRoom
+mod LineWrites
+mod Loops
+mod Answers
+mod SheetRoom
 pub mod Promises
 pub mod RefusalTable

@@ -9,15 +9,15 @@ use borrow.Author.Tests.{le-ltb}
 use Rattle.model.specs.declared.Version.the-variants.{One}
 use Rattle.fields.specs.Numbers.{bound, unbounded}
 use Rattle.fields.proofs.Bounds.{bound-unbounded}
-use Rattle.written.specs.Written.{pairBytes, arcBytes}
-use Rattle.written.specs.Puts.{Put}
+use Rattle.sheets.specs.written.Written.{pairBytes, arcBytes}
+use Rattle.sheets.specs.written.Puts.{Put}
 use Rattle.grammar.specs.declared.State.{State}
 use Rattle.grammar.specs.Lines.{place, transition, pre, post, ArcAllowed, after, fromPost}
 use Rattle.grammar.specs.Gathered.{arc}
-use Rattle.scan.specs.declared.Step.{Step}
-use Rattle.scan.specs.declared.Step.the-variants.{Placed, Begun, PreArc, PostArc, Closed, Stopped}
-use Rattle.scan.specs.Kinds.{StepAllows}
-use Rattle.scan.proofs.Onward.{step-as}
+use Rattle.import.specs.declared.scan.Step.{Step}
+use Rattle.import.specs.declared.scan.Step.the-variants.{Placed, Begun, PreArc, PostArc, Closed, Stopped}
+use Rattle.import.specs.scan.Kinds.{StepAllows}
+use Rattle.import.proofs.scan.Onward.{step-as}
 use Rattle.import.specs.declared.Wrote.the-variants.{On, End}
 use Rattle.import.specs.Parts.{LineAt, Ready, PostRoom, PostPut, WriteAllows, PlaceAllows}
 use Rattle.import.proofs.ArcBytes.{new-arc, post-puts}

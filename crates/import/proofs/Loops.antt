@@ -9,18 +9,18 @@ use lib.ListN.{length, length-append}
 use native.Mathlib.Omega.{arith}
 use Rattle.model.specs.Numbers.{∞}
 use Rattle.model.specs.Nets.{NetArc, PNet, pairs, modes}
-use Rattle.written.specs.Written.{pairBytes}
-use Rattle.written.specs.Puts.{Puts}
-use Rattle.written.proofs.Puts.{nothing, puts, put-length, puts-as}
-use Rattle.written.proofs.Sections.{section-append, section-one}
+use Rattle.sheets.specs.written.Written.{pairBytes}
+use Rattle.sheets.specs.written.Puts.{Puts}
+use Rattle.sheets.proofs.written.Puts.{nothing, puts, put-length, puts-as}
+use Rattle.sheets.proofs.written.Sections.{section-append, section-one}
 use Rattle.pnml.specs.Pnml.{opening, closing, body, pnml, Exportable}
 use Rattle.grammar.specs.declared.State.{State}
 use Rattle.grammar.specs.Lines.{Line, place, after, start, AllowedNext, nextText}
-use Rattle.parts.specs.Stands.{Stands, Stops}
+use Rattle.grammar.specs.parts.Stands.{Stands, Stops}
 use Rattle.grammar.specs.Gathered as G
 use Rattle.grammar.specs.Gathered.{Gathered, gather}
-use Rattle.scan.specs.Kinds.{ExportOf}
-use Rattle.scan.proofs.Onward.{line-long}
+use Rattle.import.specs.scan.Kinds.{ExportOf}
+use Rattle.import.proofs.scan.Onward.{line-long}
 use Rattle.import.specs.Parts.{Going, LineAt, Other, PlaceReady, PlacePut, NoPlace, PlacesPut, Ready, LinePut, NoLine, ArcsFollow, ArcsPut, afterPlaces, marksBytes, arcsBytes, PlaceAllows, PlacedAs, WriteAllows, WroteAs}
 use Rattle.import.specs.declared.Wrote.{Wrote}
 use Rattle.import.proofs.Left.{left-line, left-end, left-stops, few-places, few-arcs, all-places, all-marks, going-start, going-line}

@@ -5,8 +5,8 @@ use mathlib.Core.List.{List, [], _∷_, _++_}
 use lib.ListN.{length, set, length-append}
 use lib.Seq.{sets}
 use native.Mathlib.Omega.{arith}
-use Rattle.written.specs.Puts.{Written, Puts}
-use Rattle.written.proofs.Puts.{more, before}
+use Rattle.sheets.specs.written.Puts.{Written, Puts}
+use Rattle.sheets.proofs.written.Puts.{more, before}
 
 set-again : (l : List ℕ) (i x y : ℕ) → set (set l i x) i y ≡ set l i y
 set-again [] i x y = refl

@@ -14,12 +14,12 @@ use Rattle.model.specs.Lists.{joined}
 use Rattle.model.specs.Nets.{PNet, pairs, modes, count}
 use Rattle.model.specs.Refusals.{wrong}
 use Rattle.model.proofs.First.{below-or}
-use Rattle.written.proofs.RoundTrip.{written-then-read}
+use Rattle.sheets.proofs.written.RoundTrip.{written-then-read}
 use Rattle.pnml.specs.Agrees.{FirstNone}
 use Rattle.pnml.specs.Pnml.{opening, closing, placeText, modeText, body, pnml, Exportable, Refused20}
 use Rattle.pnml.specs.Singles.{singles, importedSheet, importRefusal}
 use Rattle.pnml.proofs.ImportRefusal.{roomy, Way, many, full, whole, way}
-use Rattle.parts.proofs.Steps.{agrees-fewer}
+use Rattle.grammar.proofs.parts.Steps.{agrees-fewer}
 use Rattle.grammar.proofs.Generated.{total-some}
 use Rattle.import.specs.declared.Imported.{Imported}
 use Rattle.import.specs.declared.Imported.the-variants.{Length, Refused}

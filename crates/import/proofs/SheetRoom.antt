@@ -7,13 +7,13 @@ use native.Mathlib.Omega.{arith}
 use Rattle.model.specs.declared.Version.the-variants.{One}
 use Rattle.model.specs.declared.CapacityRule.the-variants.{Strong}
 use Rattle.model.specs.Nets.{PNet, ruleNumber, pairs, modes}
-use Rattle.written.specs.Written.{bytes16, headBytes, lengthOf}
-use Rattle.written.specs.Puts.{Put, Room, Puts, sheetSize}
-use Rattle.written.proofs.Puts.{put-length, puts-as, puts-both}
+use Rattle.sheets.specs.written.Written.{bytes16, headBytes, lengthOf}
+use Rattle.sheets.specs.written.Puts.{Put, Room, Puts, sheetSize}
+use Rattle.sheets.proofs.written.Puts.{put-length, puts-as, puts-both}
 use Rattle.pnml.specs.Pnml.{pnml, Exportable}
 use Rattle.pnml.specs.Singles.{singles, importedSheet}
 use Rattle.grammar.specs.declared.State.{State}
-use Rattle.scan.specs.Kinds.{ExportOf}
+use Rattle.import.specs.scan.Kinds.{ExportOf}
 use Rattle.import.specs.Parts.{countsBytes, marksBytes, PlacesPut, ArcsPut, SheetPut}
 use Rattle.import.proofs.Answers.{arcs-few}
 use Rattle.import.proofs.Singles.{head-five, counts-length, marks-length, sheet-parts, size-is, length-is}

@@ -10,14 +10,14 @@ use Rattle.model.specs.Numbers.{∞}
 use Rattle.model.specs.declared.CapacityRule.the-variants.{Strong}
 use Rattle.model.specs.Nets.{PNet, ruleNumber, total, pairs, modes, K, count}
 use Rattle.model.specs.WellFormed.{WellFormed, Counted}
-use Rattle.model.proofs.Joined.{joined-ext}
-use Rattle.written.specs.Written.{bytes16, pairBytes, headBytes, pairsBytes, totalBytes, sectionBytes, lengthOf, sheetOf}
-use Rattle.written.specs.Puts.{sheetSize}
-use Rattle.written.proofs.BigEndian.{length16, head-length}
-use Rattle.written.proofs.Records.{pair-length}
-use Rattle.written.proofs.Sections.{section-list, section-length, joined-length}
-use Rattle.written.proofs.SheetLength.{sheet-length, sheet-size, version-size}
-use Rattle.written.proofs.ByMode.{by-mode}
+use Rattle.movement.proofs.Joined.{joined-ext}
+use Rattle.sheets.specs.written.Written.{bytes16, pairBytes, headBytes, pairsBytes, totalBytes, sectionBytes, lengthOf, sheetOf}
+use Rattle.sheets.specs.written.Puts.{sheetSize}
+use Rattle.sheets.proofs.written.BigEndian.{length16, head-length}
+use Rattle.sheets.proofs.written.Records.{pair-length}
+use Rattle.sheets.proofs.written.Sections.{section-list, section-length, joined-length}
+use Rattle.sheets.proofs.written.SheetLength.{sheet-length, sheet-size, version-size}
+use Rattle.sheets.proofs.written.ByMode.{by-mode}
 use Rattle.pnml.specs.Pnml.{Exportable}
 use Rattle.pnml.specs.Singles.{singles, importedSheet}
 use Rattle.grammar.proofs.Generated.{total-some}

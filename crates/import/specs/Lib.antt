@@ -3,3 +3,4 @@ pub mod RefusalTable
 pub mod Imports
 pub mod Contracts
 pub mod Parts
+pub mod scan

@@ -11,17 +11,17 @@ use Rattle.model.specs.declared.Version.the-variants.{One}
 use Rattle.model.specs.Lists.{joined}
 use Rattle.model.specs.Numbers.{∞}
 use Rattle.model.specs.Nets.{NetArc, PNet}
-use Rattle.written.specs.Written.{bytes16, bytes32, pairBytes, arcBytes}
-use Rattle.written.specs.Puts.{Written, Put, Puts}
+use Rattle.sheets.specs.written.Written.{bytes16, bytes32, pairBytes, arcBytes}
+use Rattle.sheets.specs.written.Puts.{Written, Put, Puts}
 use Rattle.pnml.specs.Agrees.{Agrees}
 use Rattle.pnml.specs.Pnml.{pnml, Exportable}
 use Rattle.pnml.specs.Singles.{importedSheet}
-use Rattle.parts.specs.Stands.{Stands, Stops}
+use Rattle.grammar.specs.parts.Stands.{Stands, Stops}
 use Rattle.grammar.specs.declared.State.{State}
 use Rattle.grammar.specs.Lines.{Line, place, after, AllowedNext, nextText, Valid, textFrom}
 use Rattle.grammar.specs.Gathered.{Gathered, arc, gather, finish, Tells}
 use Rattle.grammar.proofs.Made.{Made}
-use Rattle.scan.specs.Kinds.{Sound}
+use Rattle.import.specs.scan.Kinds.{Sound}
 use Rattle.import.specs.Imports.{importOf, outputOf}
 use Rattle.import.specs.declared.Imported.{Imported}
 use Rattle.import.specs.declared.Wrote.{Wrote}

@@ -8,7 +8,7 @@ use Rattle.model.specs.declared.Fault.the-variants.{NotAnExport}
 use Rattle.model.specs.declared.Version.the-variants.{One}
 use Rattle.model.specs.Nets.{PNet, pairs, modes, K}
 use Rattle.model.specs.Refusals.{wrong}
-use Rattle.written.specs.Promises.{ReadBack}
+use Rattle.sheets.specs.written.Promises.{ReadBack}
 use Rattle.pnml.specs.Pnml.{pnml, Exportable, Refused20}
 use Rattle.pnml.specs.Singles.{singles, importedSheet}
 use Rattle.import.specs.declared.Imported.{Imported}

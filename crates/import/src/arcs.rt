@@ -1,20 +1,20 @@
 // The arcs of an export: those of a mode stand after its transition, and a Post line of the pair in hand belongs to the arc of its Pre line.
 use crate::Wrote;
+use crate::scan::Step;
+use crate::scan::line::read_line;
+use crate::scan::states::after_mode;
+use crate::scan::states::after_post;
+use crate::scan::states::after_pre;
 use grammar::State;
-use scan::Step;
-use scan::line::read_line;
-use scan::states::after_mode;
-use scan::states::after_post;
-use scan::states::after_pre;
-use written::put16;
-use written::put32;
+use sheets::written::put16;
+use sheets::written::put32;
 ghost use Prim.Native.Nat.{_+_, _*_, _≤_, _<_};
 ghost use lib.ListN.{length};
 ghost use Rattle.model.specs.declared.Version.the-variants.{One};
-ghost use Rattle.written.specs.Written.{arcBytes};
-ghost use Rattle.written.specs.Puts.{Put};
+ghost use Rattle.sheets.specs.written.Written.{arcBytes};
+ghost use Rattle.sheets.specs.written.Puts.{Put};
 ghost use Rattle.grammar.specs.Gathered.{arc};
-ghost use Rattle.scan.specs.Kinds.{Sound, ExportOf};
+ghost use Rattle.import.specs.scan.Kinds.{Sound, ExportOf};
 ghost use Rattle.import.specs.Parts.{Ready, PostPut, PostRoom, WriteAllows, ArcsFollow, ArcsPut};
 
 // An arc without an inhibitor, as version 1 has it.

@@ -1,21 +1,22 @@
 // The importing call: a text in PNML that is an export, as a net sheet (document 02, P5). The text is checked whole first, then written: a refused call writes nothing.
 mod arcs;
 mod places;
+pub mod scan;
 mod sheet;
 
+use crate::scan::Checked;
+use crate::scan::check_text;
 use crate::sheet::put_sheet;
 use grammar::State;
 use model::Fault;
 use model::Refusal;
 use model::Thing;
 use model::Version;
-use scan::Checked;
-use scan::check_text;
-use written::sheet_size;
+use sheets::written::sheet_size;
 ghost use mathlib.Core.Path.{_≡_};
 ghost use Rattle.model.specs.Refusals.{wrong};
 ghost use Rattle.import.specs.declared.Imported.the-variants.{Refused};
-ghost use Rattle.scan.specs.Kinds.{ExportOf};
+ghost use Rattle.import.specs.scan.Kinds.{ExportOf};
 ghost use Rattle.import.specs.Contracts.{ImportPnmlAllows};
 ghost use Rattle.import.specs.Parts.{ImportedAs};
 

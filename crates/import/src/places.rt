@@ -1,14 +1,14 @@
 // The places of an export, each a pair: K is unbounded, and its count is the first marking's.
 use crate::Wrote;
+use crate::scan::Step;
+use crate::scan::line::read_line;
+use crate::scan::states::after_place;
 use grammar::State;
 use pnml::OPENING;
-use scan::Step;
-use scan::line::read_line;
-use scan::states::after_place;
-use written::put_pair;
+use sheets::written::put_pair;
 ghost use Prim.Native.Nat.{_+_, _*_, _≤_};
 ghost use lib.ListN.{length};
-ghost use Rattle.scan.specs.Kinds.{ExportOf};
+ghost use Rattle.import.specs.scan.Kinds.{ExportOf};
 ghost use Rattle.import.specs.Parts.{PlaceReady, PlaceAllows, PlacesPut};
 
 // Where the text has been read to, and the sheet written to.

@@ -4,14 +4,14 @@ use crate::places::put_places;
 use grammar::State;
 use model::CapacityRule;
 use model::Version;
-use written::put_count;
-use written::put_head;
+use sheets::written::put_count;
+use sheets::written::put_head;
 ghost use mathlib.Core.Path.{_≡_};
 ghost use Prim.Native.Nat.{_≤_, _<_};
 ghost use lib.ListN.{length};
 ghost use Rattle.model.specs.declared.Version.the-variants.{One};
-ghost use Rattle.written.specs.Puts.{Room, Puts, sheetSize};
-ghost use Rattle.scan.specs.Kinds.{ExportOf};
+ghost use Rattle.sheets.specs.written.Puts.{Room, Puts, sheetSize};
+ghost use Rattle.import.specs.scan.Kinds.{ExportOf};
 ghost use Rattle.import.specs.Parts.{onesBytes, countsBytes, SheetPut};
 
 fn put_ones(out: &mut [u8], at: usize, n: usize) -> usize

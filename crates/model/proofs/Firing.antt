@@ -1,5 +1,5 @@
 -- The refusal table of firing, and Billington's rule.
-use Prim.Native.Nat.{ℕ, _+_, _≤_, _<_}
+use Prim.Native.Nat.{ℕ, _+_, _-_, _≤_, _<_}
 use mathlib.Core.Path.{_≡_, refl, _∙_, subst}
 use mathlib.Core.List.{List}
 use mathlib.Core.Logic.{_↔_, _⊎_}
@@ -15,9 +15,9 @@ use Rattle.model.specs.declared.Why.the-variants.{Lacking, OverCapacity,
 use Rattle.model.specs.declared.Fault.the-variants.{NotThere}
 use Rattle.model.specs.declared.Refusal.{Refusal}
 use Rattle.model.specs.declared.Answer.the-variants.{Refused}
-use Rattle.model.specs.First.{_▸_, first, Lowest, NoneBelow}
-use Rattle.model.specs.Refusals.{thingNumber, carried}
-use Rattle.model.specs.RefusalTables.{row as tableRow, each, Reads, oneEachTable, markingTable, missingTable, modeTable}
+use Rattle.model.specs.First.{_▸_, onlyIf, first, Lowest, NoneBelow}
+use Rattle.model.specs.Refusals.{thingNumber, carriesBy, carried}
+use Rattle.model.specs.RefusalTables.{Table, row as tableRow, each, Reads, oneEachTable, markingTable, missingTable, modeTable}
 use Rattle.model.specs.Numbers.{ℕ∞, fin, ∞, Above, _≤∞_, limit}
 use Rattle.model.specs.Billington.{Enables}
 use Rattle.model.specs.Rows.{Entry, Row, Capacities, Counts}
@@ -42,6 +42,13 @@ lacking-first = refl
 limit-last : rowRefusal Argument 1 (λ p. ∞) (λ p. record { pre = 0; post = 1; inhibitor = ∞ }) (λ p. limit) ≡ some (stopped Argument OverLimit 0 1)
 unfolding rowRefusal ruleRefusal _▸_ first
 limit-last = refl
+
+-- M′ = M - Pre(tr) + Post(tr), as `Follows` has it, at one pair
+pub after-follows : (e : Entry) (m : ℕ) → e .pre ≤ m → after e m + e .pre ≡ m + e .post
+after-follows e m enough = omega arith
+
+after-is : (e : Entry) (m : ℕ) → after e m ≡ m - e .pre + e .post
+after-is e m = omega arith
 
 -- the three conditions at each pair, in document 01's words, where 12 compares with k
 pub record Conditions (n : ℕ) (k : Capacities) (r : Row) (M : Counts) : Type 0 where
@@ -199,18 +206,32 @@ pub missing-reads : (about : Thing) (net : PNet) (t : Mode) → Reads (missingTa
 missing-reads about net t = reads-plain _ (by-at-most (modes net) (t .0))
 
 module _ (about : Thing) (net : PNet) (t : Mode) (m : List ℕ) where
+  abbrev limitRow : ℕ → ℕ → Table
+  limitRow p n = tableRow (limit < n) (carriesBy 14 (thingNumber about) p (n - limit))
+
+  abbrev limitStop : ℕ → Refusal
+  limitStop = stop about (pairs net) (rooms net (row net t)) (row net t) (count m) OverLimit
+
   stop-reads : (why : Why)
       → Reads (each (pairs net) (λ p. tableRow (Stops why (row net t p) (rooms net (row net t) p) (count m p)) (carried (Refused (stop about (pairs net) (rooms net (row net t)) (row net t) (count m) why p)))))
       (lowestStop about (pairs net) (rooms net (row net t)) (row net t) (count m) why)
   stop-reads why =
       reads-each (pairs net) (λ p l. let c = compared why (row net t p) (rooms net (row net t) p) (count m p) in reads-plain _ (by-above (c .number) (c .bound)))
 
+  -- 14 reads the count after by its value, whatever its text
+  limit-reads :
+      Reads (each (pairs net) (λ p. limitRow p (count m p - row net t p .pre + row net t p .post)))
+      (lowestStop about (pairs net) (rooms net (row net t)) (row net t) (count m) OverLimit)
+  limit-reads =
+      reads-each (pairs net) (λ p l.
+      subst (λ n. Reads (limitRow p n) (onlyIf (stops OverLimit (row net t p) (rooms net (row net t) p) (count m p)) (limitStop p))) (after-is (row net t p) (count m p)) (reads-plain (limitStop p) (by-above (after (row net t p) (count m p)) (fin limit))))
+
   mode-reads : Reads (modeTable (thingNumber about) net t m) (modeRefusal about net t m)
   unfolding modeRefusal rowRefusal ruleRefusal
   mode-reads =
       reads-then (missing-reads about net t)
       (subst (Reads _) (four _ _ _ _)
-      (reads-then (stop-reads Lacking) (reads-then (stop-reads OverCapacity) (reads-then (stop-reads Inhibited) (stop-reads OverLimit)))))
+      (reads-then (stop-reads Lacking) (reads-then (stop-reads OverCapacity) (reads-then (stop-reads Inhibited) limit-reads))))
 
 pub refusal-table : RefusalTable
 refusal-table = record { marking = marking-reads; mode = mode-reads }

@@ -14,7 +14,7 @@ use Rattle.model.specs.Numbers.{limit}
 use Rattle.model.specs.Nets.{NetArc, PNet, modes, arcNo}
 use Rattle.model.specs.Firing.{roomAt}
 use Rattle.model.proofs.First.{below-or}
-use Rattle.model.proofs.PassBelow.{pass-is}
+use Rattle.movement.proofs.PassBelow.{pass-is}
 use Rattle.model.specs.WellFormed.{WellFormed}
 use Rattle.model.specs.PassBelow.{passBelow}
 use Rattle.opened.specs.declared.shape.NetShape.{NetShape}

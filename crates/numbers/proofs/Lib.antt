@@ -1,3 +1,3 @@
-pub mod Bounds
-pub mod ByNumbers
+mod Bounds
+mod ByNumbers
 pub mod Tried

@@ -14,7 +14,7 @@ use Rattle.model.specs.declared.Thing.the-variants.{Movements}
 use Rattle.model.specs.Nets.{NetArc, PNet, arcNo}
 use Rattle.model.specs.Markings.{Marking}
 use Rattle.model.specs.Firing.{modeRefusal, absent}
-use Rattle.model.specs.Visits.{arcsAmong, modeArcs}
+use Rattle.both_forms.specs.Visits.{arcsAmong, modeArcs}
 use Rattle.model.proofs.First.{below-or, left-none, only-if-none}
 use Rattle.opened.specs.declared.shape.NetShape.{NetShape}
 use Rattle.opened.specs.declared.starts.Segment.{Segment}
@@ -25,8 +25,8 @@ use Rattle.opened.proofs.Segments.{segment-own}
 use Rattle.sheets.specs.Decoded.{netOf}
 use Rattle.leaving.specs.Leaving.{Makes}
 use Rattle.leaving.proofs.Leaving.{makes-not, makes-after}
-use Rattle.firing.specs.AtMode.{AtMode, refusalOf}
-use Rattle.firing.proofs.ByMode.{mode-refusal}
+use Rattle.fire.specs.firing.AtMode.{AtMode, refusalOf}
+use Rattle.fire.proofs.firing.ByMode.{mode-refusal}
 use Rattle.numbers.specs.Movement.{Tries}
 
 -- the arcs of a mode stand from `low` on and before `high`, and no other does

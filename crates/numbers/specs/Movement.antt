@@ -4,7 +4,7 @@ use Prim.Native.Nat.{ℕ, _≤_, _<_}
 use mathlib.Core.Path.{_≡_}
 use Rattle.model.specs.declared.Mode.{Mode}
 use Rattle.model.specs.Nets.{PNet, modes}
-use Rattle.model.specs.Visits.{modeArcs}
+use Rattle.both_forms.specs.Visits.{modeArcs}
 use Rattle.opened.specs.declared.starts.Segment.{Segment}
 use Rattle.opened.specs.Starts.{ModeArcs}
 

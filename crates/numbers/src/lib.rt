@@ -1,10 +1,10 @@
 // One number for each arc of a net, made once for a run by the net's rule: a count passes all four tests when it is at least Pre and below that number.
 // And firing a mode of a list in one pass over its arcs.
-pub mod movement;
+pub mod trying;
 
 use fields::numbers::least;
-use firing::arcs::room_at;
-use firing::pair::is_free;
+use fire::firing::arcs::room_at;
+use fire::firing::pair::is_free;
 use model::Arc;
 use model::Mode;
 use onepass::take_back;
@@ -27,7 +27,7 @@ ghost use Rattle.sheets.specs.Decoded.{netOf, netArc};
 ghost use Rattle.opened.specs.Shape.{Open, ArcIs};
 ghost use Rattle.opened.specs.Starts.{StartsAre, ModeArcs, OwnArc};
 ghost use Rattle.rule.specs.AtPair.{Unstopped};
-ghost use Rattle.firing.specs.AtMode.{Writable, AtMode, OfMode};
+ghost use Rattle.fire.specs.firing.AtMode.{Writable, AtMode, OfMode};
 ghost use Rattle.numbers.specs.Numbers.{numberOf, NumbersBelow, NumbersAre, Numbered};
 ghost use Rattle.onepass.specs.OnePass.{Passes, Through, Fires};
 

@@ -16,7 +16,7 @@ use Rattle.model.specs.Numbers.{fin, limit}
 use Rattle.model.specs.Nets.{NetArc, PNet, count, arcNo}
 use Rattle.model.specs.Firing.{after, roomAt}
 use Rattle.model.proofs.Numbers.{above-false}
-use Rattle.model.proofs.ByArcs.{writeArcs, write-length, write-keeps}
+use Rattle.movement.proofs.ByArcs.{writeArcs, write-length, write-keeps}
 use Rattle.opened.specs.declared.shape.NetShape.{NetShape}
 use Rattle.opened.specs.declared.starts.Segment.{Segment}
 use Rattle.sheets.specs.Decoded.{netOf, netArc}
@@ -24,11 +24,11 @@ use Rattle.opened.specs.Shape.{Open, ArcIs}
 use Rattle.opened.specs.Starts.{ModeArcs}
 use Rattle.opened.proofs.Shapes.{sizes}
 use Rattle.rule.specs.AtPair.{Unstopped}
-use Rattle.firing.specs.AtMode.{Free, Writable, writtenAt, AtMode}
+use Rattle.fire.specs.firing.AtMode.{Free, Writable, writtenAt, AtMode}
 use Rattle.rule.proofs.FourTests.{clash}
-use Rattle.firing.proofs.Meets.{written-is}
+use Rattle.fire.proofs.firing.Meets.{written-is}
 use Rattle.leaving.proofs.Leaving.{makes-not, makes-so}
-use Rattle.firing.proofs.ByMode.{listing, one-not-free, all-free, writable, fires}
+use Rattle.fire.proofs.firing.ByMode.{listing, one-not-free, all-free, writable, fires}
 use Rattle.onepass.specs.OnePass.{Passes, writtenTo, PassedAndWritten, Through, Fires}
 
 -- an arc that was read, where a count is tested

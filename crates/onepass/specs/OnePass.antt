@@ -11,7 +11,7 @@ use Rattle.model.specs.Nets.{PNet}
 use Rattle.model.specs.Markings.{Marking}
 use Rattle.model.specs.Firing.{fired}
 use Rattle.opened.specs.declared.starts.Segment.{Segment}
-use Rattle.firing.specs.AtMode.{Free, writtenAt, refusalOf}
+use Rattle.fire.specs.firing.AtMode.{Free, writtenAt, refusalOf}
 use Rattle.leaving.specs.Leaving.{Makes}
 
 -- where the k-th arc of a net stands: whether it lets its mode pass, and what is left of a marking

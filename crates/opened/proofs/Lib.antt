@@ -2,5 +2,5 @@ pub mod Versions
 pub mod Shapes
 pub mod Opening
 pub mod Segments
-pub mod TwosComplement
+mod TwosComplement
 pub mod Modes

@@ -10,8 +10,8 @@ use Rattle.model.specs.declared.Mode.{Mode}
 use Rattle.model.specs.Nets.{NetArc, PNet, pairs, arcNo, row}
 use Rattle.model.specs.WellFormed.{Rises, WellFormed}
 use Rattle.model.proofs.First.{below-or}
-use Rattle.model.proofs.Nets.{Rising, rises-all}
-use Rattle.model.proofs.ByArcs.{Listing, segment-lists}
+use Rattle.movement.proofs.Nets.{Rising, rises-all}
+use Rattle.movement.proofs.ByArcs.{Listing, segment-lists}
 use Rattle.opened.specs.declared.starts.Segment.{Segment}
 use Rattle.opened.specs.declared.starts.Span.{Span}
 use Rattle.opened.specs.Starts.{ModesBelow, FirstBetween, Narrower, FirstFrom, ModeArcs, SegmentOf, OwnArc}

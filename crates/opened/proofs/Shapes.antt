@@ -18,7 +18,7 @@ use Rattle.sheets.specs.Decoded.{netArcIn, netOf, netArc}
 use Rattle.opened.specs.Shape.{shapeOf, Open, ArcIs, tailAt, Before}
 use Rattle.opened.specs.Starts.{FirstFrom}
 use Rattle.heads.proofs.Heads.{fields-at-most}
-use Rattle.nets.proofs.Valid.{headed, counts-hold, colours-hold, modes-hold, start-holds}
+use Rattle.sheets.proofs.nets.Valid.{headed, counts-hold, colours-hold, modes-hold, start-holds}
 use Rattle.sheets.proofs.Meaning.{counts-length, counts-at, colours-are, modes-of-are, pairs-are, modes-are, capacity-at, start-at}
 use Rattle.sheets.proofs.Accepted.{well-formed}
 use Rattle.opened.proofs.Versions.{two-first, tail-arc, tail-there}

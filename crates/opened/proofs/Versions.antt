@@ -15,9 +15,9 @@ use Rattle.model.proofs.First.{below-or}
 use Rattle.heads.specs.Bytes.{u16At}
 use Rattle.heads.specs.Layout.{modeCount, arcCount, arcCountAt, arcsAfter, arcsAt, arcAt, arcSize, arcModeAt, arcTailAt, tailSize, tailInhibitorAt, groupArcAt, arcsBefore, groupAt, groupCount}
 use Rattle.heads.specs.Version.{versionOf}
-use Rattle.nets.specs.Nets.{netRefusal}
-use Rattle.nets.proofs.GroupsRead.{before-next, before-more}
-use Rattle.nets.proofs.Valid.{headed, arc-count-holds, arc-holds, groups-hold}
+use Rattle.sheets.specs.nets.Nets.{netRefusal}
+use Rattle.sheets.proofs.nets.GroupsRead.{before-next, before-more}
+use Rattle.sheets.proofs.nets.Valid.{headed, arc-count-holds, arc-holds, groups-hold}
 use Rattle.sheets.specs.Decoded.{netArcIn, arcsOf, netOf}
 use Rattle.sheets.proofs.Meaning.{modes-are, arcs-length, arc-at, arcs-two}
 use Rattle.sheets.proofs.GroupArcs.{group-arcs-length, modes-below, modes-from, arc-is}

@@ -15,7 +15,7 @@ use Rattle.opened.specs.declared.shape.NetShape.{NetShape}
 use Rattle.heads.specs.Layout.{placeCount, transitionCount, pairCount, modeCount, pairsAt, arcCountAt, arcsAfter, arcsAt, arcAt, arcTailAt, groupArcAt, tailInhibitorAt, arcsBefore}
 use Rattle.heads.specs.Version.{versionOf}
 use Rattle.fields.specs.Numbers.{bound}
-use Rattle.nets.specs.Nets.{netRefusal}
+use Rattle.sheets.specs.nets.Nets.{netRefusal}
 use Rattle.sheets.specs.Decoded.{netOf, netArc}
 
 unfoldable pub shapeOf : List ℕ → NetShape

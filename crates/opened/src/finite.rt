@@ -1,6 +1,6 @@
 // A K or an I as a sheet writes it: a number, or 4,294,967,295 for unbounded.
 ghost use mathlib.Core.Path.{_≡_};
-ghost use Rattle.model.specs.Complement.{finite};
+ghost use Rattle.second_form.specs.Complement.{finite};
 ghost use Rattle.fields.specs.Numbers.{bound};
 
 pub fn is_finite(x: u32) -> bool

@@ -9,7 +9,7 @@ ghost use lib.ListN.{length};
 ghost use Rattle.model.specs.declared.Version.the-variants.{Two};
 ghost use Rattle.heads.specs.Layout.{modeCount, arcCountAt};
 ghost use Rattle.heads.specs.Version.{versionOf};
-ghost use Rattle.nets.specs.Nets.{netRefusal};
+ghost use Rattle.sheets.specs.nets.Nets.{netRefusal};
 ghost use Rattle.sheets.specs.Decoded.{netOf};
 ghost use Rattle.opened.specs.Shape.{Before};
 

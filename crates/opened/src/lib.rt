@@ -1,11 +1,13 @@
 // A net that a call takes as an argument: the shape of an accepted sheet, or its refusal.
 pub mod arcs;
 mod bytes;
+pub mod dead;
 pub mod finite;
 mod groups;
 pub mod listed;
 mod rule;
 pub mod shape;
+pub mod size;
 pub mod starts;
 
 use crate::shape::NetShape;

@@ -10,7 +10,7 @@ ghost use lib.IntN.{natAbs};
 ghost use lib.ListN.{length, getD};
 ghost use Rattle.model.specs.Numbers.{limit};
 ghost use Rattle.model.specs.Nets.{modeNo};
-ghost use Rattle.model.specs.Figures.{weight as weightOf};
+ghost use Rattle.movement.specs.Figures.{weight as weightOf};
 ghost use Rattle.heads.specs.Layout.{movementsAt};
 ghost use Rattle.lists.specs.Movements.{movementsRefusal};
 ghost use Rattle.lists.specs.Weights.{signed, weightsRefusal};

@@ -10,7 +10,7 @@ use Rattle.model.specs.Nets.{NetArc, PNet, pairs, modes, K, count, arcNo}
 use Rattle.model.specs.WellFormed.{WellFormed}
 use Rattle.text.specs.Ascii.{ascii}
 use Rattle.text.specs.Decimals.{digit, decimal}
-use Rattle.written.specs.Written.{ofMode}
+use Rattle.sheets.specs.written.Written.{ofMode}
 use Rattle.pnml.specs.Agrees.{FirstNone}
 
 -- "The export's opening and closing text is fixed byte for byte"

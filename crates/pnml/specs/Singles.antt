@@ -14,7 +14,7 @@ use Rattle.model.specs.First.{_▸_, onlyIf}
 use Rattle.model.specs.Numbers.{∞}
 use Rattle.model.specs.Nets.{PNet, pairs, modes}
 use Rattle.model.specs.Refusals.{wrong}
-use Rattle.written.specs.Written.{sheetOf}
+use Rattle.sheets.specs.written.Written.{sheetOf}
 
 -- "the same pairs, modes, numbers and first marking, with each pair a place of one colour and each mode a transition of one mode"; the text says no rule, and version 1 has document 01's
 abbrev pub singles : PNet → PNet

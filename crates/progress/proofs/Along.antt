@@ -14,10 +14,10 @@ use Rattle.model.specs.declared.Refusal.{Refusal}
 use Rattle.model.specs.Nets.{PNet, modeNo}
 use Rattle.model.specs.Markings.{Marking}
 use Rattle.model.specs.Firing.{modeRefusal, fired}
-use Rattle.model.specs.Runs.{Outcome, runFrom, run}
-use Rattle.model.proofs.Markings.{marking-kept}
+use Rattle.movement.specs.Runs.{Outcome, runFrom, run}
+use Rattle.movement.proofs.Markings.{marking-kept}
 use Rattle.sheets.specs.Listed.{modeAt, modesFrom}
-use Rattle.sheets.proofs.Lists.{modes-from-length, modes-from-at}
+use Rattle.sheets.proofs.Listed.{modes-from-length, modes-from-at}
 use Rattle.opened.specs.declared.starts.Segment.{Segment}
 use Rattle.progress.specs.declared.Progress.{Progress}
 use Rattle.leaving.specs.Leaving.{written, Makes}

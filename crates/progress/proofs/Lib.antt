@@ -1,2 +1,2 @@
-pub mod Along
+mod Along
 pub mod Visiting

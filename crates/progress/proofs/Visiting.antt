@@ -9,8 +9,8 @@ use native.Mathlib.Numerals.{add-one}
 use native.Mathlib.Omega.{arith}
 use Rattle.model.specs.declared.Mode.{Mode}
 use Rattle.model.specs.Nets.{PNet, total, modeNo}
-use Rattle.model.specs.Runs.{run}
-use Rattle.model.specs.Visits.{modeArcs, visited}
+use Rattle.movement.specs.Runs.{run}
+use Rattle.both_forms.specs.Visits.{modeArcs, visited}
 use Rattle.opened.specs.declared.starts.Segment.{Segment}
 use Rattle.numbers.specs.Movement.{Tries}
 

@@ -5,8 +5,8 @@ use mathlib.Core.Path.{_≡_}
 use mathlib.Core.List.{List}
 use Rattle.model.specs.declared.Mode.{Mode}
 use Rattle.model.specs.Nets.{PNet}
-use Rattle.model.specs.Runs.{run}
-use Rattle.model.specs.Visits.{visited}
+use Rattle.movement.specs.Runs.{run}
+use Rattle.both_forms.specs.Visits.{visited}
 use Rattle.opened.specs.declared.shape.NetShape.{NetShape}
 use Rattle.sheets.specs.Decoded.{netOf}
 use Rattle.opened.specs.Starts.{StartsAre}

@@ -1,6 +1,6 @@
 // How far a list of movements comes: mode by mode, up to the first that is refused.
-use numbers::movement::step;
-use numbers::movement::tried_arcs;
+use numbers::trying::tried_arcs;
+use numbers::trying::try_movement;
 use opened::listed::mode_at;
 use opened::shape::NetShape;
 ghost use Prim.Native.Nat.{_≤_};
@@ -39,7 +39,7 @@ pub fn count_accepted(
     while k < count {
         let arcs = tried_arcs(s, net, starts, mode_at(movements, start, k));
         visited += arcs.count;
-        if !step(s, net, numbers, arcs, marking) {
+        if !try_movement(s, net, numbers, arcs, marking) {
             return Progress {
                 accepted: k,
                 visited,

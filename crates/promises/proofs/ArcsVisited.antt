@@ -14,11 +14,11 @@ use Rattle.model.specs.First.{_▸_, first}
 use Rattle.model.specs.Refusals.{wrong}
 use Rattle.model.specs.Nets.{PNet, total, modeNo}
 use Rattle.model.specs.Markings.{markingRefusal}
-use Rattle.model.specs.Runs.{run}
-use Rattle.model.specs.Visits.{modeArcs, visited}
+use Rattle.movement.specs.Runs.{run}
+use Rattle.both_forms.specs.Visits.{modeArcs, visited}
 use Rattle.model.proofs.First.{none-then}
-use Rattle.model.proofs.Runs.{runs}
-use Rattle.model.proofs.Visits.{visits-bounded}
+use Rattle.movement.proofs.Runs.{runs}
+use Rattle.both_forms.proofs.Visits.{visits-bounded}
 use Rattle.sheets.specs.Decoded.{netOf, movementsOf}
 use Rattle.run.specs.Calls.{beforeRun, runOf, visitedBy}
 use Rattle.run.specs.Contracts.{RunAllows}

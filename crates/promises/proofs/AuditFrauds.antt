@@ -3,10 +3,10 @@ use mathlib.Core.Path.{_≡_, refl, sym, _∙_, ap}
 use mathlib.Core.Logic.{⊎-elim}
 use mathlib.Core.Option.{Option, none, some}
 use Rattle.model.specs.declared.Refusal.{Refusal}
-use Rattle.model.specs.Audit.{Finding, audited}
+use Rattle.both_forms.specs.Audit.{Finding, audited}
 use Rattle.sheets.specs.Decoded.{netOf}
-use Rattle.audit.specs.Audits.{finds, told, auditingRefusal}
-use Rattle.audit.proofs.Promises.{says-audited}
+use Rattle.complement.specs.audit.Audits.{finds, told, auditingRefusal}
+use Rattle.complement.proofs.audit.Promises.{says-audited}
 use Rattle.promises.specs.Frauds.{AlwaysInStep}
 use Rattle.promises.proofs.Accepting.{number-none}
 

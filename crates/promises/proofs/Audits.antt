@@ -11,21 +11,21 @@ use Rattle.model.specs.Nets.{PNet, pairs}
 use Rattle.model.specs.Replies.{yields}
 use Rattle.model.specs.Markings.{markingRefusal}
 use Rattle.model.specs.Firing.{modeRefusal, fired}
-use Rattle.model.specs.Complement.{complement, complementRefusal, Corresponds}
-use Rattle.model.specs.DemandThree.{Complementable}
-use Rattle.model.specs.Audit.{audited, auditRefusal, marked}
+use Rattle.second_form.specs.Complement.{complement, complementRefusal, Corresponds}
+use Rattle.second_form.specs.DemandThree.{Complementable}
+use Rattle.both_forms.specs.Audit.{audited, auditRefusal, marked}
 use Rattle.model.proofs.First.{left-none, right-none, none-then}
 use Rattle.model.proofs.Tables.{table-length}
-use Rattle.model.proofs.Markings.{fired-length}
-use Rattle.model.proofs.OutOfStep.{in-step}
-use Rattle.model.proofs.CorrespondingMoves.{accepts}
-use Rattle.model.proofs.OutOfStepMoves.{mark-shows}
+use Rattle.movement.proofs.Markings.{fired-length}
+use Rattle.both_forms.proofs.OutOfStep.{in-step}
+use Rattle.second_form.proofs.CorrespondingMoves.{accepts}
+use Rattle.both_forms.proofs.OutOfStepMoves.{mark-shows}
 use Rattle.sheets.specs.Decoded.{netOf}
 use Rattle.sheets.specs.Whole.{wholeNet}
 use Rattle.fire.specs.Calls.{testRefusal, firedBy}
 use Rattle.complement.specs.Complemented.{roomRefusal, complementingRefusal}
-use Rattle.audit.specs.Audits.{told, auditingRefusal, auditedOf}
-use Rattle.audit.proofs.Answers.{told-found}
+use Rattle.complement.specs.audit.Audits.{told, auditingRefusal, auditedOf}
+use Rattle.complement.proofs.audit.Answers.{told-found}
 use Rattle.promises.specs.DemandThree.{asWritten}
 use Rattle.promises.specs.Audits.{Audits}
 use Rattle.promises.proofs.DemandThree.{complementable}

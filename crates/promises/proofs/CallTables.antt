@@ -29,52 +29,52 @@ use Rattle.model.specs.RefusalTables.{Table, row, _then_, each, Reads}
 use Rattle.model.specs.Numbers.{ℕ∞, fin, ∞, aboveBy, limit}
 use Rattle.model.specs.Nets.{PNet, pairs, pairNo, modeNo, count, modes, K}
 use Rattle.model.specs.Firing.{stops, stoppedBy, stopped, lowestStop, ruleRefusal, rowRefusal, rooms, modeRefusal, fired}
-use Rattle.model.specs.Steps.{together, stepRefusal}
-use Rattle.model.specs.Runs.{Outcome, goOn, runFrom, run, elsewhere, endsAt, certificateRefusal}
-use Rattle.model.specs.Complement.{finite, complement, refusal15, sheetLimits, complementRefusal}
+use Rattle.both_forms.specs.Steps.{together, stepRefusal}
+use Rattle.movement.specs.Runs.{Outcome, goOn, runFrom, run, elsewhere, endsAt, certificateRefusal}
+use Rattle.second_form.specs.Complement.{finite, complement, refusal15, sheetLimits, complementRefusal}
 use Rattle.model.specs.Markings.{unequal}
-use Rattle.model.specs.Audit.{auditRefusal}
-use Rattle.model.specs.Figures.{figure, change}
-use Rattle.model.specs.Exclusion.{sameFigure, claimRefusal}
+use Rattle.both_forms.specs.Audit.{auditRefusal}
+use Rattle.movement.specs.Figures.{figure, change}
+use Rattle.movement.specs.Exclusion.{sameFigure, claimRefusal}
 use Rattle.model.proofs.First.{below-or, left-none, then-none, then-assoc, then-under}
-use Rattle.model.proofs.Runs.{runs}
+use Rattle.movement.proofs.Runs.{runs}
 use Rattle.model.proofs.Decisions.{Decided, by-less, by-at-most, by-equal, by-above, by-not, by-or, by-and, by-other}
 use Rattle.model.proofs.RefusalTables.{four, reads-row, reads-plain, reads-then, reads-each, reads-either}
 use Rattle.model.proofs.Firing.{one-each-reads, missing-reads, refusal-table}
-use Rattle.model.proofs.Steps.{pre-is, post-is, low-is, by-some}
-use Rattle.model.proofs.Exclusion.{by-same}
+use Rattle.both_forms.proofs.Steps.{pre-is, post-is, low-is, by-some}
+use Rattle.movement.proofs.Exclusion.{by-same}
 use Rattle.heads.specs.Layout.{bodyLength, sheetEnd, version}
 use Rattle.heads.specs.Checks.{known, headRefusal}
-use Rattle.nets.specs.Nets.{netFields, netRefusal}
+use Rattle.sheets.specs.nets.Nets.{netFields, netRefusal}
 use Rattle.sheets.specs.Whole.{bytesAfter, wholeNet, wholeWeights, wholeMovements}
 use Rattle.sheets.specs.Decoded.{netOf, weightsOf, movementsOf}
 use Rattle.sheets.specs.RefusalTables.{headTable}
 use Rattle.sheets.proofs.RefusalTables.{sheet-tables}
-use Rattle.written.specs.Written.{versionNumber}
-use Rattle.written.proofs.Versions.{version-known}
+use Rattle.sheets.specs.written.Written.{versionNumber}
+use Rattle.sheets.proofs.written.Versions.{version-known}
 use Rattle.opened.specs.Shape.{arcOffset}
 use Rattle.fire.specs.Calls.{beginRefusal, testRefusal}
 use Rattle.run.specs.Calls.{beforeRun, runOf, certifyRefusal}
-use Rattle.step.specs.Calls.{stepModes, testStepRefusal}
-use Rattle.weigh.specs.Calls.{figureRefusal, changeRefusal}
+use Rattle.fire.specs.step.Calls.{stepModes, testStepRefusal}
+use Rattle.statement.specs.weigh.Calls.{figureRefusal, changeRefusal}
 use Rattle.ships.specs.declared.Fleet.{Fleet}
 use Rattle.ships.specs.Ships.{Ship, voyageOf, withVoyage}
 use Rattle.ships.specs.Entered.{recordRefusal, roomRefusal as shipRoom, figureRefusal as shipFigures, shipRefusal}
-use Rattle.fleet.proofs.Entering.{by-bounds, by-past}
-use Rattle.exclude.specs.Calls.{excludeRefusal}
-use Rattle.dead.specs.IsDead.{deadRefusal}
+use Rattle.statement.proofs.fleet.Entering.{by-bounds, by-past}
+use Rattle.statement.specs.exclude.Calls.{excludeRefusal}
+use Rattle.opened.specs.dead.IsDead.{deadRefusal}
 use Rattle.complement.specs.Complemented.{complementSheet, roomRefusal, complementingRefusal}
 use Rattle.convert.specs.Converted.{ofVersion, convertedSheet, lostRule, tooShort, openRefusal, convertRefusal}
 use Rattle.bare.specs.Strip.{boundOf, stripRefusal}
-use Rattle.strip.specs.Stripped.{strippedNet, strippedSheet, strippingRefusal}
-use Rattle.strip.specs.Stripped as stripping
+use Rattle.convert.specs.strip.Stripped.{strippedNet, strippedSheet, strippingRefusal}
+use Rattle.convert.specs.strip.Stripped as stripping
 use Rattle.export.specs.Exports.{boundedCapacity, boundedInhibitor, refusal19, roomRefusal as exportRoom, exportRefusal, exportText}
 use Rattle.import.proofs.RefusalTable.{import-table}
-use Rattle.audit.specs.Audits.{auditingRefusal}
+use Rattle.complement.specs.audit.Audits.{auditingRefusal}
 use Rattle.promises.specs.CallTables.{bytesLeft, wholeNetTable, wholeWeightTable, wholeMovementTable, markingAfter, movesTable, certificateTable, stepTable, roomTable, convertTable, stripTable, exportTable, RunReads, SalvageReads, CallTables, claimTable, addShipTable}
 use Rattle.damaged.specs.Damaged.{damagedRefusal, modesIn}
-use Rattle.salvage.specs.Salvaged as salvaging
-use Rattle.salvage.specs.Salvaged.{freshSheet, trial, salvageRefusal}
+use Rattle.run.specs.salvage.Salvaged as salvaging
+use Rattle.run.specs.salvage.Salvaged.{freshSheet, trial, salvageRefusal}
 
 -- a sheet's table, then left-over bytes
 whole-reads : (thing : Thing) (s : List ℕ) {table : Table} {o : Option Refusal} → Reads table o → Reads (table then bytesLeft (thingNumber thing) s) (o ▸ bytesAfter thing s)

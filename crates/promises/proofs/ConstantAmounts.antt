@@ -10,13 +10,13 @@ use Rattle.model.specs.declared.Answer.{Answer}
 use Rattle.model.specs.Refusals.{answer, amount}
 use Rattle.model.specs.Nets.{modeNo}
 use Rattle.fire.specs.Contracts.{TestAllows, FireAllows}
-use Rattle.step.specs.Contracts.{TestStepAllows, FireStepAllows}
+use Rattle.fire.specs.step.Contracts.{TestStepAllows, FireStepAllows}
 use Rattle.run.specs.Contracts.{RunAllows, CertifyAllows}
 use Rattle.answers.specs.declared.Answered.{Answered}
-use Rattle.salvage.specs.declared.Salvaged.{Salvaged}
-use Rattle.salvage.specs.declared.Salvaged.the-variants.{Written, Refused}
-use Rattle.salvage.specs.Salvaged as salvaging
-use Rattle.salvage.specs.Contracts.{SalvageAllows}
+use Rattle.run.specs.declared.salvage.Salvaged.{Salvaged}
+use Rattle.run.specs.declared.salvage.Salvaged.the-variants.{Written, Refused}
+use Rattle.run.specs.salvage.Salvaged as salvaging
+use Rattle.run.specs.salvage.Contracts.{SalvageAllows}
 use Rattle.answers.specs.declared.Tallied.{Tallied}
 use Rattle.answers.specs.declared.Reported.{Reported}
 use Rattle.answers.specs.Told.{reported}

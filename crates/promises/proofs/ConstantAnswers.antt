@@ -22,43 +22,43 @@ use Rattle.model.specs.Refusals.{answer, number, wrong}
 use Rattle.model.specs.Nets.{pairNo, modeNo}
 use Rattle.model.proofs.First.{left-none, none-then, some-then}
 use Rattle.heads.specs.Checks.{headRefusal}
-use Rattle.nets.specs.Nets.{netRefusal}
+use Rattle.sheets.specs.nets.Nets.{netRefusal}
 use Rattle.lists.specs.Weights.{weightsRefusal}
 use Rattle.lists.specs.Movements.{movementsRefusal}
 use Rattle.sheets.specs.Whole.{wholeNet, wholeWeights, wholeMovements, rest}
 use Rattle.sheets.specs.Decoded.{netOf}
 use Rattle.heads.specs.Bytes.{u16At, u32At}
-use Rattle.written.proofs.SheetLength.{sheet-least}
+use Rattle.sheets.proofs.written.SheetLength.{sheet-least}
 use Rattle.fire.specs.Calls.{beginRefusal, testRefusal}
 use Rattle.run.specs.Calls.{beforeRun, runOf, certifyRefusal}
-use Rattle.step.specs.Calls.{testStepRefusal}
-use Rattle.weigh.specs.Calls.{figured, figureRefusal, changeRefusal}
-use Rattle.weigh.specs.Calls as weigh
+use Rattle.fire.specs.step.Calls.{testStepRefusal}
+use Rattle.statement.specs.weigh.Calls.{figured, figureRefusal, changeRefusal}
+use Rattle.statement.specs.weigh.Calls as weigh
 use Rattle.ships.specs.Ships.{ship}
 use Rattle.ships.specs.Entered.{recordRefusal, roomRefusal, shipRefusal, entered}
 use Rattle.ships.specs.Promises.{zeros}
-use Rattle.exclude.specs.Calls.{excludeRefusal}
-use Rattle.dead.specs.IsDead.{deadRefusal}
-use Rattle.dead.specs.IsDead as one
-use Rattle.dead.specs.FirstDead as first
+use Rattle.statement.specs.exclude.Calls.{excludeRefusal}
+use Rattle.opened.specs.dead.IsDead.{deadRefusal}
+use Rattle.opened.specs.dead.IsDead as one
+use Rattle.opened.specs.dead.FirstDead as first
 use Rattle.complement.specs.Complemented.{complementingRefusal}
-use Rattle.size.specs.Sizes as sizing
+use Rattle.opened.specs.size.Sizes as sizing
 use Rattle.complement.specs.Complemented as complementing
 use Rattle.convert.specs.Converted.{ofVersion, convertedSheet, lostRule, convertRefusal, conversionOf}
 use Rattle.convert.specs.Converted as converting
 use Rattle.convert.specs.Promises.{SameNet}
 use Rattle.bare.specs.Strip.{strip, stripRefusal}
-use Rattle.strip.specs.Stripped.{strippedSheet, strippingRefusal, strippedOf}
-use Rattle.strip.specs.Stripped as stripping
+use Rattle.convert.specs.strip.Stripped.{strippedSheet, strippingRefusal, strippedOf}
+use Rattle.convert.specs.strip.Stripped as stripping
 use Rattle.convert.proofs.Answers.{own-rule, roomy}
 use Rattle.convert.proofs.Promises.{source-only, converted-reads}
 use Rattle.export.specs.Exports.{exportRefusal}
 use Rattle.export.specs.Exports as exporting
 use Rattle.import.proofs.Promises.{refuses-none}
-use Rattle.audit.specs.Audits.{finds, auditingRefusal}
-use Rattle.audit.specs.Audits as auditing
-use Rattle.salvage.specs.Salvaged.{salvageRefusal}
-use Rattle.salvage.specs.Salvaged as salvaging
+use Rattle.complement.specs.audit.Audits.{finds, auditingRefusal}
+use Rattle.complement.specs.audit.Audits as auditing
+use Rattle.run.specs.salvage.Salvaged.{salvageRefusal}
+use Rattle.run.specs.salvage.Salvaged as salvaging
 use Rattle.text.specs.declared.Put.{Put}
 use Rattle.text.specs.Decimals.{digit, decimal, decimalWithin, signedDecimal}
 use Rattle.text.specs.Puts.{endWithin, putTo}

@@ -3,10 +3,10 @@ use Prim.Native.Nat.{ℕ}
 use mathlib.Core.Path.{_≡_, refl, sym, _∙_, ap}
 use mathlib.Core.Option.{Option, none, some}
 use Rattle.model.specs.Replies.{Reply}
-use Rattle.model.specs.Dead.{DeadMode}
-use Rattle.model.specs.Audit.{Finding}
-use Rattle.dead.specs.FirstDead as first
-use Rattle.audit.specs.Audits as auditing
+use Rattle.second_form.specs.Dead.{DeadMode}
+use Rattle.both_forms.specs.Audit.{Finding}
+use Rattle.opened.specs.dead.FirstDead as first
+use Rattle.complement.specs.audit.Audits as auditing
 use Rattle.answers.specs.declared.Answered.{Answered}
 use Rattle.answers.specs.Told.{telling, valueOr, naming, named, finding, audited}
 use Rattle.promises.specs.ConstantAnswers.{Varies}

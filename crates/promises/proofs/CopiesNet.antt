@@ -8,20 +8,20 @@ use lib.Seq.{getD-take}
 use native.Mathlib.Omega.{arith}
 use Rattle.model.specs.Numbers.{fin}
 use Rattle.model.specs.Nets.{PNet, pairs, K}
-use Rattle.model.specs.Complement.{newPlaces, complement}
+use Rattle.second_form.specs.Complement.{newPlaces, complement}
 use Rattle.model.proofs.First.{left-none}
-use Rattle.model.proofs.Bounded.{bounded-number}
-use Rattle.model.proofs.ComplementNet.{pairs-complement}
-use Rattle.model.proofs.Demand3.{demand3}
+use Rattle.second_form.proofs.Bounded.{bounded-number}
+use Rattle.second_form.proofs.ComplementNet.{pairs-complement}
+use Rattle.second_form.proofs.Demand3.{demand3}
 use Rattle.heads.specs.Bytes.{byteAt, u16At}
 use Rattle.heads.specs.Layout.{fieldsAt, placeCount, transitionCount}
 use Rattle.heads.specs.Version.{versionOf}
-use Rattle.nets.specs.Nets.{netRefusal}
+use Rattle.sheets.specs.nets.Nets.{netRefusal}
 use Rattle.sheets.specs.Whole.{wholeNet}
 use Rattle.sheets.specs.Decoded.{netOf}
 use Rattle.sheets.proofs.Meaning.{counts-length, colours-are}
-use Rattle.nets.proofs.Valid.{counts-hold}
-use Rattle.written.proofs.RoundTrip.{written-then-read}
+use Rattle.sheets.proofs.nets.Valid.{counts-hold}
+use Rattle.sheets.proofs.written.RoundTrip.{written-then-read}
 use Rattle.complement.specs.Complemented.{told, complementSheet, complemented, complementingRefusal, outputOf}
 use Rattle.promises.specs.Frauds.{CopiesNet}
 use Rattle.promises.proofs.Accepting.{unrefused}

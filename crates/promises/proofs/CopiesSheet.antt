@@ -14,7 +14,7 @@ use Rattle.heads.specs.Bytes.{byteAt}
 use Rattle.heads.specs.Version.{versionOf}
 use Rattle.heads.proofs.Heads.{head-holds}
 use Rattle.sheets.specs.Decoded.{netOf}
-use Rattle.written.proofs.SheetLength.{sheet-least}
+use Rattle.sheets.proofs.written.SheetLength.{sheet-least}
 use Rattle.convert.specs.Converted.{ofVersion, lostRule, convertedSheet, openRefusal, convertRefusal, converted, output, told, conversionOf, outputOf}
 use Rattle.convert.proofs.Answers.{read-version}
 use Rattle.convert.proofs.Promises.{converted-reads}

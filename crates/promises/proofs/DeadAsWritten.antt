@@ -13,13 +13,13 @@ use Rattle.model.specs.declared.Refusal.{Refusal}
 use Rattle.model.specs.Refusals.{answer, number}
 use Rattle.model.specs.Nets.{modes}
 use Rattle.model.specs.Firing.{modeRefusal}
-use Rattle.model.specs.Dead.{isDead}
+use Rattle.second_form.specs.Dead.{isDead}
 use Rattle.model.proofs.First.{right-none, none-then, only-if-none}
-use Rattle.model.proofs.DeadComplement.{dead-in-complement}
+use Rattle.second_form.proofs.DeadComplement.{dead-in-complement}
 use Rattle.sheets.specs.Whole.{wholeNet}
 use Rattle.sheets.specs.Decoded.{netOf}
 use Rattle.fire.specs.Calls.{testRefusal}
-use Rattle.dead.specs.IsDead.{told, deadness, deadRefusal, deadnessOf}
+use Rattle.opened.specs.dead.IsDead.{told, deadness, deadRefusal, deadnessOf}
 use Rattle.complement.specs.Complemented.{complementingRefusal}
 use Rattle.promises.specs.DemandThree.{asWritten}
 use Rattle.promises.specs.DeadAsWritten.{DeadAsWritten}

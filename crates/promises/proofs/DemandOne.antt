@@ -14,15 +14,15 @@ use Rattle.model.specs.declared.Version.{Version}
 use Rattle.model.specs.declared.Version.the-variants.{One, Two}
 use Rattle.model.specs.Refusals.{answer, number}
 use Rattle.model.specs.Nets.{PNet}
-use Rattle.model.specs.Promises.{Leads, stays}
+use Rattle.movement.specs.Promises.{Leads, stays}
 use Rattle.model.specs.Firing.{fired}
-use Rattle.model.specs.Steps.{firedTogether}
+use Rattle.both_forms.specs.Steps.{firedTogether}
 use Rattle.sheets.specs.Decoded.{netOf, movementsOf}
 use Rattle.leaving.specs.Leaving.{written}
 use Rattle.fire.specs.Calls.{beginRefusal, testRefusal}
 use Rattle.run.specs.Calls.{runOf}
 use Rattle.run.proofs.Promises.{runs-leave}
-use Rattle.step.specs.Calls.{stepModes, testStepRefusal}
+use Rattle.fire.specs.step.Calls.{stepModes, testStepRefusal}
 use Rattle.ships.specs.declared.Fleet.{Fleet}
 use Rattle.ships.specs.Ships.{Ship, ship, voyageOf, withVoyage}
 use Rattle.ships.specs.Entered.{shipRefusal, left, entered}
@@ -30,12 +30,12 @@ use Rattle.complement.specs.Complemented.{complementSheet, complementingRefusal
 use Rattle.complement.specs.Complemented as complementing
 use Rattle.convert.specs.Converted.{convertedSheet, convertRefusal, converted, conversionOf, outputOf}
 use Rattle.convert.specs.Converted as converting
-use Rattle.strip.specs.Stripped.{strippedSheet, strippingRefusal, stripped, strippedOf}
-use Rattle.strip.specs.Stripped as stripping
+use Rattle.convert.specs.strip.Stripped.{strippedSheet, strippingRefusal, stripped, strippedOf}
+use Rattle.convert.specs.strip.Stripped as stripping
 use Rattle.export.specs.Exports.{exportText, exportRefusal, exported, exportOf}
 use Rattle.export.specs.Exports as exporting
 use Rattle.import.proofs.Promises.{import-kept}
-use Rattle.salvage.specs.Salvaged as salvaging
+use Rattle.run.specs.salvage.Salvaged as salvaging
 use Rattle.text.specs.declared.Put.the-variants.{To, Full}
 use Rattle.writes.specs.Writes.{putInto}
 use Rattle.text.specs.Puts.{endWithin, putTo}

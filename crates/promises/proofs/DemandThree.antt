@@ -6,18 +6,18 @@ use mathlib.Core.Option.{none}
 use lib.ListN.{length, take}
 use lib.Seq.{take-append-seam, drop-append-seam}
 use Rattle.model.specs.Nets.{PNet}
-use Rattle.model.specs.Complement.{complement}
-use Rattle.model.specs.DemandThree.{Complementable}
+use Rattle.second_form.specs.Complement.{complement}
+use Rattle.second_form.specs.DemandThree.{Complementable}
 use Rattle.model.proofs.First.{left-none, right-none}
-use Rattle.model.proofs.Demand3.{demand3}
+use Rattle.second_form.proofs.Demand3.{demand3}
 use Rattle.heads.specs.Version.{versionOf}
-use Rattle.nets.specs.Nets.{netRefusal}
+use Rattle.sheets.specs.nets.Nets.{netRefusal}
 use Rattle.sheets.specs.Whole.{wholeNet}
 use Rattle.sheets.specs.Decoded.{netOf}
 use Rattle.opened.specs.Shape.{arcOffset}
 use Rattle.sheets.proofs.Accepted.{well-formed}
-use Rattle.written.specs.Promises.{HasSheet}
-use Rattle.written.proofs.RoundTrip.{written-then-read, own-sheet}
+use Rattle.sheets.specs.written.Promises.{HasSheet}
+use Rattle.sheets.proofs.written.RoundTrip.{written-then-read, own-sheet}
 use Rattle.complement.specs.Complemented.{complementSheet, roomRefusal, complementingRefusal, outputOf}
 use Rattle.promises.specs.DemandThree.{OverBytes}
 

@@ -16,36 +16,36 @@ use Rattle.model.specs.Nets.{PNet, arcNo, K}
 use Rattle.model.specs.Refusals.{answer, Carried, carried, wrong}
 use Rattle.model.specs.Replies.{Reply, yields, refuses}
 use Rattle.model.specs.WellFormed.{WellFormed}
-use Rattle.model.specs.Runs.{run}
-use Rattle.model.specs.Complement.{finite, complement, inhibitsUnbounded, refusal15, complementRefusal}
-use Rattle.model.specs.Audit.{audited, auditRefusal}
+use Rattle.movement.specs.Runs.{run}
+use Rattle.second_form.specs.Complement.{finite, complement, inhibitsUnbounded, refusal15, complementRefusal}
+use Rattle.both_forms.specs.Audit.{audited, auditRefusal}
 use Rattle.model.proofs.First.{left-none, none-then, then-none}
-use Rattle.nets.specs.Nets.{netRefusal}
+use Rattle.sheets.specs.nets.Nets.{netRefusal}
 use Rattle.sheets.specs.Whole.{wholeNet, rest}
 use Rattle.sheets.specs.Decoded.{netOf}
 use Rattle.sheets.proofs.Accepted.{well-formed}
 use Rattle.opened.specs.Shape.{arcOffset, inhibitorOffset}
 use Rattle.heads.specs.Version.{versionOf}
-use Rattle.written.specs.Written.{sheetOf}
-use Rattle.written.specs.Promises.{HasSheet, ReadBack}
-use Rattle.written.proofs.RoundTrip.{written-then-read, read-then-written, own-sheet}
+use Rattle.sheets.specs.written.Written.{sheetOf}
+use Rattle.sheets.specs.written.Promises.{HasSheet, ReadBack}
+use Rattle.sheets.proofs.written.RoundTrip.{written-then-read, read-then-written, own-sheet}
 use Rattle.fire.specs.Calls.{beginRefusal, testRefusal}
 use Rattle.run.specs.Calls.{beforeRun, runOf, visitedBy, certifyRefusal}
-use Rattle.step.specs.Calls.{testStepRefusal}
-use Rattle.weigh.specs.Calls.{figureRefusal, changeRefusal}
+use Rattle.fire.specs.step.Calls.{testStepRefusal}
+use Rattle.statement.specs.weigh.Calls.{figureRefusal, changeRefusal}
 use Rattle.ships.specs.declared.Fleet.{Fleet}
 use Rattle.ships.specs.Ships.{ship, voyageOf}
 use Rattle.ships.specs.Entered.{figureRefusal as shipFigures, shipRefusal, entered}
-use Rattle.exclude.specs.Calls.{excludeRefusal}
-use Rattle.dead.specs.IsDead.{deadRefusal}
+use Rattle.statement.specs.exclude.Calls.{excludeRefusal}
+use Rattle.opened.specs.dead.IsDead.{deadRefusal}
 use Rattle.complement.specs.Complemented as complementing
 use Rattle.bare.specs.Strip.{strip, boundOf, stripRefusal}
-use Rattle.strip.specs.Stripped as stripping
+use Rattle.convert.specs.strip.Stripped as stripping
 use Rattle.export.specs.Exports.{boundedCapacity, boundedInhibitor}
 use Rattle.export.specs.Exports as exporting
-use Rattle.audit.specs.Audits as auditing
+use Rattle.complement.specs.audit.Audits as auditing
 use Rattle.damaged.specs.Damaged.{damagedRefusal, modesIn}
-use Rattle.salvage.specs.Salvaged.{sheetOfFirst, reportOf, tooShort, salvaged, output, trial, salvageRefusal, salvageOf, outputOf}
+use Rattle.run.specs.salvage.Salvaged.{sheetOfFirst, reportOf, tooShort, salvaged, output, trial, salvageRefusal, salvageOf, outputOf}
 use Rattle.statement.specs.Replay.{unlessRefused, weightsText, sheetsText, replayText, stated, statedIn}
 use Rattle.promises.specs.DemandThree.{asWritten}
 use Rattle.promises.specs.EqualNets.{OneNet, OffsetAside, RepliesAlike, Fits, StripFits, Bytes, AlikeBefore, Alike, EqualNets}

@@ -2,14 +2,14 @@
 use mathlib.Core.Path.{refl, sym, _∙_, ap}
 use mathlib.Core.Option.{Option, none, some}
 use Rattle.model.specs.Replies.{Reply}
-use Rattle.model.specs.Audit.{Finding}
+use Rattle.both_forms.specs.Audit.{Finding}
 use Rattle.fire.specs.Calls.{beginRefusal, testRefusal}
 use Rattle.run.specs.Calls.{beforeRun, runOf, visitedBy, certifyRefusal}
-use Rattle.step.specs.Calls.{testStepRefusal}
-use Rattle.weigh.specs.Calls.{figureRefusal, changeRefusal}
-use Rattle.exclude.specs.Calls.{excludeRefusal}
-use Rattle.dead.specs.IsDead.{deadRefusal}
-use Rattle.salvage.specs.Salvaged as salvaging
+use Rattle.fire.specs.step.Calls.{testStepRefusal}
+use Rattle.statement.specs.weigh.Calls.{figureRefusal, changeRefusal}
+use Rattle.statement.specs.exclude.Calls.{excludeRefusal}
+use Rattle.opened.specs.dead.IsDead.{deadRefusal}
+use Rattle.run.specs.salvage.Salvaged as salvaging
 use Rattle.statement.specs.Replay.{stated, statedIn}
 use Rattle.answers.specs.declared.Answered.{Answered}
 use Rattle.answers.specs.Told.{telling, valueOr, finding, audited, reported}

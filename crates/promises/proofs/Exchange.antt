@@ -13,9 +13,9 @@ use Rattle.model.specs.declared.Fault.the-variants.{NoRoom}
 use Rattle.model.specs.Refusals.{carries, wrong}
 use Rattle.model.specs.Replies.{yields}
 use Rattle.model.specs.Nets.{PNet, pairs, modes}
-use Rattle.model.specs.Complement.{complement}
+use Rattle.second_form.specs.Complement.{complement}
 use Rattle.model.proofs.First.{left-none, right-none, none-then}
-use Rattle.model.proofs.Demand3.{demand3}
+use Rattle.second_form.proofs.Demand3.{demand3}
 use Rattle.sheets.specs.Whole.{wholeNet}
 use Rattle.sheets.specs.Decoded.{netOf}
 use Rattle.complement.specs.Complemented as complementing

@@ -6,7 +6,7 @@ use mathlib.Core.Logic.{_≢_, inl, inr}
 use lib.ListN.{length}
 use native.Mathlib.Omega.{arith}
 use Rattle.model.specs.Nets.{PNet}
-use Rattle.model.specs.WorkedExamples.{ownExample}
+use Rattle.both_forms.specs.WorkedExamples.{ownExample}
 use Rattle.sheets.specs.Decoded.{netOf}
 use Rattle.pnml.specs.Agrees.{Agrees}
 use Rattle.pnml.specs.Pnml.{opening, closing, pnml}

@@ -3,15 +3,15 @@ use mathlib.Core.Path.{_≡_, sym, _∙_, ap}
 use mathlib.Core.Option.{none}
 use Rattle.model.specs.Refusals.{number}
 use Rattle.model.proofs.First.{left-none, right-none, none-then}
-use Rattle.model.proofs.Markings.{marking-test}
-use Rattle.model.proofs.Exclusion.{figure-constant, out-of-reach}
+use Rattle.movement.proofs.Markings.{marking-test}
+use Rattle.movement.proofs.Exclusion.{figure-constant, out-of-reach}
 use Rattle.sheets.specs.Decoded.{netOf, weightsOf, movementsOf}
 use Rattle.run.specs.Calls.{certifyRefusal}
 use Rattle.run.proofs.Running.{leads-keep}
 use Rattle.run.proofs.Promises.{certified}
-use Rattle.weigh.specs.Calls.{figureRefusal}
-use Rattle.exclude.specs.Calls.{excludeRefusal}
-use Rattle.exclude.proofs.Promises.{excluded-exactly}
+use Rattle.statement.specs.weigh.Calls.{figureRefusal}
+use Rattle.statement.specs.exclude.Calls.{excludeRefusal}
+use Rattle.statement.proofs.exclude.Promises.{excluded-exactly}
 use Rattle.promises.specs.Exclusion.{NoListLeads, NoSheetCertifies, FigureCallConstant}
 use Rattle.promises.specs.Frauds.{ExclusionFrauds}
 use Rattle.promises.proofs.Accepting.{number-none}

@@ -12,16 +12,16 @@ use Rattle.model.specs.declared.Mode.{Mode}
 use Rattle.model.specs.declared.Thing.the-variants.{Movements, Argument}
 use Rattle.model.specs.declared.Refusal.{Refusal}
 use Rattle.model.specs.Nets.{PNet, modes, modeNo}
-use Rattle.model.specs.Figures.{sum, figure, change, changes}
+use Rattle.movement.specs.Figures.{sum, figure, change, changes}
 use Rattle.model.specs.Replies.{yields}
-use Rattle.model.specs.Promises.{Leads, stays, moves}
+use Rattle.movement.specs.Promises.{Leads, stays, moves}
 use Rattle.model.proofs.First.{left-none, right-none, none-then}
 use Rattle.model.proofs.Firing.{accepted-there, mode-there}
-use Rattle.model.proofs.Figures.{figure-leads}
+use Rattle.movement.proofs.Figures.{figure-leads}
 use Rattle.sheets.specs.Decoded.{netOf, weightsOf, movementsOf}
 use Rattle.run.specs.Calls.{runOf}
 use Rattle.run.proofs.Promises.{runs-leave, runs-keep}
-use Rattle.weigh.specs.Calls.{told, figured, figureRefusal, changeRefusal}
+use Rattle.statement.specs.weigh.Calls.{told, figured, figureRefusal, changeRefusal}
 use Rattle.promises.specs.FigureOverRun.{FigureOverRun}
 
 -- the changes of the first n movements of a list, by their places in it

@@ -13,13 +13,13 @@ use Rattle.model.specs.declared.Refusal.{Refusal}
 use Rattle.model.specs.declared.Answer.{Answer}
 use Rattle.model.specs.Refusals.{number}
 use Rattle.model.specs.Nets.{PNet, total, modeNo}
-use Rattle.model.specs.Figures.{change}
+use Rattle.movement.specs.Figures.{change}
 use Rattle.ships.specs.declared.Fleet.{Fleet}
 use Rattle.ships.specs.Ships.{Ship, lost, removedBy, shipRemoved, voyageOf, withVoyage}
 use Rattle.ships.specs.Entered.{shipRefusal, entered}
 use Rattle.ships.specs.Promises.{afterAll, counted as countedBy}
 use Rattle.ships.proofs.Totals.{fleet-statement}
-use Rattle.fleet.specs.Contracts.{AddShipAllows}
+use Rattle.statement.specs.fleet.Contracts.{AddShipAllows}
 use Rattle.promises.specs.FleetOfCalls.{Calls, none as noShip, counts, refuses, FleetOfCalls}
 use Rattle.promises.specs.Frauds.{FleetFrauds}
 use Rattle.promises.proofs.Accepting.{number-none}

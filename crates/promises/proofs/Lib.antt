@@ -1,40 +1,40 @@
-pub mod DemandOne
-pub mod DemandThree
-pub mod TwoRuns
-pub mod TwoSteps
-pub mod DeadAsWritten
-pub mod TwoOrders
-pub mod Audits
-pub mod FigureOverRun
-pub mod LiveModes
-pub mod Uniqueness
-pub mod StripWritten
-pub mod EqualNets
-pub mod EqualNetsForC
-pub mod Positions
-pub mod RefusalSizes
-pub mod TextLength
-pub mod TextRoom
-pub mod Stripping
-pub mod Exchange
-pub mod LongestText
-pub mod OwnExample
-pub mod ConstantAnswers
-pub mod ConstantAnswersForC
-pub mod ConstantAmounts
-pub mod Accepting
-pub mod WritesNothing
-pub mod CopiesNet
-pub mod CopiesSheet
-pub mod StripFrauds
-pub mod ExchangeFrauds
-pub mod RunFrauds
-pub mod SalvageFrauds
-pub mod ArcsVisited
-pub mod StepFrauds
-pub mod AuditFrauds
-pub mod Exclusion
-pub mod FleetOfCalls
-pub mod Frauds
-pub mod CallTables
-pub mod Promises
+mod DemandOne
+mod DemandThree
+mod TwoRuns
+mod TwoSteps
+mod DeadAsWritten
+mod TwoOrders
+mod Audits
+mod FigureOverRun
+mod LiveModes
+mod Uniqueness
+mod StripWritten
+mod EqualNets
+mod EqualNetsForC
+mod Positions
+mod RefusalSizes
+mod TextLength
+mod TextRoom
+mod Stripping
+mod Exchange
+mod LongestText
+mod OwnExample
+mod ConstantAnswers
+mod ConstantAnswersForC
+mod ConstantAmounts
+mod Accepting
+mod WritesNothing
+mod CopiesNet
+mod CopiesSheet
+mod StripFrauds
+mod ExchangeFrauds
+mod RunFrauds
+mod SalvageFrauds
+mod ArcsVisited
+mod StepFrauds
+mod AuditFrauds
+mod Exclusion
+mod FleetOfCalls
+mod Frauds
+mod CallTables
+mod Promises

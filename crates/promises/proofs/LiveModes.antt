@@ -10,21 +10,21 @@ use Rattle.model.specs.declared.Mode.{Mode}
 use Rattle.model.specs.declared.Thing.the-variants.{Argument}
 use Rattle.model.specs.declared.Refusal.{Refusal}
 use Rattle.model.specs.Nets.{pairs, modes, K, count, row}
-use Rattle.model.specs.Dead.{isDead, lowestMarking}
+use Rattle.second_form.specs.Dead.{isDead, lowestMarking}
 use Rattle.model.specs.WellFormed.{WellFormed}
 use Rattle.model.proofs.First.{left-none, right-none, none-then, only-if-none}
 use Rattle.model.proofs.Firing.{mode-there}
-use Rattle.model.proofs.Markings.{marking-test}
-use Rattle.model.proofs.Rooms.{allows-is}
-use Rattle.model.proofs.Possible.{enabled-live, dead-or-live}
-use Rattle.nets.specs.Nets.{netRefusal}
+use Rattle.movement.proofs.Markings.{marking-test}
+use Rattle.movement.proofs.Rooms.{allows-is}
+use Rattle.second_form.proofs.Possible.{enabled-live, dead-or-live}
+use Rattle.sheets.specs.nets.Nets.{netRefusal}
 use Rattle.sheets.specs.Whole.{wholeNet}
 use Rattle.sheets.specs.Decoded.{netOf}
 use Rattle.sheets.proofs.Accepted.{well-formed}
 use Rattle.fire.specs.Calls.{testRefusal}
 use Rattle.fire.proofs.Promises.{accepted-fire}
-use Rattle.dead.specs.IsDead.{told, deadness, deadRefusal, deadnessOf}
-use Rattle.dead.proofs.Promises.{value-is}
+use Rattle.opened.specs.dead.IsDead.{told, deadness, deadRefusal, deadnessOf}
+use Rattle.opened.proofs.dead.Promises.{value-is}
 use Rattle.promises.specs.LiveModes.{LiveModes}
 
 -- a call that says no is accepted, and says it of a mode that is not dead

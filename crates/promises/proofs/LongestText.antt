@@ -17,25 +17,25 @@ use Rattle.model.proofs.First.{left-none, right-none, only-if-none}
 use Rattle.model.proofs.Tables.{table-length, table-at}
 use Rattle.heads.specs.Layout.{sheetEnd}
 use Rattle.heads.specs.Version.{versionOf}
-use Rattle.nets.specs.Nets.{netRefusal}
+use Rattle.sheets.specs.nets.Nets.{netRefusal}
 use Rattle.sheets.specs.Whole.{bytesAfter, wholeNet}
 use Rattle.sheets.specs.Decoded.{netOf}
 use Rattle.sheets.proofs.Accepted as sheets
 use Rattle.text.specs.Decimals.{decimal}
 use Rattle.text.proofs.Decimals.{length-above}
-use Rattle.written.specs.Written.{ofMode}
-use Rattle.written.specs.Puts.{sheetSize}
-use Rattle.written.proofs.ByMode.{by-mode}
-use Rattle.written.proofs.Largest.{largest-sheet}
-use Rattle.written.proofs.NetStands.{ends-of}
-use Rattle.written.proofs.RoundTrip.{fields-end}
-use Rattle.written.proofs.Sections.{section-joined, section-list}
-use Rattle.written.proofs.SheetLength.{sheet-length, sheet-size}
+use Rattle.sheets.specs.written.Written.{ofMode}
+use Rattle.sheets.specs.written.Puts.{sheetSize}
+use Rattle.sheets.proofs.written.ByMode.{by-mode}
+use Rattle.sheets.proofs.written.Largest.{largest-sheet}
+use Rattle.sheets.proofs.written.NetStands.{ends-of}
+use Rattle.sheets.proofs.written.RoundTrip.{fields-end}
+use Rattle.sheets.proofs.written.Sections.{section-joined, section-list}
+use Rattle.sheets.proofs.written.SheetLength.{sheet-length, sheet-size}
 use Rattle.pnml.specs.Pnml.{opening, closing, placeText, arcText, modeText, body, pnml, Exportable}
-use Rattle.elements.specs.Sizes.{placeSize, weightSize}
-use Rattle.elements.proofs.Lengths.{place-length, place-most, weight-some, weight-most}
-use Rattle.texts.specs.Parts.{placeOf, arcNoText}
-use Rattle.texts.proofs.Texts.{arc-long, mode-long, closing-length}
+use Rattle.export.specs.elements.Sizes.{placeSize, weightSize}
+use Rattle.export.proofs.elements.Lengths.{place-length, place-most, weight-some, weight-most}
+use Rattle.export.specs.texts.Parts.{placeOf, arcNoText}
+use Rattle.export.proofs.texts.Texts.{arc-long, mode-long, closing-length}
 use Rattle.promises.specs.LongestText.{LongestText}
 
 opening-length : length opening ≡ 187

@@ -21,24 +21,24 @@ use Rattle.model.specs.Numbers.{∞}
 use Rattle.model.specs.First.{_▸_, first}
 use Rattle.model.specs.Nets.{modeNo, entryAt, pairNo}
 use Rattle.model.specs.Refusals.{answer, number, carried, wrong}
-use Rattle.model.specs.Runs.{Outcome, runFrom, run, elsewhere, endsAt, certificateRefusal}
-use Rattle.model.specs.Visits.{arcsAmong, modeArcs, visited}
-use Rattle.model.specs.Figures.{sum, figure, change}
-use Rattle.model.specs.Exclusion.{sameFigure, claimRefusal}
-use Rattle.model.specs.Dead.{deadPair, isDead, firstDead}
-use Rattle.model.specs.Complement.{bounded, complementRow, newPlaces, arcsOf, complement, refusal15, sheetLimits, complementRefusal}
+use Rattle.movement.specs.Runs.{Outcome, runFrom, run, elsewhere, endsAt, certificateRefusal}
+use Rattle.both_forms.specs.Visits.{arcsAmong, modeArcs, visited}
+use Rattle.movement.specs.Figures.{sum, figure, change}
+use Rattle.movement.specs.Exclusion.{sameFigure, claimRefusal}
+use Rattle.second_form.specs.Dead.{deadPair, isDead, firstDead}
+use Rattle.second_form.specs.Complement.{bounded, complementRow, newPlaces, arcsOf, complement, refusal15, sheetLimits, complementRefusal}
 use Rattle.model.specs.Replies.{yields}
-use Rattle.model.specs.Audit.{audited, auditRefusal}
+use Rattle.both_forms.specs.Audit.{audited, auditRefusal}
 use Rattle.model.specs.Lists.{joined, table}
 use Rattle.model.specs.Firing.{stopped, ruleRefusal, rowRefusal, modeRefusal, fired}
-use Rattle.model.specs.Steps.{together, stepRefusal, firedTogether}
+use Rattle.both_forms.specs.Steps.{together, stepRefusal, firedTogether}
 use Rattle.model.specs.WellFormed.{InRange, ArcOf, WellFormed}
-use Rattle.model.specs.WorkedExamples.{ownExample}
+use Rattle.both_forms.specs.WorkedExamples.{ownExample}
 use Rattle.model.specs.Markings.{unequal, markingRefusal}
 use Rattle.model.proofs.First.{left-none, right-none, none-then}
-use Rattle.model.proofs.Markings.{marking-test}
-use Rattle.model.proofs.Demand3.{demand3}
-use Rattle.model.proofs.Each.{each-at, sorted-rising}
+use Rattle.movement.proofs.Markings.{marking-test}
+use Rattle.second_form.proofs.Demand3.{demand3}
+use Rattle.movement.proofs.Each.{each-at, sorted-rising}
 use Rattle.heads.specs.Bytes.{u16At, u32At}
 use Rattle.heads.specs.Checks.{known, headRefusal}
 use Rattle.lists.specs.Weights.{signed, weightRefusal, weightFields, weightsRefusal}
@@ -46,25 +46,25 @@ use Rattle.lists.specs.Movements.{movementFields, movementsRefusal}
 use Rattle.sheets.specs.Whole.{bytesAfter, wholeWeights, wholeMovements}
 use Rattle.sheets.specs.Decoded.{weightsOf, movementsOf}
 use Rattle.opened.specs.Shape.{arcOffset}
-use Rattle.written.specs.Promises.{ReadBack}
-use Rattle.written.specs.Written.{bytes16, bytes32, versionBytes, ofMode, sheetOf}
-use Rattle.written.proofs.RoundTrip.{written-then-read}
-use Rattle.written.proofs.SheetLength.{section-one, fields-length, sheet-length}
+use Rattle.sheets.specs.written.Promises.{ReadBack}
+use Rattle.sheets.specs.written.Written.{bytes16, bytes32, versionBytes, ofMode, sheetOf}
+use Rattle.sheets.proofs.written.RoundTrip.{written-then-read}
+use Rattle.sheets.proofs.written.SheetLength.{section-one, fields-length, sheet-length}
 use Rattle.fire.specs.Calls.{beginRefusal, testRefusal}
 use Rattle.run.specs.declared.Ran.{Ran}
 use Rattle.run.specs.Contracts.{RunAllows}
 use Rattle.run.specs.Calls.{ranOf, beforeRun, runOf, visitedBy, certifyRefusal}
-use Rattle.step.specs.Calls.{stepModes, testStepRefusal}
-use Rattle.weigh.specs.Calls as weigh
-use Rattle.weigh.specs.Calls.{figured, figureRefusal, changeRefusal}
+use Rattle.fire.specs.step.Calls.{stepModes, testStepRefusal}
+use Rattle.statement.specs.weigh.Calls as weigh
+use Rattle.statement.specs.weigh.Calls.{figured, figureRefusal, changeRefusal}
 use Rattle.ships.specs.Ships.{ship, addedBy, removedBy, voyageOf, withVoyage}
 use Rattle.ships.specs.Entered.{recordRefusal, roomRefusal as shipRoom, figureRefusal as shipFigures, shipRefusal, entered}
 use Rattle.ships.specs.Promises.{zeros}
-use Rattle.exclude.specs.Calls.{excludeRefusal}
-use Rattle.dead.specs.IsDead as one
-use Rattle.dead.specs.IsDead.{deadRefusal}
-use Rattle.dead.specs.FirstDead as first
-use Rattle.size.specs.Sizes as sizing
+use Rattle.statement.specs.exclude.Calls.{excludeRefusal}
+use Rattle.opened.specs.dead.IsDead as one
+use Rattle.opened.specs.dead.IsDead.{deadRefusal}
+use Rattle.opened.specs.dead.FirstDead as first
+use Rattle.opened.specs.size.Sizes as sizing
 use Rattle.complement.specs.Complemented as complementing
 use Rattle.complement.specs.Complemented.{roomRefusal, complementingRefusal}
 use Rattle.text.specs.Decimals.{decimalWithin, decimal}
@@ -80,18 +80,18 @@ use Rattle.import.specs.Promises.{Small}
 use Rattle.import.specs.Contracts.{ImportPnmlAllows}
 use Rattle.import.proofs.Singles.{size-is}
 use Rattle.import.proofs.Promises.{imports-exactly}
-use Rattle.audit.specs.Audits as auditing
-use Rattle.audit.specs.Audits.{auditingRefusal}
-use Rattle.audit.proofs.Answers.{told-found}
+use Rattle.complement.specs.audit.Audits as auditing
+use Rattle.complement.specs.audit.Audits.{auditingRefusal}
+use Rattle.complement.proofs.audit.Answers.{told-found}
 use Rattle.damaged.specs.Damaged.{considered}
-use Rattle.salvage.specs.declared.Salvaged.{Salvaged}
-use Rattle.salvage.specs.declared.Salvaged.the-variants.{Written}
-use Rattle.salvage.specs.MovementSheet.{movementSheet}
-use Rattle.salvage.specs.Salvaged.{sheetOfFirst, reportOf, salvaged, output, trial, kept, report, freshSheet, salvageRefusal, salvageOf}
-use Rattle.salvage.specs.Salvaged as salvaging
-use Rattle.salvage.specs.Contracts.{SalvageAllows}
-use Rattle.salvage.proofs.Answers.{kept-part, first-length, roomy}
-use Rattle.salvage.proofs.Promises.{all-considered, same-modes, not-damaged}
+use Rattle.run.specs.declared.salvage.Salvaged.{Salvaged}
+use Rattle.run.specs.declared.salvage.Salvaged.the-variants.{Written}
+use Rattle.run.specs.salvage.MovementSheet.{movementSheet}
+use Rattle.run.specs.salvage.Salvaged.{sheetOfFirst, reportOf, salvaged, output, trial, kept, report, freshSheet, salvageRefusal, salvageOf}
+use Rattle.run.specs.salvage.Salvaged as salvaging
+use Rattle.run.specs.salvage.Contracts.{SalvageAllows}
+use Rattle.run.proofs.salvage.Answers.{kept-part, first-length, roomy}
+use Rattle.run.proofs.salvage.Promises.{all-considered, same-modes, not-damaged}
 use Rattle.promises.specs.OwnExample.{example, RunsTo, SalvagesTo, OwnExample}
 use Rattle.promises.specs.OwnExample as own
 use Rattle.promises.specs.Exchange.{ExportAnswers}

@@ -13,17 +13,17 @@ use Rattle.model.proofs.First.{left-none}
 use Rattle.heads.specs.Bytes.{byteAt, u32At}
 use Rattle.heads.specs.Layout.{pairCount, tailSize}
 use Rattle.heads.specs.Version.{versionOf}
-use Rattle.nets.specs.Nets.{netRefusal}
-use Rattle.nets.proofs.Valid.{headed, start-holds}
+use Rattle.sheets.specs.nets.Nets.{netRefusal}
+use Rattle.sheets.proofs.nets.Valid.{headed, start-holds}
 use Rattle.sheets.specs.Whole.{wholeNet}
 use Rattle.sheets.specs.Decoded.{netArcIn, netOf}
 use Rattle.sheets.proofs.Meaning.{pairs-are, capacity-at, arcs-length, arc-at}
 use Rattle.opened.specs.Shape.{arcOffset, inhibitorOffset, tailAt}
 use Rattle.opened.proofs.Versions.{tail-arc, tail-there, offset-one, offset-two, inhibitor-there}
-use Rattle.written.specs.Written.{bytes32, boundNumber, tailBytes, modeBytes, arcBytes}
-use Rattle.written.proofs.Stands.{Stands, moved}
-use Rattle.written.proofs.BigEndian.{length32, every-byte, stand32}
-use Rattle.written.proofs.Records.{number-bound, arc-length, stand-tail, stand-arc}
+use Rattle.sheets.specs.written.Written.{bytes32, boundNumber, tailBytes, modeBytes, arcBytes}
+use Rattle.sheets.proofs.written.Stands.{Stands, moved}
+use Rattle.sheets.proofs.written.BigEndian.{length32, every-byte, stand32}
+use Rattle.sheets.proofs.written.Records.{number-bound, arc-length, stand-tail, stand-arc}
 use Rattle.export.specs.Exports.{capacityOffset}
 use Rattle.promises.specs.EqualNets.{Bytes}
 use Rattle.promises.specs.Positions.{BytesAt, Positions}

@@ -1,45 +1,45 @@
 -- Every promise, with its one term.
 use Rattle.model.proofs.Firing.{refusal-table, rule}
 use Rattle.model.proofs.ShortOrOver.{amounts}
-use Rattle.model.proofs.Markings.{mode-rule, marking-after, without-arcs, marking-test, marking-kept}
-use Rattle.model.proofs.Runs.{runs, certificates}
-use Rattle.model.proofs.Figures.{figure-after}
-use Rattle.model.proofs.Dead.{dead-modes, first-dead}
-use Rattle.model.proofs.Possible.{dead-exactly, dead-or-live}
-use Rattle.model.proofs.Figure64.{figure-64}
-use Rattle.model.proofs.ArcByArc.{arc-by-arc}
-use Rattle.model.proofs.WorkedExamples.{worked-examples}
-use Rattle.model.proofs.Demand3.{demand3}
-use Rattle.model.proofs.DeadComplement.{never16, dead-in-complement}
-use Rattle.model.proofs.Edges.{starred}
-use Rattle.model.proofs.Steps.{step-rule, step-after, step-of-one, step-members}
-use Rattle.model.proofs.Exclusion.{claim-accepted, figure-constant, out-of-reach}
-use Rattle.model.proofs.CorrespondingSteps.{steps-back, steps-forth, step-examples}
-use Rattle.model.proofs.WeakExamples.{weak-examples, weak-steps}
-use Rattle.model.proofs.Orders.{orders, interleavings}
-use Rattle.model.proofs.ApartInBoth.{orders-in-both, order-examples}
-use Rattle.model.proofs.Visits.{movements-tried, visits-bounded, visits-examples}
-use Rattle.model.proofs.OutOfStep.{audit-finds, audit-examples}
-use Rattle.model.proofs.OutOfStepMoves.{audit-along, mark-shows}
+use Rattle.movement.proofs.Markings.{mode-rule, marking-after, without-arcs, marking-test, marking-kept}
+use Rattle.movement.proofs.Runs.{runs, certificates}
+use Rattle.movement.proofs.Figures.{figure-after}
+use Rattle.second_form.proofs.Dead.{dead-modes, first-dead}
+use Rattle.second_form.proofs.Possible.{dead-exactly, dead-or-live}
+use Rattle.second_form.proofs.Figure64.{figure-64}
+use Rattle.both_forms.proofs.ArcByArc.{arc-by-arc}
+use Rattle.both_forms.proofs.WorkedExamples.{worked-examples}
+use Rattle.second_form.proofs.Demand3.{demand3}
+use Rattle.second_form.proofs.DeadComplement.{never16, dead-in-complement}
+use Rattle.both_forms.proofs.Edges.{starred}
+use Rattle.both_forms.proofs.Steps.{step-rule, step-after, step-of-one, step-members}
+use Rattle.movement.proofs.Exclusion.{claim-accepted, figure-constant, out-of-reach}
+use Rattle.both_forms.proofs.CorrespondingSteps.{steps-back, steps-forth, step-examples}
+use Rattle.both_forms.proofs.WeakExamples.{weak-examples, weak-steps}
+use Rattle.both_forms.proofs.Orders.{orders, interleavings}
+use Rattle.both_forms.proofs.ApartInBoth.{orders-in-both, order-examples}
+use Rattle.both_forms.proofs.Visits.{movements-tried, visits-bounded, visits-examples}
+use Rattle.both_forms.proofs.OutOfStep.{audit-finds, audit-examples}
+use Rattle.both_forms.proofs.OutOfStepMoves.{audit-along, mark-shows}
 use Rattle.sheets.proofs.Accepted.{well-formed}
-use Rattle.sheets.proofs.Lists.{movements-within, weights-within}
+use Rattle.sheets.proofs.Listed.{movements-within, weights-within}
 use Rattle.lists.proofs.Signs.{signed-weights}
-use Rattle.written.proofs.RoundTrip.{written-then-read, read-then-written}
-use Rattle.salvage.proofs.MovementSheets.{list-written-then-read, list-read-then-written}
-use Rattle.salvage.proofs.Promises.{salvaged-runs, whole-comes-back}
+use Rattle.sheets.proofs.written.RoundTrip.{written-then-read, read-then-written}
+use Rattle.run.proofs.salvage.MovementSheets.{list-written-then-read, list-read-then-written}
+use Rattle.run.proofs.salvage.Promises.{salvaged-runs, whole-comes-back}
 use Rattle.convert.proofs.Promises.{source-only, converted-reads, there-and-back}
 use Rattle.bare.proofs.Bare.{bare-after}
 use Rattle.bare.proofs.OldModes.{old-modes, no-new-dead}
-use Rattle.strip.proofs.Promises.{stripped-reads}
+use Rattle.convert.proofs.strip.Promises.{stripped-reads}
 use Rattle.export.proofs.Promises.{exports-exactly, complements-exportable}
 use Rattle.import.proofs.Promises.{refused-exactly, imports-exactly, imported-reads}
-use Rattle.written.proofs.Largest.{largest-sheet, example-lengths}
+use Rattle.sheets.proofs.written.Largest.{largest-sheet, example-lengths}
 use Rattle.fire.proofs.Promises.{accepted-begin, accepted-fire, marking-stays}
 use Rattle.run.proofs.Promises.{runs-leave, runs-keep, certified}
-use Rattle.weigh.proofs.Promises.{figure-is-sum, change-is-sum, figure-fired}
-use Rattle.dead.proofs.Promises.{says-dead, names-first}
-use Rattle.audit.proofs.Promises.{says-audited}
-use Rattle.exclude.proofs.Promises.{excluded-exactly}
+use Rattle.statement.proofs.weigh.Promises.{figure-is-sum, change-is-sum, figure-fired}
+use Rattle.opened.proofs.dead.Promises.{says-dead, names-first}
+use Rattle.complement.proofs.audit.Promises.{says-audited}
+use Rattle.statement.proofs.exclude.Promises.{excluded-exactly}
 use Rattle.ships.proofs.Totals.{fleet-statement, refused-ship}
 use Rattle.promises.specs.Promises.{Promises}
 use Rattle.promises.proofs.DemandOne.{demand-one, demand-one-for-c}

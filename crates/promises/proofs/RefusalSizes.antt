@@ -29,7 +29,7 @@ use Rattle.model.specs.WellFormed.{WellFormed}
 use Rattle.model.specs.Firing.{compared, stops, stoppedBy, stopped, lowestStop, ruleRefusal, rowRefusal, rooms, modeRefusal}
 use Rattle.model.specs.Refusals.{line, wrong, thing, thingNumber, alwaysNet}
 use Rattle.model.proofs.First.{first-found}
-use Rattle.model.proofs.ComplementNet.{row-small}
+use Rattle.second_form.proofs.ComplementNet.{row-small}
 use Rattle.heads.specs.Bytes.{byteAt, u16At, u32At}
 use Rattle.heads.specs.Layout.{fieldsFrom, fieldsAt, counts, totalOf, countAt, placesAt, transitionsAt, coloursAt, modesAt, pairsAt, pairAt, arcCountAt, arcsAfter, arcAt, groupAt, groupArcAt, arcsBefore, groupCount, placeCount, transitionCount, pairCount, modeCount, weightCount, bodyLength, version, sheetEnd, movementAt, movementCount}
 use Rattle.heads.specs.Version.{versionOf}
@@ -37,9 +37,9 @@ use Rattle.heads.specs.Checks.{known, headRefusal, missing, leftOver, countRefu
 use Rattle.fields.specs.Numbers.{bound, outside}
 use Rattle.fields.specs.Fields.{runningRefusal, capacityRefusal, startRefusal, pairRefusal, eachCount, countFields}
 use Rattle.fields.proofs.RunningTotals.{total-snoc}
-use Rattle.nets.specs.Tails.{tailBlank, tailNumbers}
-use Rattle.nets.specs.Groups.{pairNotRising, pairNameRefusal, groupArcRefusal, groupRefusal, groupFields}
-use Rattle.nets.specs.Nets.{notRising, arcNamesRefusal, arcRefusal, arcFields, arcSection, pairAndArcFields, ruleField, netFields, netRefusal}
+use Rattle.sheets.specs.nets.Tails.{tailBlank, tailNumbers}
+use Rattle.sheets.specs.nets.Groups.{pairNotRising, pairNameRefusal, groupArcRefusal, groupRefusal, groupFields}
+use Rattle.sheets.specs.nets.Nets.{notRising, arcNamesRefusal, arcRefusal, arcFields, arcSection, pairAndArcFields, ruleField, netFields, netRefusal}
 use Rattle.lists.specs.Weights.{signed, weightRefusal, weightFields, weightsRefusal}
 use Rattle.lists.specs.Movements.{mostMovements, movementFields, movementsRefusal}
 use Rattle.sheets.specs.Whole.{bytesAfter, wholeMovements}

@@ -11,10 +11,10 @@ use Rattle.model.specs.declared.Thing.the-variants.{Movements}
 use Rattle.model.specs.declared.Refusal.{Refusal}
 use Rattle.model.specs.Nets.{PNet, pairs, modeNo, count}
 use Rattle.model.specs.Firing.{modeRefusal, fired}
-use Rattle.model.specs.Runs.{Outcome, goOn, runFrom, run}
-use Rattle.model.specs.Promises.{Leads, stays, moves}
-use Rattle.model.proofs.Markings.{marking-after}
-use Rattle.model.proofs.Runs.{runs}
+use Rattle.movement.specs.Runs.{Outcome, goOn, runFrom, run}
+use Rattle.movement.specs.Promises.{Leads, stays, moves}
+use Rattle.movement.proofs.Markings.{marking-after}
+use Rattle.movement.proofs.Runs.{runs}
 use Rattle.sheets.specs.Decoded.{netOf, movementsOf}
 use Rattle.run.specs.declared.Ran.{Ran}
 use Rattle.run.specs.Calls.{beforeRun, runOf}

@@ -10,17 +10,17 @@ use Rattle.model.specs.declared.Mode.{Mode}
 use Rattle.model.specs.declared.Thing.the-variants.{Movements}
 use Rattle.model.specs.Nets.{PNet, modeNo}
 use Rattle.model.specs.Firing.{modeRefusal}
-use Rattle.model.specs.Runs.{run}
-use Rattle.model.proofs.Runs.{runs}
+use Rattle.movement.specs.Runs.{run}
+use Rattle.movement.proofs.Runs.{runs}
 use Rattle.sheets.specs.Decoded.{netOf}
 use Rattle.damaged.specs.Damaged.{modesIn}
-use Rattle.salvage.proofs.Considered.{modes-length}
-use Rattle.salvage.specs.declared.Report.{Report}
-use Rattle.salvage.specs.declared.Salvaged.{Salvaged}
-use Rattle.salvage.specs.declared.Salvaged.the-variants.{Written}
-use Rattle.salvage.specs.Salvaged.{trial, kept, salvageRefusal}
-use Rattle.salvage.specs.Contracts.{SalvageAllows}
-use Rattle.salvage.proofs.Promises.{report-told}
+use Rattle.run.proofs.salvage.Considered.{modes-length}
+use Rattle.run.specs.declared.salvage.Report.{Report}
+use Rattle.run.specs.declared.salvage.Salvaged.{Salvaged}
+use Rattle.run.specs.declared.salvage.Salvaged.the-variants.{Written}
+use Rattle.run.specs.salvage.Salvaged.{trial, kept, salvageRefusal}
+use Rattle.run.specs.salvage.Contracts.{SalvageAllows}
+use Rattle.run.proofs.salvage.Promises.{report-told}
 use Rattle.promises.specs.Frauds.{SalvageFrauds}
 use Rattle.promises.proofs.DemandOne.{stays-is}
 

@@ -9,12 +9,12 @@ use Rattle.model.specs.declared.Mode.{Mode}
 use Rattle.model.specs.Refusals.{number}
 use Rattle.model.specs.Nets.{PNet, pairs, count, row}
 use Rattle.model.specs.Firing.{after, fired}
-use Rattle.model.specs.Steps.{together, stepRefusal, firedTogether}
+use Rattle.both_forms.specs.Steps.{together, stepRefusal, firedTogether}
 use Rattle.model.proofs.First.{right-none}
-use Rattle.model.proofs.Markings.{row-fired-at}
-use Rattle.model.proofs.Steps.{step-accepted, step-fired-at}
+use Rattle.movement.proofs.Markings.{row-fired-at}
+use Rattle.both_forms.proofs.Steps.{step-accepted, step-fired-at}
 use Rattle.sheets.specs.Decoded.{netOf}
-use Rattle.step.specs.Calls.{stepModes, testStepRefusal, steppedBy}
+use Rattle.fire.specs.step.Calls.{stepModes, testStepRefusal, steppedBy}
 use Rattle.promises.specs.Frauds.{FirstMemberAlone}
 use Rattle.promises.proofs.Accepting.{number-none}
 

@@ -12,16 +12,16 @@ use Rattle.model.specs.Replies.{yields}
 use Rattle.model.proofs.First.{left-none}
 use Rattle.heads.specs.Layout.{transitionCount}
 use Rattle.heads.specs.Version.{versionOf}
-use Rattle.nets.specs.Nets.{netRefusal}
+use Rattle.sheets.specs.nets.Nets.{netRefusal}
 use Rattle.sheets.specs.Whole.{wholeNet}
 use Rattle.sheets.specs.Decoded.{netOf}
 use Rattle.sheets.proofs.Accepted.{well-formed}
-use Rattle.written.proofs.NetStands.{transitions-of}
-use Rattle.written.proofs.RoundTrip.{written-then-read}
+use Rattle.sheets.proofs.written.NetStands.{transitions-of}
+use Rattle.sheets.proofs.written.RoundTrip.{written-then-read}
 use Rattle.bare.specs.Strip.{boundOf}
 use Rattle.bare.proofs.Arcs.{transitions-many}
-use Rattle.strip.specs.Stripped.{strippedNet, strippedSheet, strippingRefusal, stripped, told, strippedOf, outputOf}
-use Rattle.strip.proofs.Promises.{has-sheet}
+use Rattle.convert.specs.strip.Stripped.{strippedNet, strippedSheet, strippingRefusal, stripped, told, strippedOf, outputOf}
+use Rattle.convert.proofs.strip.Promises.{has-sheet}
 use Rattle.promises.specs.Frauds.{StripFrauds}
 use Rattle.promises.proofs.Accepting.{unrefused}
 use Rattle.promises.proofs.CopiesNet.{same-transitions}

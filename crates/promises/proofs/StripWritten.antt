@@ -11,9 +11,9 @@ use Rattle.model.proofs.First.{left-none, right-none}
 use Rattle.sheets.specs.Whole.{wholeNet}
 use Rattle.sheets.specs.Decoded.{netOf}
 use Rattle.bare.specs.Strip.{stripRefusal}
-use Rattle.strip.specs.Stripped.{strippedSheet, roomRefusal, strippingRefusal, stripped, told, output, strippedOf, outputOf}
-use Rattle.strip.specs.Promises.{StripReads}
-use Rattle.strip.proofs.Promises.{stripped-reads}
+use Rattle.convert.specs.strip.Stripped.{strippedSheet, roomRefusal, strippingRefusal, stripped, told, output, strippedOf, outputOf}
+use Rattle.convert.specs.strip.Promises.{StripReads}
+use Rattle.convert.proofs.strip.Promises.{stripped-reads}
 use Rattle.promises.proofs.Accepting.{yielded}
 
 module _ (net : List ℕ) (p : Pair) (out : List ℕ) (n : ℕ) (e : told (strippedOf net p out) ≡ yields n) where

@@ -16,43 +16,43 @@ use Rattle.model.specs.declared.Answer.{Answer}
 use Rattle.model.specs.declared.Thing.the-variants.{Movements, Argument}
 use Rattle.model.specs.Numbers.{ℕ∞, fin, ∞}
 use Rattle.model.specs.Nets.{PNet, total, pairs, modes, K, count}
-use Rattle.model.specs.Complement.{finite}
+use Rattle.second_form.specs.Complement.{finite}
 use Rattle.model.specs.Refusals.{answer, number}
 use Rattle.model.specs.Markings.{markingRefusal}
 use Rattle.model.specs.WellFormed.{WellFormed}
 use Rattle.model.specs.Firing.{absent, modeRefusal, fired}
-use Rattle.model.specs.Runs.{run}
-use Rattle.model.specs.Dead.{found, isDead}
+use Rattle.movement.specs.Runs.{run}
+use Rattle.second_form.specs.Dead.{found, isDead}
 use Rattle.model.proofs.First.{left-none, right-none, none-then, only-if-none}
 use Rattle.model.proofs.Firing.{mode-there}
-use Rattle.model.proofs.Markings.{marking-test}
+use Rattle.movement.proofs.Markings.{marking-test}
 use Rattle.heads.specs.Version.{versionOf}
-use Rattle.nets.specs.Nets.{netRefusal}
+use Rattle.sheets.specs.nets.Nets.{netRefusal}
 use Rattle.lists.specs.Weights.{weightsRefusal}
 use Rattle.sheets.specs.Whole.{wholeNet, rest}
 use Rattle.sheets.specs.Decoded.{netOf, movementsOf, weightsOf}
 use Rattle.sheets.proofs.Accepted.{well-formed}
-use Rattle.written.specs.Written.{sheetOf}
-use Rattle.written.specs.Promises.{HasSheet}
+use Rattle.sheets.specs.written.Written.{sheetOf}
+use Rattle.sheets.specs.written.Promises.{HasSheet}
 use Rattle.fire.specs.Calls.{beginRefusal, testRefusal}
 use Rattle.fire.specs.Contracts.{FireAllows}
 use Rattle.run.specs.Calls.{beforeRun, runOf, visitedBy, certifyRefusal}
-use Rattle.step.specs.Calls.{stepModes, testStepRefusal}
-use Rattle.weigh.specs.Calls.{figureRefusal, changeRefusal}
+use Rattle.fire.specs.step.Calls.{stepModes, testStepRefusal}
+use Rattle.statement.specs.weigh.Calls.{figureRefusal, changeRefusal}
 use Rattle.damaged.specs.Damaged.{modesIn}
-use Rattle.salvage.specs.Salvaged.{trial}
+use Rattle.run.specs.salvage.Salvaged.{trial}
 use Rattle.ships.specs.declared.Fleet.{Fleet}
 use Rattle.ships.specs.Ships.{gained, lost, addedBy, removedBy, ship, voyageOf}
 use Rattle.ships.specs.Entered.{figureRefusal as shipFigures, shipRefusal, entered}
-use Rattle.dead.specs.IsDead.{deadRefusal}
+use Rattle.opened.specs.dead.IsDead.{deadRefusal}
 use Rattle.statement.specs.Replay.{linesFrom, runText, movementsText, weightsText, replayText, stated, statedIn}
 use Rattle.bare.specs.Strip.{newMode, strip, boundOf, stripRefusal}
 use Rattle.bare.specs.Promises.{Old, OldModesStay, StripsBare}
 use Rattle.bare.proofs.Arcs.{modes-many}
 use Rattle.bare.proofs.OldModes.{each-old, old-modes, no-new-dead}
 use Rattle.bare.proofs.Bare.{bare-after}
-use Rattle.strip.specs.Stripped.{strippedSheet, told as answered}
-use Rattle.strip.proofs.Promises.{has-sheet}
+use Rattle.convert.specs.strip.Stripped.{strippedSheet, told as answered}
+use Rattle.convert.proofs.strip.Promises.{has-sheet}
 use Rattle.promises.specs.EqualNets.{Bytes}
 use Rattle.promises.specs.Stripping.{BareCalls, OldCalls, Stripping}
 use Rattle.promises.proofs.Accepting.{number-none}

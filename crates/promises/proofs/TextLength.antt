@@ -19,25 +19,25 @@ use Rattle.model.specs.Nets.{PNet, pairs, modeNo}
 use Rattle.model.specs.Markings.{Marking}
 use Rattle.model.specs.WellFormed.{WellFormed}
 use Rattle.model.specs.Firing.{modeRefusal, fired}
-use Rattle.model.specs.Figures.{figure}
-use Rattle.model.proofs.Each.{Each, at-each}
+use Rattle.movement.specs.Figures.{figure}
+use Rattle.movement.proofs.Each.{Each, at-each}
 use Rattle.model.proofs.Tables.{table-length, table-at}
 use Rattle.model.proofs.First.{left-none}
 use Rattle.model.proofs.Firing.{accepted-there}
-use Rattle.model.proofs.Markings.{marking-kept}
+use Rattle.movement.proofs.Markings.{marking-kept}
 use Rattle.heads.specs.Bytes.{byteAt, u16At}
 use Rattle.heads.specs.Layout.{sheetEnd, movementAt, movementCount}
-use Rattle.nets.specs.Nets.{netRefusal}
+use Rattle.sheets.specs.nets.Nets.{netRefusal}
 use Rattle.lists.specs.Weights.{weightsRefusal}
 use Rattle.sheets.specs.Whole.{wholeMovements, rest}
 use Rattle.sheets.specs.Decoded.{netOf, weightsOf, movementsOf}
-use Rattle.sheets.proofs.Lists.{movements-within}
+use Rattle.sheets.proofs.Listed.{movements-within}
 use Rattle.opened.specs.Shape.{Open, shapeOf}
 use Rattle.opened.proofs.Shapes.{sizes}
-use Rattle.written.proofs.BigEndian.{every-byte}
+use Rattle.sheets.proofs.written.BigEndian.{every-byte}
 use Rattle.text.proofs.Decimals.{length-at-most, signed-length}
-use Rattle.lines.specs.Lines as lines
-use Rattle.lines.proofs.LineSizes.{accepted-size}
+use Rattle.statement.specs.lines.Lines as lines
+use Rattle.statement.proofs.lines.LineSizes.{accepted-size}
 use Rattle.statement.specs.Replay.{unlessRefused, linesFrom, runText, movementsText, weightsText, sheetsText, replayText}
 use Rattle.statement.proofs.Weighed.{figure-size}
 use Rattle.promises.specs.EqualNets.{Bytes}

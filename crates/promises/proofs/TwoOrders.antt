@@ -7,11 +7,11 @@ use lib.ListN.{length}
 use Rattle.model.specs.declared.Refusal.{Refusal}
 use Rattle.model.specs.First.{_▸_}
 use Rattle.model.specs.Markings.{markingRefusal, Marking}
-use Rattle.model.specs.Orders.{EndAlike}
+use Rattle.both_forms.specs.Orders.{EndAlike}
 use Rattle.model.proofs.First.{right-none, none-then, then-under}
-use Rattle.model.proofs.Markings.{marking-test}
-use Rattle.model.proofs.Orders.{orders, interleavings}
-use Rattle.model.proofs.ApartInBoth.{orders-in-both}
+use Rattle.movement.proofs.Markings.{marking-test}
+use Rattle.both_forms.proofs.Orders.{orders, interleavings}
+use Rattle.both_forms.proofs.ApartInBoth.{orders-in-both}
 use Rattle.sheets.specs.Whole.{wholeNet, wholeMovements}
 use Rattle.sheets.specs.Decoded.{netOf, movementsOf}
 use Rattle.run.specs.Calls.{beforeRun, runOf}

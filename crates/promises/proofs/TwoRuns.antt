@@ -7,15 +7,15 @@ use lib.ListN.{length}
 use Rattle.model.specs.declared.Refusal.{Refusal}
 use Rattle.model.specs.Nets.{PNet}
 use Rattle.model.specs.Replies.{yields}
-use Rattle.model.specs.Runs.{Outcome, goOn, run}
+use Rattle.movement.specs.Runs.{Outcome, goOn, run}
 use Rattle.model.specs.Markings.{markingRefusal}
-use Rattle.model.specs.Complement.{complement, refusal15, complementRefusal, Corresponds}
-use Rattle.model.specs.DemandThree.{Complementable}
+use Rattle.second_form.specs.Complement.{complement, refusal15, complementRefusal, Corresponds}
+use Rattle.second_form.specs.DemandThree.{Complementable}
 use Rattle.model.proofs.First.{left-none, none-then, then-none}
-use Rattle.model.proofs.Markings.{marking-test}
-use Rattle.model.proofs.ComplementNet.{start-corresponds}
-use Rattle.model.proofs.ComplementWellFormed.{corresponds-marking}
-use Rattle.model.proofs.Demand3.{runs-alike, refusals}
+use Rattle.movement.proofs.Markings.{marking-test}
+use Rattle.second_form.proofs.ComplementNet.{start-corresponds}
+use Rattle.second_form.proofs.ComplementWellFormed.{corresponds-marking}
+use Rattle.second_form.proofs.Demand3.{runs-alike, refusals}
 use Rattle.sheets.specs.Whole.{wholeNet, wholeMovements}
 use Rattle.sheets.specs.Decoded.{netOf, movementsOf}
 use Rattle.fire.specs.Calls.{beginRefusal, begun}

@@ -6,13 +6,13 @@ use mathlib.Core.Option.{none}
 use lib.ListN.{length}
 use Rattle.model.specs.Nets.{PNet}
 use Rattle.model.specs.Markings.{markingRefusal}
-use Rattle.model.specs.Complement.{complement}
-use Rattle.model.specs.Steps.{stepRefusal, firedTogether}
+use Rattle.second_form.specs.Complement.{complement}
+use Rattle.both_forms.specs.Steps.{stepRefusal, firedTogether}
 use Rattle.model.proofs.First.{none-then}
-use Rattle.model.proofs.CorrespondingSteps.{steps-back, steps-forth}
+use Rattle.both_forms.proofs.CorrespondingSteps.{steps-back, steps-forth}
 use Rattle.sheets.specs.Whole.{wholeNet}
 use Rattle.sheets.specs.Decoded.{netOf}
-use Rattle.step.specs.Calls.{stepModes, testStepRefusal, steppedBy}
+use Rattle.fire.specs.step.Calls.{stepModes, testStepRefusal, steppedBy}
 use Rattle.complement.specs.Complemented.{complementingRefusal}
 use Rattle.promises.specs.DemandThree.{asWritten}
 use Rattle.promises.specs.TwoSteps.{TwoSteps}

@@ -10,7 +10,7 @@ use Rattle.model.specs.declared.Thing.the-variants.{Argument}
 use Rattle.model.specs.Refusals.{number}
 use Rattle.model.specs.Nets.{PNet, pairs, count, row}
 use Rattle.model.specs.Firing.{modeRefusal, fired}
-use Rattle.model.proofs.Markings.{marking-after}
+use Rattle.movement.proofs.Markings.{marking-after}
 use Rattle.sheets.specs.Decoded.{netOf}
 use Rattle.fire.proofs.Promises.{mode-accepted}
 use Rattle.fire.specs.Calls.{testRefusal, firedBy}

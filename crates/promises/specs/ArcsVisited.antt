@@ -6,7 +6,7 @@ use mathlib.Core.List.{List}
 use mathlib.Core.Logic.{_≢_}
 use mathlib.Core.Option.{none}
 use lib.ListN.{length}
-use Rattle.model.specs.Visits.{tried, visited, mostArcs}
+use Rattle.both_forms.specs.Visits.{tried, visited, mostArcs}
 use Rattle.sheets.specs.Decoded.{netOf, movementsOf}
 use Rattle.run.specs.declared.Ran.{Ran}
 use Rattle.run.specs.Calls.{beforeRun}

@@ -10,13 +10,13 @@ use Rattle.model.specs.First.{lowest}
 use Rattle.model.specs.Replies.{yields}
 use Rattle.model.specs.Nets.{pairs, pairNo}
 use Rattle.model.specs.Markings.{markingRefusal}
-use Rattle.model.specs.Complement.{Corresponds}
-use Rattle.model.specs.Audit.{marked, takes}
+use Rattle.second_form.specs.Complement.{Corresponds}
+use Rattle.both_forms.specs.Audit.{marked, takes}
 use Rattle.sheets.specs.Decoded.{netOf}
 use Rattle.fire.specs.Calls.{testRefusal, firedBy}
 use Rattle.run.specs.Calls.{runOf}
 use Rattle.complement.specs.Complemented as complementing
-use Rattle.audit.specs.Audits.{told, auditedOf}
+use Rattle.complement.specs.audit.Audits.{told, auditedOf}
 use Rattle.promises.specs.DemandThree.{asWritten}
 
 module _ (net complement marking marking′ : List ℕ) where

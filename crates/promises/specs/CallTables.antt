@@ -17,32 +17,32 @@ use Rattle.model.specs.RefusalTables.{Table, row, _then_, each, Reads, oneEachT
 use Rattle.model.specs.Numbers.{ℕ∞, fin, ∞, Above, aboveBy, leastOfAll, limit}
 use Rattle.model.specs.Nets.{NetArc, PNet, total, pairs, modes, modeNo, K, count, arcNo, row as modeRow}
 use Rattle.model.specs.Firing.{roomFor, fired}
-use Rattle.model.specs.Complement.{complement}
-use Rattle.model.specs.Figures.{figure, change}
+use Rattle.second_form.specs.Complement.{complement}
+use Rattle.movement.specs.Figures.{figure, change}
 use Rattle.heads.specs.Layout.{bodyLength, sheetEnd, version}
 use Rattle.sheets.specs.Whole.{wholeNet, wholeWeights, wholeMovements}
 use Rattle.sheets.specs.Decoded.{netOf, weightsOf, movementsOf}
 use Rattle.sheets.specs.RefusalTables.{headTable, netTable, weightTable, movementTable, SheetTables}
 use Rattle.opened.specs.Shape.{arcOffset, inhibitorOffset}
-use Rattle.written.specs.Written.{versionNumber}
+use Rattle.sheets.specs.written.Written.{versionNumber}
 use Rattle.fire.specs.Calls.{beginRefusal, testRefusal}
 use Rattle.run.specs.Calls.{beforeRun, runOf, certifyRefusal}
-use Rattle.step.specs.Calls.{stepModes, testStepRefusal}
-use Rattle.weigh.specs.Calls.{figureRefusal, changeRefusal}
+use Rattle.fire.specs.step.Calls.{stepModes, testStepRefusal}
+use Rattle.statement.specs.weigh.Calls.{figureRefusal, changeRefusal}
 use Rattle.ships.specs.declared.Fleet.{Fleet}
 use Rattle.ships.specs.Ships.{Ship, shipAdded, shipRemoved}
 use Rattle.ships.specs.Entered.{Past, InBounds, shipRefusal}
-use Rattle.exclude.specs.Calls.{excludeRefusal}
-use Rattle.dead.specs.IsDead.{deadRefusal}
+use Rattle.statement.specs.exclude.Calls.{excludeRefusal}
+use Rattle.opened.specs.dead.IsDead.{deadRefusal}
 use Rattle.complement.specs.Complemented.{complementSheet, complementingRefusal}
 use Rattle.convert.specs.Converted.{convertedSheet, convertRefusal}
 use Rattle.bare.specs.Strip.{boundOf}
-use Rattle.strip.specs.Stripped.{strippedNet, strippedSheet, strippingRefusal}
+use Rattle.convert.specs.strip.Stripped.{strippedNet, strippedSheet, strippingRefusal}
 use Rattle.export.specs.Exports.{capacityOffset, exportText, exportRefusal}
 use Rattle.import.specs.RefusalTable.{ImportTable}
-use Rattle.audit.specs.Audits.{auditingRefusal}
+use Rattle.complement.specs.audit.Audits.{auditingRefusal}
 use Rattle.damaged.specs.Damaged.{modesIn}
-use Rattle.salvage.specs.Salvaged.{freshSheet, trial, salvageRefusal}
+use Rattle.run.specs.salvage.Salvaged.{freshSheet, trial, salvageRefusal}
 
 -- "A call that takes one sheet as an argument refuses left-over bytes by 3.": the sheet's own table, then the first byte after it
 abbrev pub bytesLeft : ℕ → List ℕ → Table

@@ -5,11 +5,11 @@ use mathlib.Core.List.{List}
 use Rattle.model.specs.declared.Mode.{Mode}
 use Rattle.model.specs.Refusals.{amount}
 use Rattle.fire.specs.Contracts.{TestAllows, FireAllows}
-use Rattle.step.specs.Contracts.{TestStepAllows, FireStepAllows}
+use Rattle.fire.specs.step.Contracts.{TestStepAllows, FireStepAllows}
 use Rattle.run.specs.Contracts.{RunAllows, CertifyAllows}
-use Rattle.salvage.specs.declared.Salvaged.{Salvaged}
-use Rattle.salvage.specs.declared.Salvaged.the-variants.{Written, Refused}
-use Rattle.salvage.specs.Contracts.{SalvageAllows}
+use Rattle.run.specs.declared.salvage.Salvaged.{Salvaged}
+use Rattle.run.specs.declared.salvage.Salvaged.the-variants.{Written, Refused}
+use Rattle.run.specs.salvage.Contracts.{SalvageAllows}
 use Rattle.abi.specs.Contracts as c
 use Rattle.promises.specs.ConstantAnswers.{NotConstant}
 

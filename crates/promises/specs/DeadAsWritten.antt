@@ -8,13 +8,13 @@ use Rattle.model.specs.declared.Mode.{Mode}
 use Rattle.model.specs.Refusals.{answer, number}
 use Rattle.model.specs.Replies.{yields}
 use Rattle.model.specs.Markings.{markingRefusal}
-use Rattle.model.specs.Complement.{Corresponds}
+use Rattle.second_form.specs.Complement.{Corresponds}
 use Rattle.sheets.specs.Decoded.{netOf}
 use Rattle.fire.specs.Calls.{testRefusal}
-use Rattle.dead.specs.IsDead.{deadnessOf}
-use Rattle.dead.specs.IsDead as one
-use Rattle.dead.specs.FirstDead.{firstDeadOf}
-use Rattle.dead.specs.FirstDead as first
+use Rattle.opened.specs.dead.IsDead.{deadnessOf}
+use Rattle.opened.specs.dead.IsDead as one
+use Rattle.opened.specs.dead.FirstDead.{firstDeadOf}
+use Rattle.opened.specs.dead.FirstDead as first
 use Rattle.complement.specs.Complemented.{told, complementOf}
 use Rattle.promises.specs.DemandThree.{asWritten}
 

@@ -9,32 +9,32 @@ use Rattle.model.specs.declared.Pair.{Pair}
 use Rattle.model.specs.declared.Mode.{Mode}
 use Rattle.model.specs.declared.Answer.{Answer}
 use Rattle.model.specs.Refusals.{number}
-use Rattle.model.specs.Promises.{Leads}
+use Rattle.movement.specs.Promises.{Leads}
 use Rattle.sheets.specs.Decoded.{netOf, movementsOf}
 use Rattle.fire.specs.Contracts.{BeginAllows, FireAllows}
 use Rattle.run.specs.declared.Ran.{Ran}
 use Rattle.run.specs.Contracts.{RunAllows}
-use Rattle.step.specs.Contracts.{FireStepAllows}
+use Rattle.fire.specs.step.Contracts.{FireStepAllows}
 use Rattle.ships.specs.declared.Fleet.{Fleet}
-use Rattle.fleet.specs.Contracts.{AddShipAllows}
+use Rattle.statement.specs.fleet.Contracts.{AddShipAllows}
 use Rattle.complement.specs.declared.Complemented.{Complemented}
 use Rattle.complement.specs.Complemented.{told}
 use Rattle.complement.specs.Contracts.{ComplementAllows}
 use Rattle.convert.specs.declared.Converted.{Converted}
 use Rattle.convert.specs.Converted as converting
 use Rattle.convert.specs.Contracts.{ToVersion1Allows, ToVersion2Allows}
-use Rattle.strip.specs.declared.Stripped.{Stripped}
-use Rattle.strip.specs.Stripped as stripping
-use Rattle.strip.specs.Contracts.{StripAllows}
+use Rattle.convert.specs.declared.strip.Stripped.{Stripped}
+use Rattle.convert.specs.strip.Stripped as stripping
+use Rattle.convert.specs.strip.Contracts.{StripAllows}
 use Rattle.export.specs.declared.Exported.{Exported}
 use Rattle.export.specs.Exports as exporting
 use Rattle.export.specs.Contracts.{ExportPnmlAllows}
 use Rattle.import.specs.declared.Imported.{Imported}
 use Rattle.import.specs.Imports as importing
 use Rattle.import.specs.Contracts.{ImportPnmlAllows}
-use Rattle.salvage.specs.declared.Salvaged.{Salvaged}
-use Rattle.salvage.specs.Salvaged as salvaging
-use Rattle.salvage.specs.Contracts.{SalvageAllows}
+use Rattle.run.specs.declared.salvage.Salvaged.{Salvaged}
+use Rattle.run.specs.salvage.Salvaged as salvaging
+use Rattle.run.specs.salvage.Contracts.{SalvageAllows}
 use Rattle.text.specs.declared.Put.{Put}
 use Rattle.text.specs.declared.Put.the-variants.{Full}
 use Rattle.text.specs.Contracts.{PutBytesAllows}

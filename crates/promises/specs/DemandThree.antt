@@ -8,8 +8,8 @@ use mathlib.Core.Option.{none}
 use lib.ListN.{length, take, drop}
 use Rattle.model.specs.declared.Mode.{Mode}
 use Rattle.model.specs.Replies.{yields}
-use Rattle.model.specs.Complement.{complement}
-use Rattle.model.specs.DemandThree.{Agreement}
+use Rattle.second_form.specs.Complement.{complement}
+use Rattle.second_form.specs.DemandThree.{Agreement}
 use Rattle.heads.specs.Version.{versionOf}
 use Rattle.sheets.specs.Whole.{wholeNet}
 use Rattle.sheets.specs.Decoded.{netOf}

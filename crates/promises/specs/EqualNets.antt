@@ -11,32 +11,32 @@ use Rattle.model.specs.declared.Mode.{Mode}
 use Rattle.model.specs.Refusals.{Carried}
 use Rattle.model.specs.Replies.{Reply, yields}
 use Rattle.heads.specs.Bytes.{byteAt}
-use Rattle.nets.specs.Contracts.{ReadNetAllows}
+use Rattle.sheets.specs.nets.Contracts.{ReadNetAllows}
 use Rattle.sheets.specs.Whole.{wholeNet}
 use Rattle.sheets.specs.Decoded.{netOf}
 use Rattle.sheets.specs.Contracts.{AfterNetAllows, WholeNetAllows}
 use Rattle.fire.specs.Contracts.{BeginAllows, TestAllows, FireAllows}
 use Rattle.run.specs.Contracts.{RunAllows, CertifyAllows}
-use Rattle.step.specs.Contracts.{TestStepAllows, FireStepAllows}
-use Rattle.weigh.specs.Contracts.{FigureAllows, ChangeAllows}
+use Rattle.fire.specs.step.Contracts.{TestStepAllows, FireStepAllows}
+use Rattle.statement.specs.weigh.Contracts.{FigureAllows, ChangeAllows}
 use Rattle.ships.specs.declared.Fleet.{Fleet}
-use Rattle.fleet.specs.Contracts.{AddShipAllows}
-use Rattle.exclude.specs.Contracts.{ExcludeAllows}
-use Rattle.dead.specs.Contracts.{IsDeadAllows, FirstDeadAllows}
-use Rattle.size.specs.Contracts.{SizeAllows}
+use Rattle.statement.specs.fleet.Contracts.{AddShipAllows}
+use Rattle.statement.specs.exclude.Contracts.{ExcludeAllows}
+use Rattle.opened.specs.dead.Contracts.{IsDeadAllows, FirstDeadAllows}
+use Rattle.opened.specs.size.Contracts.{SizeAllows}
 use Rattle.complement.specs.declared.Complemented.{Complemented}
 use Rattle.complement.specs.Complemented as complementing
 use Rattle.complement.specs.Contracts.{ComplementAllows}
-use Rattle.strip.specs.declared.Stripped.{Stripped}
-use Rattle.strip.specs.Stripped as stripping
-use Rattle.strip.specs.Contracts.{StripAllows}
+use Rattle.convert.specs.declared.strip.Stripped.{Stripped}
+use Rattle.convert.specs.strip.Stripped as stripping
+use Rattle.convert.specs.strip.Contracts.{StripAllows}
 use Rattle.export.specs.declared.Exported.{Exported}
 use Rattle.export.specs.Exports as exporting
 use Rattle.export.specs.Contracts.{ExportPnmlAllows}
-use Rattle.audit.specs.declared.Found.{Found}
-use Rattle.audit.specs.Audits as auditing
-use Rattle.audit.specs.Contracts.{AuditAllows}
-use Rattle.salvage.specs.Contracts.{SalvageAllows}
+use Rattle.complement.specs.declared.audit.Found.{Found}
+use Rattle.complement.specs.audit.Audits as auditing
+use Rattle.complement.specs.audit.Contracts.{AuditAllows}
+use Rattle.run.specs.salvage.Contracts.{SalvageAllows}
 use Rattle.statement.specs.Contracts.{StatementAllows}
 
 -- two net sheets that are accepted and mean one net

@@ -9,7 +9,7 @@ use Rattle.model.specs.declared.Version.the-variants.{One}
 use Rattle.model.specs.Refusals.{carries}
 use Rattle.model.specs.Replies.{yields}
 use Rattle.model.specs.Nets.{PNet, pairs, modes}
-use Rattle.model.specs.Complement.{complement}
+use Rattle.second_form.specs.Complement.{complement}
 use Rattle.heads.specs.Version.{versionOf}
 use Rattle.sheets.specs.Whole.{wholeNet}
 use Rattle.sheets.specs.Decoded.{netOf}

@@ -5,12 +5,12 @@ use mathlib.Core.List.{List}
 use mathlib.Core.Logic.{_≢_}
 use mathlib.Core.Option.{none}
 use Rattle.model.specs.declared.Mode.{Mode}
-use Rattle.model.specs.Promises.{Leads}
-use Rattle.model.specs.Exclusion.{Balanced}
+use Rattle.movement.specs.Promises.{Leads}
+use Rattle.movement.specs.Exclusion.{Balanced}
 use Rattle.sheets.specs.Decoded.{netOf, weightsOf}
 use Rattle.run.specs.Calls.{certifyRefusal}
-use Rattle.weigh.specs.Calls.{figureRefusal, figureOf}
-use Rattle.exclude.specs.Calls.{excludeRefusal}
+use Rattle.statement.specs.weigh.Calls.{figureRefusal, figureOf}
+use Rattle.statement.specs.exclude.Calls.{excludeRefusal}
 
 -- "no list of movements leads to an accepted claim": a list of any length, from the first marking
 abbrev pub NoListLeads : Type 0

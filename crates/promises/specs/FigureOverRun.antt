@@ -7,12 +7,12 @@ use lib.IntN.{ℤ, _+ℤ_}
 use lib.ListN.{getD}
 use Rattle.model.specs.declared.Mode.{Mode}
 use Rattle.model.specs.Nets.{modeNo}
-use Rattle.model.specs.Runs.{Outcome}
-use Rattle.model.specs.Figures.{sum}
+use Rattle.movement.specs.Runs.{Outcome}
+use Rattle.movement.specs.Figures.{sum}
 use Rattle.model.specs.Replies.{yields}
 use Rattle.sheets.specs.Decoded.{movementsOf}
 use Rattle.run.specs.Calls.{runOf}
-use Rattle.weigh.specs.Calls.{told, figureRefusal, figureOf, changeOf}
+use Rattle.statement.specs.weigh.Calls.{told, figureRefusal, figureOf, changeOf}
 
 module _ (net weights movements marking : List ℕ) where
   abbrev ran : Outcome

@@ -15,33 +15,33 @@ use Rattle.model.specs.Replies.{yields}
 use Rattle.model.specs.Numbers.{fin}
 use Rattle.model.specs.Nets.{PNet, total, pairs, modeNo, K, row}
 use Rattle.model.specs.Firing.{modeRefusal, fired}
-use Rattle.model.specs.Steps.{together}
-use Rattle.model.specs.Complement.{Corresponds}
-use Rattle.model.specs.Audit.{OutOfStep}
-use Rattle.model.specs.Promises.{Leads}
-use Rattle.model.specs.Visits.{modeArcs}
-use Rattle.model.specs.Figures.{change}
+use Rattle.both_forms.specs.Steps.{together}
+use Rattle.second_form.specs.Complement.{Corresponds}
+use Rattle.both_forms.specs.Audit.{OutOfStep}
+use Rattle.movement.specs.Promises.{Leads}
+use Rattle.both_forms.specs.Visits.{modeArcs}
+use Rattle.movement.specs.Figures.{change}
 use Rattle.sheets.specs.Decoded.{netOf, weightsOf, movementsOf}
 use Rattle.fire.specs.Contracts.{FireAllows}
 use Rattle.run.specs.declared.Ran.{Ran}
 use Rattle.run.specs.Calls.{beforeRun, runOf}
 use Rattle.run.specs.Contracts.{RunAllows, CertifyAllows}
-use Rattle.step.specs.Calls.{stepModes}
-use Rattle.step.specs.Contracts.{FireStepAllows}
+use Rattle.fire.specs.step.Calls.{stepModes}
+use Rattle.fire.specs.step.Contracts.{FireStepAllows}
 use Rattle.ships.specs.declared.Fleet.{Fleet}
 use Rattle.ships.specs.Ships.{Ship, accepted}
-use Rattle.fleet.specs.Contracts.{AddShipAllows}
-use Rattle.exclude.specs.Promises.{Excluded}
-use Rattle.exclude.specs.Contracts.{ExcludeAllows}
+use Rattle.statement.specs.fleet.Contracts.{AddShipAllows}
+use Rattle.statement.specs.exclude.Promises.{Excluded}
+use Rattle.statement.specs.exclude.Contracts.{ExcludeAllows}
 use Rattle.complement.specs.declared.Complemented.{Complemented}
 use Rattle.complement.specs.Complemented.{told}
 use Rattle.complement.specs.Contracts.{ComplementAllows}
 use Rattle.convert.specs.declared.Converted.{Converted}
 use Rattle.convert.specs.Converted as converting
 use Rattle.convert.specs.Contracts.{ToVersion1Allows, ToVersion2Allows}
-use Rattle.strip.specs.declared.Stripped.{Stripped}
-use Rattle.strip.specs.Stripped as stripping
-use Rattle.strip.specs.Contracts.{StripAllows}
+use Rattle.convert.specs.declared.strip.Stripped.{Stripped}
+use Rattle.convert.specs.strip.Stripped as stripping
+use Rattle.convert.specs.strip.Contracts.{StripAllows}
 use Rattle.pnml.specs.Pnml.{opening, closing}
 use Rattle.export.specs.declared.Exported.{Exported}
 use Rattle.export.specs.Exports as exporting
@@ -49,16 +49,16 @@ use Rattle.export.specs.Contracts.{ExportPnmlAllows}
 use Rattle.import.specs.declared.Imported.{Imported}
 use Rattle.import.specs.Imports as importing
 use Rattle.import.specs.Contracts.{ImportPnmlAllows}
-use Rattle.audit.specs.declared.Found.{Found}
-use Rattle.audit.specs.declared.Found.the-variants.{Nothing}
-use Rattle.audit.specs.Audits as audits
-use Rattle.audit.specs.Contracts.{AuditAllows}
+use Rattle.complement.specs.declared.audit.Found.{Found}
+use Rattle.complement.specs.declared.audit.Found.the-variants.{Nothing}
+use Rattle.complement.specs.audit.Audits as audits
+use Rattle.complement.specs.audit.Contracts.{AuditAllows}
 use Rattle.damaged.specs.Damaged.{considered, modesIn}
-use Rattle.salvage.specs.declared.Report.{Report}
-use Rattle.salvage.specs.declared.Salvaged.{Salvaged}
-use Rattle.salvage.specs.declared.Salvaged.the-variants.{Written}
-use Rattle.salvage.specs.Salvaged.{trial}
-use Rattle.salvage.specs.Contracts.{SalvageAllows}
+use Rattle.run.specs.declared.salvage.Report.{Report}
+use Rattle.run.specs.declared.salvage.Salvaged.{Salvaged}
+use Rattle.run.specs.declared.salvage.Salvaged.the-variants.{Written}
+use Rattle.run.specs.salvage.Salvaged.{trial}
+use Rattle.run.specs.salvage.Contracts.{SalvageAllows}
 use Rattle.abi.specs.Contracts as c
 use Rattle.promises.specs.ConstantAnswers.{NotConstant, ConstantAnswers}
 use Rattle.promises.specs.ConstantAnswersForC.{ConstantAnswersForC}

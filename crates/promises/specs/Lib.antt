@@ -25,3 +25,4 @@ pub mod ConstantAnswersForC
 pub mod ConstantAmounts
 pub mod Frauds
 pub mod CallTables
+pub mod together

@@ -6,10 +6,10 @@ use mathlib.Core.List.{List}
 use mathlib.Core.Logic.{_↔_}
 use mathlib.Core.Option.{none, some}
 use Rattle.model.specs.declared.Mode.{Mode}
-use Rattle.model.specs.Dead.{lowestMarking}
+use Rattle.second_form.specs.Dead.{lowestMarking}
 use Rattle.sheets.specs.Decoded.{netOf}
 use Rattle.fire.specs.Calls.{testRefusal}
-use Rattle.dead.specs.IsDead.{told, deadnessOf}
+use Rattle.opened.specs.dead.IsDead.{told, deadnessOf}
 
 module _ (net : List ℕ) (t : Mode) where
   abbrev SaysNo : Type 0

@@ -11,27 +11,27 @@ use Rattle.model.specs.declared.Version.the-variants.{One}
 use Rattle.model.specs.Refusals.{number, carriesBy, carried, carries}
 use Rattle.model.specs.Replies.{yields}
 use Rattle.model.specs.Nets.{PNet, pairNo, modeNo}
-use Rattle.model.specs.WorkedExamples.{ownExample}
-use Rattle.written.specs.Written.{sheetOf}
+use Rattle.both_forms.specs.WorkedExamples.{ownExample}
+use Rattle.sheets.specs.written.Written.{sheetOf}
 use Rattle.fire.specs.Contracts.{BeginAllows, TestAllows, FireAllows}
 use Rattle.run.specs.declared.Ran.{Ran}
 use Rattle.run.specs.Contracts.{RunAllows, CertifyAllows}
-use Rattle.step.specs.Contracts.{TestStepAllows, FireStepAllows}
-use Rattle.weigh.specs.declared.Figured.{Figured}
-use Rattle.weigh.specs.Calls as weigh
-use Rattle.weigh.specs.Contracts.{FigureAllows, ChangeAllows}
+use Rattle.fire.specs.step.Contracts.{TestStepAllows, FireStepAllows}
+use Rattle.statement.specs.declared.weigh.Figured.{Figured}
+use Rattle.statement.specs.weigh.Calls as weigh
+use Rattle.statement.specs.weigh.Contracts.{FigureAllows, ChangeAllows}
 use Rattle.ships.specs.declared.Fleet.{Fleet}
 use Rattle.ships.specs.Promises.{zeros}
-use Rattle.fleet.specs.Contracts.{AddShipAllows}
-use Rattle.exclude.specs.Contracts.{ExcludeAllows}
-use Rattle.dead.specs.declared.Deadness.{Deadness}
-use Rattle.dead.specs.declared.FirstDead.{FirstDead}
-use Rattle.dead.specs.IsDead as one
-use Rattle.dead.specs.FirstDead as first
-use Rattle.dead.specs.Contracts.{IsDeadAllows, FirstDeadAllows}
-use Rattle.size.specs.declared.Measured.{Measured}
-use Rattle.size.specs.Sizes as sizing
-use Rattle.size.specs.Contracts.{SizeAllows}
+use Rattle.statement.specs.fleet.Contracts.{AddShipAllows}
+use Rattle.statement.specs.exclude.Contracts.{ExcludeAllows}
+use Rattle.opened.specs.declared.dead.Deadness.{Deadness}
+use Rattle.opened.specs.declared.dead.FirstDead.{FirstDead}
+use Rattle.opened.specs.dead.IsDead as one
+use Rattle.opened.specs.dead.FirstDead as first
+use Rattle.opened.specs.dead.Contracts.{IsDeadAllows, FirstDeadAllows}
+use Rattle.opened.specs.declared.size.Measured.{Measured}
+use Rattle.opened.specs.size.Sizes as sizing
+use Rattle.opened.specs.size.Contracts.{SizeAllows}
 use Rattle.complement.specs.declared.Complemented.{Complemented}
 use Rattle.complement.specs.Complemented as complementing
 use Rattle.complement.specs.Contracts.{ComplementAllows}
@@ -42,13 +42,13 @@ use Rattle.export.specs.Contracts.{ExportPnmlAllows}
 use Rattle.import.specs.declared.Imported.{Imported}
 use Rattle.import.specs.Imports as importing
 use Rattle.import.specs.Contracts.{ImportPnmlAllows}
-use Rattle.audit.specs.declared.Found.{Found}
-use Rattle.audit.specs.Audits as auditing
-use Rattle.audit.specs.Contracts.{AuditAllows}
-use Rattle.salvage.specs.declared.Report.{Report}
-use Rattle.salvage.specs.declared.Salvaged.{Salvaged}
-use Rattle.salvage.specs.Salvaged as salvaging
-use Rattle.salvage.specs.Contracts.{SalvageAllows}
+use Rattle.complement.specs.declared.audit.Found.{Found}
+use Rattle.complement.specs.audit.Audits as auditing
+use Rattle.complement.specs.audit.Contracts.{AuditAllows}
+use Rattle.run.specs.declared.salvage.Report.{Report}
+use Rattle.run.specs.declared.salvage.Salvaged.{Salvaged}
+use Rattle.run.specs.salvage.Salvaged as salvaging
+use Rattle.run.specs.salvage.Contracts.{SalvageAllows}
 use Rattle.statement.specs.Example.{weights, movements}
 use Rattle.text.specs.Ascii.{ascii}
 

@@ -10,7 +10,7 @@ use Rattle.heads.specs.Version.{versionOf}
 use Rattle.sheets.specs.Whole.{wholeNet}
 use Rattle.sheets.specs.Decoded.{netOf}
 use Rattle.opened.specs.Shape.{arcOffset, inhibitorOffset}
-use Rattle.written.specs.Written.{bytes32, boundNumber, arcBytes}
+use Rattle.sheets.specs.written.Written.{bytes32, boundNumber, arcBytes}
 use Rattle.export.specs.Exports.{capacityOffset}
 use Rattle.promises.specs.EqualNets.{Bytes}
 

@@ -1,30 +1,33 @@
 -- All that is promised, in one record: open this file first. A field is a statement, of the file that its `use` line names; its term is in proofs/.
 use Rattle.model.specs.Promises as model
-use Rattle.model.specs.Edges.{Edges}
-use Rattle.model.specs.WorkedExamples.{WorkedExamples}
-use Rattle.model.specs.DemandThree.{Demand3}
-use Rattle.model.specs.DeadComplement.{Never16, DeadInComplement}
-use Rattle.model.specs.Steps as step
-use Rattle.model.specs.WeakExamples.{WeakExamples, WeakSteps}
-use Rattle.model.specs.Orders.{Orders, OrdersInBoth, Interleavings, OrderExamples}
-use Rattle.model.specs.Visits as visits
-use Rattle.model.specs.Audit as audit
-use Rattle.model.specs.Exclusion as claim
+use Rattle.movement.specs.Promises as movement
+use Rattle.second_form.specs.Promises as second
+use Rattle.both_forms.specs.Promises as both
+use Rattle.both_forms.specs.Edges.{Edges}
+use Rattle.both_forms.specs.WorkedExamples.{WorkedExamples}
+use Rattle.second_form.specs.DemandThree.{Demand3}
+use Rattle.second_form.specs.DeadComplement.{Never16, DeadInComplement}
+use Rattle.both_forms.specs.Steps as step
+use Rattle.both_forms.specs.WeakExamples.{WeakExamples, WeakSteps}
+use Rattle.both_forms.specs.Orders.{Orders, OrdersInBoth, Interleavings, OrderExamples}
+use Rattle.both_forms.specs.Visits as visits
+use Rattle.both_forms.specs.Audit as audit
+use Rattle.movement.specs.Exclusion as claim
 use Rattle.sheets.specs.Accepted.{AcceptedNet, AcceptedMovements, AcceptedWeights}
 use Rattle.lists.specs.Promises.{SignedWeights}
-use Rattle.written.specs.Promises.{WrittenThenRead, ReadThenWritten, LargestSheet, ExampleLengths}
+use Rattle.sheets.specs.written.Promises.{WrittenThenRead, ReadThenWritten, LargestSheet, ExampleLengths}
 use Rattle.convert.specs.Promises.{SourceOnly, ConvertedReads, ThereAndBack}
 use Rattle.bare.specs.Promises.{BareAfter, OldModes, NoNewDead}
-use Rattle.strip.specs.Promises.{StrippedReads}
+use Rattle.convert.specs.strip.Promises.{StrippedReads}
 use Rattle.export.specs.Promises.{ExportsExactly, ComplementsExportable}
 use Rattle.import.specs.Promises.{RefusedExactly, ImportsExactly, ImportedReads}
 use Rattle.fire.specs.Promises.{AcceptedBegin, AcceptedFire, MarkingStays}
 use Rattle.run.specs.Promises.{RunsLeave, RunsKeep, Certified}
-use Rattle.weigh.specs.Promises.{FigureIsSum, ChangeIsSum, FigureFired}
-use Rattle.dead.specs.Promises.{SaysDead, NamesFirst}
-use Rattle.audit.specs.Promises.{SaysAudited}
-use Rattle.exclude.specs.Promises.{ExcludedExactly}
-use Rattle.salvage.specs.Promises as salvage
+use Rattle.statement.specs.weigh.Promises.{FigureIsSum, ChangeIsSum, FigureFired}
+use Rattle.opened.specs.dead.Promises.{SaysDead, NamesFirst}
+use Rattle.complement.specs.audit.Promises.{SaysAudited}
+use Rattle.statement.specs.exclude.Promises.{ExcludedExactly}
+use Rattle.run.specs.salvage.Promises as salvage
 use Rattle.ships.specs.Promises.{FleetStatement, RefusedShip}
 use Rattle.promises.specs.DemandOne.{DemandOne, DemandOneForC}
 use Rattle.promises.specs.DemandThree.{OverBytes}
@@ -58,20 +61,20 @@ pub record Promises : Type 0 where
   pub refusalTable : model.RefusalTable
   pub amounts : model.Amounts
   pub rule : model.Rule
-  pub modeRule : model.ModeRule
-  pub markingAfter : model.MarkingAfter
-  pub withoutArcs : model.WithoutArcs
-  pub markingTest : model.MarkingTest
-  pub markingKept : model.MarkingKept
-  pub runs : model.Runs
-  pub certificates : model.Certificates
-  pub figureAfter : model.FigureAfter
-  pub deadModes : model.DeadModes
-  pub firstDead : model.FirstDead
-  pub deadExactly : model.DeadExactly
-  pub deadOrLive : model.DeadOrLive
-  pub figure64 : model.Figure64
-  pub arcByArc : model.ArcByArc
+  pub modeRule : movement.ModeRule
+  pub markingAfter : movement.MarkingAfter
+  pub withoutArcs : movement.WithoutArcs
+  pub markingTest : movement.MarkingTest
+  pub markingKept : movement.MarkingKept
+  pub runs : movement.Runs
+  pub certificates : movement.Certificates
+  pub figureAfter : movement.FigureAfter
+  pub deadModes : second.DeadModes
+  pub firstDead : second.FirstDead
+  pub deadExactly : second.DeadExactly
+  pub deadOrLive : second.DeadOrLive
+  pub figure64 : second.Figure64
+  pub arcByArc : both.ArcByArc
   pub workedExamples : WorkedExamples
   pub demand3 : Demand3
   pub never16 : Never16

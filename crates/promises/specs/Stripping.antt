@@ -19,19 +19,19 @@ use Rattle.sheets.specs.Decoded.{netOf, movementsOf}
 use Rattle.fire.specs.Contracts.{BeginAllows, TestAllows, FireAllows}
 use Rattle.run.specs.Contracts.{RunAllows, CertifyAllows}
 use Rattle.damaged.specs.Damaged.{modesIn}
-use Rattle.salvage.specs.Contracts.{SalvageAllows}
-use Rattle.step.specs.Calls.{stepModes}
-use Rattle.step.specs.Contracts.{TestStepAllows, FireStepAllows}
-use Rattle.weigh.specs.Contracts.{FigureAllows, ChangeAllows}
+use Rattle.run.specs.salvage.Contracts.{SalvageAllows}
+use Rattle.fire.specs.step.Calls.{stepModes}
+use Rattle.fire.specs.step.Contracts.{TestStepAllows, FireStepAllows}
+use Rattle.statement.specs.weigh.Contracts.{FigureAllows, ChangeAllows}
 use Rattle.ships.specs.declared.Fleet.{Fleet}
-use Rattle.fleet.specs.Contracts.{AddShipAllows}
-use Rattle.dead.specs.Contracts.{IsDeadAllows, FirstDeadAllows}
+use Rattle.statement.specs.fleet.Contracts.{AddShipAllows}
+use Rattle.opened.specs.dead.Contracts.{IsDeadAllows, FirstDeadAllows}
 use Rattle.statement.specs.Contracts.{StatementAllows}
 use Rattle.bare.specs.Strip.{newMode, boundOf}
 use Rattle.bare.specs.Promises.{Old}
-use Rattle.strip.specs.declared.Stripped.{Stripped}
-use Rattle.strip.specs.Stripped.{strippedNet, told}
-use Rattle.strip.specs.Contracts.{StripAllows}
+use Rattle.convert.specs.declared.strip.Stripped.{Stripped}
+use Rattle.convert.specs.strip.Stripped.{strippedNet, told}
+use Rattle.convert.specs.strip.Contracts.{StripAllows}
 use Rattle.promises.specs.EqualNets.{Within, Bytes}
 
 -- "at every marking within capacity exactly one of the new modes is enabled, .. it leaves 0 at that pair, and .. every other pair stays the same": test accepts

@@ -7,8 +7,8 @@ use mathlib.Core.Logic.{_↔_}
 use mathlib.Core.Option.{none}
 use Rattle.model.specs.declared.Mode.{Mode}
 use Rattle.model.specs.Replies.{yields}
-use Rattle.model.specs.Runs.{Outcome}
-use Rattle.model.specs.Orders.{Apart, AllApart, Interleaved}
+use Rattle.movement.specs.Runs.{Outcome}
+use Rattle.both_forms.specs.Orders.{Apart, AllApart, Interleaved}
 use Rattle.sheets.specs.Whole.{wholeMovements}
 use Rattle.sheets.specs.Decoded.{netOf, movementsOf}
 use Rattle.run.specs.Calls.{runOf}

@@ -9,11 +9,11 @@ use Rattle.model.specs.declared.Mode.{Mode}
 use Rattle.model.specs.declared.Thing.the-variants.{Movements}
 use Rattle.model.specs.declared.Refusal.{Refusal}
 use Rattle.model.specs.Nets.{modeNo}
-use Rattle.model.specs.Runs.{Outcome}
+use Rattle.movement.specs.Runs.{Outcome}
 use Rattle.model.specs.Replies.{yields}
 use Rattle.model.specs.Markings.{markingRefusal}
-use Rattle.model.specs.Complement.{Corresponds}
-use Rattle.model.specs.DemandThree.{becomes}
+use Rattle.second_form.specs.Complement.{Corresponds}
+use Rattle.second_form.specs.DemandThree.{becomes}
 use Rattle.sheets.specs.Whole.{wholeMovements}
 use Rattle.sheets.specs.Decoded.{netOf, movementsOf}
 use Rattle.fire.specs.Calls.{beginRefusal, begun}

@@ -10,9 +10,9 @@ use Rattle.model.specs.Numbers.{∞}
 use Rattle.model.specs.Nets.{PNet, arcNo}
 use Rattle.model.specs.Replies.{yields}
 use Rattle.model.specs.Markings.{markingRefusal}
-use Rattle.model.specs.Complement.{Corresponds}
+use Rattle.second_form.specs.Complement.{Corresponds}
 use Rattle.sheets.specs.Decoded.{netOf}
-use Rattle.step.specs.Calls.{testStepRefusal, steppedBy}
+use Rattle.fire.specs.step.Calls.{testStepRefusal, steppedBy}
 use Rattle.complement.specs.Complemented.{told, complementOf}
 use Rattle.promises.specs.DemandThree.{asWritten}
 

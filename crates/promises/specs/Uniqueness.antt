@@ -7,23 +7,23 @@ use Rattle.model.specs.declared.Pair.{Pair}
 use Rattle.model.specs.declared.Mode.{Mode}
 use Rattle.lists.specs.Contracts.{ReadWeightsAllows, ReadMovementsAllows}
 use Rattle.sheets.specs.Contracts.{AfterNetAllows, AfterWeightsAllows, AfterMovementsAllows, WholeNetAllows, WholeWeightsAllows, WholeMovementsAllows}
-use Rattle.nets.specs.Contracts.{ReadNetAllows}
+use Rattle.sheets.specs.nets.Contracts.{ReadNetAllows}
 use Rattle.fire.specs.Contracts.{BeginAllows, TestAllows, FireAllows}
 use Rattle.run.specs.Contracts.{RunAllows, CertifyAllows}
-use Rattle.step.specs.Contracts.{TestStepAllows, FireStepAllows}
-use Rattle.weigh.specs.Contracts.{FigureAllows, ChangeAllows}
+use Rattle.fire.specs.step.Contracts.{TestStepAllows, FireStepAllows}
+use Rattle.statement.specs.weigh.Contracts.{FigureAllows, ChangeAllows}
 use Rattle.ships.specs.declared.Fleet.{Fleet}
-use Rattle.fleet.specs.Contracts.{AddShipAllows}
-use Rattle.exclude.specs.Contracts.{ExcludeAllows}
-use Rattle.dead.specs.Contracts.{IsDeadAllows, FirstDeadAllows}
-use Rattle.size.specs.Contracts.{SizeAllows}
+use Rattle.statement.specs.fleet.Contracts.{AddShipAllows}
+use Rattle.statement.specs.exclude.Contracts.{ExcludeAllows}
+use Rattle.opened.specs.dead.Contracts.{IsDeadAllows, FirstDeadAllows}
+use Rattle.opened.specs.size.Contracts.{SizeAllows}
 use Rattle.complement.specs.Contracts.{ComplementAllows}
 use Rattle.convert.specs.Contracts.{ToVersion1Allows, ToVersion2Allows}
-use Rattle.strip.specs.Contracts.{StripAllows}
+use Rattle.convert.specs.strip.Contracts.{StripAllows}
 use Rattle.export.specs.Contracts.{ExportPnmlAllows}
 use Rattle.import.specs.Contracts.{ImportPnmlAllows}
-use Rattle.audit.specs.Contracts.{AuditAllows}
-use Rattle.salvage.specs.Contracts.{SalvageAllows}
+use Rattle.complement.specs.audit.Contracts.{AuditAllows}
+use Rattle.run.specs.salvage.Contracts.{SalvageAllows}
 use Rattle.text.specs.Contracts.{PutBytesAllows, PutDecimalAllows, PutSignedAllows}
 use Rattle.statement.specs.Contracts.{StatementAllows}
 use Rattle.abi.specs.Contracts as c

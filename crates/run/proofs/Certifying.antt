@@ -9,7 +9,7 @@ use Rattle.model.specs.declared.Answer.the-variants.{Accepted, Refused}
 use Rattle.model.specs.First.{first}
 use Rattle.model.specs.Refusals.{answer}
 use Rattle.model.specs.Nets.{PNet, pairs}
-use Rattle.model.specs.Runs.{run, elsewhere, endsAt}
+use Rattle.movement.specs.Runs.{run, elsewhere, endsAt}
 use Rattle.model.proofs.Refusals.{answer-stops, answer-goes-on}
 use Rattle.run.specs.declared.Ran.{Ran}
 use Rattle.run.specs.Parts.{Reports}

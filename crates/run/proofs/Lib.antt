@@ -1,4 +1,4 @@
-pub mod Certifying
+mod Certifying
 pub mod Promises
 pub mod Reporting
 pub mod Running

@@ -11,11 +11,11 @@ use Rattle.model.specs.declared.Thing.the-variants.{Movements}
 use Rattle.model.specs.declared.Refusal.{Refusal}
 use Rattle.model.specs.Nets.{PNet, modeNo}
 use Rattle.model.specs.Firing.{modeRefusal}
-use Rattle.model.specs.Runs.{run}
-use Rattle.model.specs.Promises.{stays}
+use Rattle.movement.specs.Runs.{run}
+use Rattle.movement.specs.Promises.{stays}
 use Rattle.model.proofs.First.{left-none, right-none, none-then}
-use Rattle.model.proofs.Markings.{marking-test}
-use Rattle.model.proofs.Runs.{runs, certificates}
+use Rattle.movement.proofs.Markings.{marking-test}
+use Rattle.movement.proofs.Runs.{runs, certificates}
 use Rattle.sheets.specs.Whole.{wholeNet, wholeMovements}
 use Rattle.sheets.specs.Decoded.{netOf, movementsOf}
 use Rattle.fire.proofs.Promises.{start-marks}

@@ -8,8 +8,8 @@ use Rattle.model.specs.declared.Answer.{Answer}
 use Rattle.model.specs.declared.Answer.the-variants.{Refused}
 use Rattle.model.specs.First.{_▸_}
 use Rattle.model.specs.Refusals.{answer}
-use Rattle.model.specs.Runs.{Outcome, run}
-use Rattle.model.specs.Visits.{visited}
+use Rattle.movement.specs.Runs.{Outcome, run}
+use Rattle.both_forms.specs.Visits.{visited}
 use Rattle.model.proofs.First.{none-then}
 use Rattle.model.proofs.Refusals.{answer-refused}
 use Rattle.sheets.specs.Decoded.{netOf, movementsOf}

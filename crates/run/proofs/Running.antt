@@ -11,14 +11,14 @@ use Rattle.model.specs.declared.Answer.the-variants.{Accepted}
 use Rattle.model.specs.Nets.{PNet, modeNo}
 use Rattle.model.specs.Markings.{Marking}
 use Rattle.model.specs.Firing.{modeRefusal}
-use Rattle.model.specs.Runs.{run}
-use Rattle.model.specs.Visits.{visited}
-use Rattle.model.proofs.Markings.{marking-kept}
-use Rattle.model.specs.Promises.{Leads, stays, moves}
+use Rattle.movement.specs.Runs.{run}
+use Rattle.both_forms.specs.Visits.{visited}
+use Rattle.movement.proofs.Markings.{marking-kept}
+use Rattle.movement.specs.Promises.{Leads, stays, moves}
 use Rattle.model.specs.Refusals.{answer}
-use Rattle.model.proofs.Runs.{runs}
+use Rattle.movement.proofs.Runs.{runs}
 use Rattle.sheets.specs.Listed.{modeAt, modesFrom}
-use Rattle.sheets.proofs.Lists.{modes-from-length, modes-from-at}
+use Rattle.sheets.proofs.Listed.{modes-from-length, modes-from-at}
 use Rattle.run.specs.declared.Ran.{Ran}
 use Rattle.progress.specs.declared.Progress.{Progress}
 use Rattle.progress.specs.Progress.{Accepts}

@@ -5,8 +5,8 @@ use mathlib.Core.Option.{Option, none, some}
 use Rattle.model.specs.declared.Refusal.{Refusal}
 use Rattle.model.specs.First.{_▸_}
 use Rattle.model.specs.Markings.{markingRefusal}
-use Rattle.model.specs.Runs.{Outcome, goOn, run, certificateRefusal}
-use Rattle.model.specs.Visits.{visited}
+use Rattle.movement.specs.Runs.{Outcome, goOn, run, certificateRefusal}
+use Rattle.both_forms.specs.Visits.{visited}
 use Rattle.model.specs.Refusals.{answer}
 use Rattle.sheets.specs.Whole.{wholeNet, wholeMovements}
 use Rattle.sheets.specs.Decoded.{netOf, movementsOf}

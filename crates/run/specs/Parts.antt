@@ -7,7 +7,7 @@ use mathlib.Core.Option.{Option}
 use Rattle.model.specs.declared.Refusal.{Refusal}
 use Rattle.model.specs.declared.Answer.{Answer}
 use Rattle.model.specs.Refusals.{answer}
-use Rattle.model.specs.Runs.{Outcome, goOn}
+use Rattle.movement.specs.Runs.{Outcome, goOn}
 use Rattle.run.specs.declared.Ran.{Ran}
 use Rattle.run.specs.Calls.{unlessRefused, ranOf}
 

@@ -10,7 +10,7 @@ use Rattle.model.specs.declared.Refusal.{Refusal}
 use Rattle.model.specs.Nets.{modeNo}
 use Rattle.model.specs.Markings.{markingRefusal}
 use Rattle.model.specs.Firing.{modeRefusal}
-use Rattle.model.specs.Promises.{Leads}
+use Rattle.movement.specs.Promises.{Leads}
 use Rattle.sheets.specs.Whole.{wholeNet, wholeMovements}
 use Rattle.sheets.specs.Decoded.{netOf, movementsOf}
 use Rattle.run.specs.Calls.{beforeRun, runOf, certifyRefusal}

@@ -14,11 +14,11 @@ ghost use Prim.Native.Nat.{_<_, _≤_};
 ghost use lib.ListN.{length};
 ghost use Rattle.model.specs.First.{first};
 ghost use Rattle.model.specs.Refusals.{answer};
-ghost use Rattle.model.specs.Runs.{certificateRefusal};
+ghost use Rattle.movement.specs.Runs.{certificateRefusal};
 ghost use Rattle.lists.specs.Movements.{movementsRefusal};
 ghost use Rattle.sheets.specs.Decoded.{netOf, movementsOf};
 ghost use Rattle.opened.specs.Shape.{Open};
-ghost use Rattle.model.specs.Runs.{elsewhere, endsAt};
+ghost use Rattle.movement.specs.Runs.{elsewhere, endsAt};
 
 fn pair_answer(last: &[u32], claim: &[u32], p: usize) -> Answer
     requires { ⌜ (p < length (now last)) × (p < length (now claim)) × (p < 256) ⌝ }

@@ -12,8 +12,8 @@ ghost use mathlib.Core.Path.{_≡_};
 ghost use Rattle.model.specs.First.{_▸_};
 ghost use Rattle.model.specs.Refusals.{answer};
 ghost use Rattle.model.specs.Markings.{markingRefusal};
-ghost use Rattle.model.specs.Runs.{run as modelRun, certificateRefusal};
-ghost use Rattle.model.specs.Visits.{visited};
+ghost use Rattle.movement.specs.Runs.{run as modelRun, certificateRefusal};
+ghost use Rattle.both_forms.specs.Visits.{visited};
 ghost use Rattle.sheets.specs.Whole.{wholeMovements};
 ghost use Rattle.sheets.specs.Decoded.{netOf, movementsOf};
 ghost use Rattle.opened.specs.Shape.{Open};
@@ -22,6 +22,7 @@ ghost use Rattle.run.specs.Contracts.{RunAllows, CertifyAllows};
 
 mod certificate;
 pub mod movements;
+pub mod salvage;
 
 // How many movements of a run were accepted, how many arcs it visited, and the answer to the first movement that was not accepted.
 pub struct Ran {

@@ -1,7 +1,7 @@
 // A list of movements run up to the first that is refused, and why that one is.
 use crate::Ran;
 use fire::advance::mode_answer;
-use firing::mode::find_refusal;
+use fire::firing::mode::find_refusal;
 use lists::movements::movement_count;
 use model::Answer;
 use model::Mode;
@@ -20,8 +20,8 @@ ghost use Rattle.model.specs.declared.Thing.the-variants.{Movements};
 ghost use Rattle.model.specs.Refusals.{answer};
 ghost use Rattle.model.specs.Markings.{Marking};
 ghost use Rattle.model.specs.Firing.{modeRefusal};
-ghost use Rattle.model.specs.Runs.{run};
-ghost use Rattle.model.specs.Visits.{visited};
+ghost use Rattle.movement.specs.Runs.{run};
+ghost use Rattle.both_forms.specs.Visits.{visited};
 ghost use Rattle.sheets.specs.Decoded.{netOf, movementsOf};
 ghost use Rattle.lists.specs.Movements.{mostMovements, movementsRefusal};
 ghost use Rattle.opened.specs.Shape.{Open};
@@ -46,7 +46,7 @@ fn refusal_of(s: &[u8], net: NetShape, starts: &[u16; 257], mode: Mode, marking:
 }
 
 // The inner part of a run: `count` mode numbers that stand in a run of bytes from `start` on.
-pub fn run_modes(
+pub(crate) fn run_modes(
     s: &[u8],
     net: NetShape,
     starts: &[u16; 257],

@@ -15,21 +15,21 @@ use Rattle.model.specs.Numbers.{ℕ∞, fin, ∞}
 use Rattle.model.specs.Nets.{NetArc, K, count, arcNo}
 use Rattle.model.specs.WellFormed.{InRange, Blank, ArcOf, Rises, Counted}
 use Rattle.model.proofs.Numbers.{above-false}
-use Rattle.model.proofs.Nets.{Rising}
-use Rattle.model.proofs.Each.{Each, each-at}
+use Rattle.movement.proofs.Nets.{Rising}
+use Rattle.movement.proofs.Each.{Each, each-at}
 use Rattle.heads.specs.Bytes.{u16At}
 use Rattle.heads.specs.Layout.{totalOf, counts, pairCount, modeCount, arcCountAt, arcCount, arcsAt, arcAt, arcTailAt, tailPairAt}
 use Rattle.heads.specs.Version.{versionOf}
 use Rattle.fields.specs.Numbers.{bound, outside}
-use Rattle.nets.specs.Tails.{tailBlank}
-use Rattle.nets.specs.Nets.{risesTo, netRefusal}
+use Rattle.sheets.specs.nets.Tails.{tailBlank}
+use Rattle.sheets.specs.nets.Nets.{risesTo, netRefusal}
 use Rattle.sheets.specs.Decoded.{netArcIn, netArcAt, arcsOf, netOf}
 use Rattle.sheets.specs.Accepted.{AcceptedNet}
 use Rattle.fields.proofs.RunningTotals.{RunningRead}
 use Rattle.fields.proofs.BoundNumbers.{unbounded-only}
-use Rattle.nets.proofs.TailsRead.{TailRead}
-use Rattle.nets.proofs.GroupsRead.{within}
-use Rattle.nets.proofs.Valid.{counts-hold, colours-hold, modes-hold, capacity-holds, start-holds, arcs-within, arc-holds, groups-hold}
+use Rattle.sheets.proofs.nets.TailsRead.{TailRead}
+use Rattle.sheets.proofs.nets.GroupsRead.{within}
+use Rattle.sheets.proofs.nets.Valid.{counts-hold, colours-hold, modes-hold, capacity-holds, start-holds, arcs-within, arc-holds, groups-hold}
 use Rattle.sheets.proofs.Meaning.{counts-length, counts-at, colours-are, modes-of-are, pairs-are, modes-are, capacities-length, capacity-at, start-length, start-at, arcs-length, arc-at, arcs-two}
 use Rattle.sheets.proofs.GroupArcs.{group-arcs-length, arcs-rising, each-arcs}
 

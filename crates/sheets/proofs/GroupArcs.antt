@@ -10,11 +10,11 @@ use Rattle.model.specs.Nets.{NetArc, arcNo}
 use Rattle.model.specs.WellFormed.{Rises}
 use Rattle.model.specs.Lists.{joined}
 use Rattle.model.proofs.Tables.{table-length, table-at}
-use Rattle.model.proofs.Joined.{joined-split}
-use Rattle.model.proofs.Nets.{Rising, rises-all}
-use Rattle.model.proofs.Each.{Each, each-joined, each-at, at-each, Sorted, sorted-joined, sorted-rising}
+use Rattle.movement.proofs.Joined.{joined-split}
+use Rattle.movement.proofs.Nets.{Rising, rises-all}
+use Rattle.movement.proofs.Each.{Each, each-joined, each-at, at-each, Sorted, sorted-joined, sorted-rising}
 use Rattle.heads.specs.Layout.{groupArcAt, arcsAfter, arcsBefore, groupAt, groupCount}
-use Rattle.nets.proofs.GroupsRead.{before-next, GroupRead}
+use Rattle.sheets.proofs.nets.GroupsRead.{before-next, GroupRead}
 use Rattle.sheets.specs.Decoded.{netArcIn, groupArcs, arcsOf}
 
 -- arcs that rise one by one rise throughout

@@ -1,5 +1,5 @@
 pub mod Meaning
 pub mod GroupArcs
 pub mod Accepted
-pub mod Lists
+pub mod Listed
 pub mod RefusalTables

@@ -32,9 +32,9 @@ use Rattle.lists.specs.Movements.{mostMovements, movementFields, movementsRefus
 use Rattle.lists.specs.Weights.{signed, weightRefusal, weightFields, weightsRefusal}
 use Rattle.fields.specs.Numbers.{unbounded, bound, outside}
 use Rattle.fields.specs.Fields.{runningRefusal, capacityRefusal, startRefusal, pairRefusal, eachCount, countFields}
-use Rattle.nets.specs.Tails.{tailBlank, tailNumbers}
-use Rattle.nets.specs.Groups.{pairNotRising, pairNameRefusal, groupArcRefusal, groupRefusal, groupFields}
-use Rattle.nets.specs.Nets.{risesTo, notRising, arcNamesRefusal, arcRefusal, arcFields, arcSection, ruleField, pairAndArcFields, netFields, netRefusal}
+use Rattle.sheets.specs.nets.Tails.{tailBlank, tailNumbers}
+use Rattle.sheets.specs.nets.Groups.{pairNotRising, pairNameRefusal, groupArcRefusal, groupRefusal, groupFields}
+use Rattle.sheets.specs.nets.Nets.{risesTo, notRising, arcNamesRefusal, arcRefusal, arcFields, arcSection, ruleField, pairAndArcFields, netFields, netRefusal}
 use Rattle.sheets.specs.RefusalTables.{headTable, pastEnd, leftAfter, countTable, movementTable, WeightOutside, weightTable, runningTable, pairTable, tailTable, Higher, arcNamesTable, arcTable, groupArcTable, groupTable, countsTable, pairsTable, fieldsTable, netTable, SheetTables}
 
 module _ (thing : Thing) (s : List ℕ) where

@@ -6,11 +6,11 @@ use mathlib.Core.Option.{none}
 use lib.IntN.{natAbs}
 use lib.ListN.{length}
 use Rattle.model.specs.Numbers.{limit}
-use Rattle.model.specs.Figures.{weight}
+use Rattle.movement.specs.Figures.{weight}
 use Rattle.model.specs.WellFormed.{WellFormed}
 use Rattle.lists.specs.Movements.{mostMovements, movementsRefusal}
 use Rattle.lists.specs.Weights.{weightsRefusal}
-use Rattle.nets.specs.Nets.{netRefusal}
+use Rattle.sheets.specs.nets.Nets.{netRefusal}
 use Rattle.sheets.specs.Decoded.{netOf, movementsOf, weightsOf}
 
 -- the net that a net sheet means keeps document 01's limits, its arcs rise, none is blank, and its first marking is within K

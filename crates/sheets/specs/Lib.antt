@@ -4,3 +4,5 @@ pub mod Accepted
 pub mod RefusalTables
 pub mod Listed
 pub mod Contracts
+pub mod nets
+pub mod written

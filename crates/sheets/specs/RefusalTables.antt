@@ -17,7 +17,7 @@ use Rattle.heads.specs.Version.{versionOf}
 use Rattle.lists.specs.Movements.{mostMovements, movementsRefusal}
 use Rattle.lists.specs.Weights.{signed, weightsRefusal}
 use Rattle.fields.specs.Numbers.{unbounded, bound}
-use Rattle.nets.specs.Nets.{netRefusal}
+use Rattle.sheets.specs.nets.Nets.{netRefusal}
 
 module _ (thing : ℕ) (s : List ℕ) where
   -- "1, then L = 0, then 2"; 2 where the version byte is none of the sheet's own

@@ -1,4 +1,5 @@
 // Bytes after a sheet: refused where a call takes one sheet as an argument, handed back where a reader is called on a run of bytes.
+use crate::nets::net::read_net;
 use heads::head::refused;
 use heads::head::sheet_end;
 use lists::movements::read_movements;
@@ -6,7 +7,6 @@ use lists::weights::read_weights;
 use model::Answer;
 use model::Fault;
 use model::Thing;
-use nets::net::read_net;
 ghost use mathlib.Core.Path.{_≡_};
 ghost use Rattle.model.specs.Refusals.{answer};
 ghost use Rattle.heads.specs.Held.{Headed};

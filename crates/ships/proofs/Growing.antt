@@ -11,10 +11,10 @@ use borrow.Author.Tests.{ltb-false}
 use Rattle.model.specs.declared.Refusal.{Refusal}
 use Rattle.model.proofs.Both.{or-neither}
 use Rattle.model.proofs.First.{left-none, right-none, only-if-none}
-use Rattle.model.proofs.Runs.{runs}
+use Rattle.movement.proofs.Runs.{runs}
 use Rattle.sheets.specs.Whole.{wholeMovements}
 use Rattle.sheets.specs.Decoded.{netOf, movementsOf}
-use Rattle.sheets.proofs.Lists.{movements-within}
+use Rattle.sheets.proofs.Listed.{movements-within}
 use Rattle.ships.specs.declared.Fleet.{Fleet}
 use Rattle.ships.specs.declared.Voyage.{Voyage}
 use Rattle.ships.specs.Ships.{Ship, shipAdded, shipRemoved, voyageOf, refusedBy, withVoyage}

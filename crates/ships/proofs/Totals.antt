@@ -9,9 +9,9 @@ use native.Mathlib.Omega.{arith}
 use Rattle.model.specs.declared.Mode.{Mode}
 use Rattle.model.specs.declared.Refusal.{Refusal}
 use Rattle.model.specs.Nets.{PNet, total}
-use Rattle.model.specs.Figures.{change, changes}
-use Rattle.model.proofs.Figures.{figure-after}
-use Rattle.model.proofs.Integers.{exchange}
+use Rattle.movement.specs.Figures.{change, changes}
+use Rattle.movement.proofs.Figures.{figure-after}
+use Rattle.movement.proofs.Integers.{exchange}
 use Rattle.sheets.specs.Decoded.{netOf, weightsOf, movementsOf}
 use Rattle.ships.specs.declared.Fleet.{Fleet}
 use Rattle.ships.specs.Ships.{Ship, gained, lost, addedBy, removedBy, accepted, shipAdded, shipRemoved, startFigure, lastFigure, voyageOf, refusedBy, totals, withVoyage}

@@ -8,8 +8,8 @@ use lib.IntN.{ℤ, pos, negsuc, _+ℤ_}
 use Rattle.model.specs.declared.Mode.{Mode}
 use Rattle.model.specs.Refusals.{answer, number}
 use Rattle.model.specs.Nets.{PNet, total}
-use Rattle.model.specs.Runs.{Outcome, run}
-use Rattle.model.specs.Figures.{figure, change}
+use Rattle.movement.specs.Runs.{Outcome, run}
+use Rattle.movement.specs.Figures.{figure, change}
 use Rattle.sheets.specs.Decoded.{netOf, weightsOf, movementsOf}
 use Rattle.ships.specs.declared.Fleet.{Fleet}
 use Rattle.ships.specs.declared.Voyage.{Voyage}

@@ -4,7 +4,7 @@ use Rattle.model.specs.First.{_▸_, first}
 use Rattle.model.specs.Lists.{table}
 use Rattle.model.specs.Nets.{entryAt}
 use Rattle.model.specs.Firing.{ruleRefusal, rowRefusal, modeRefusal, fired}
-use Rattle.model.specs.Figures.{sum, figure}
+use Rattle.movement.specs.Figures.{sum, figure}
 use Rattle.heads.specs.Bytes.{u16At, u32At}
 use Rattle.heads.specs.Version.{versionOf}
 use Rattle.heads.specs.Rule.{ruleOf}
@@ -12,15 +12,15 @@ use Rattle.heads.specs.Layout.{fieldsAt, counts, pairCount, modeCount, arcCount
 use Rattle.heads.specs.Checks.{known, headRefusal, countRefusal}
 use Rattle.fields.specs.Numbers.{bound}
 use Rattle.fields.specs.Fields.{runningRefusal, capacityRefusal, startRefusal, pairRefusal, eachCount, countFields}
-use Rattle.nets.specs.Tails.{tailBlank, tailNumbers}
-use Rattle.nets.specs.Nets.{risesTo, notRising, arcNamesRefusal, arcRefusal, arcFields, arcSection, pairAndArcFields, ruleField, netFields, netRefusal}
+use Rattle.sheets.specs.nets.Tails.{tailBlank, tailNumbers}
+use Rattle.sheets.specs.nets.Nets.{risesTo, notRising, arcNamesRefusal, arcRefusal, arcFields, arcSection, pairAndArcFields, ruleField, netFields, netRefusal}
 use Rattle.lists.specs.Weights.{signed, weightRefusal, weightFields, weightsRefusal}
 use Rattle.lists.specs.Movements.{movementFields, movementsRefusal}
 use Rattle.sheets.specs.Whole.{bytesAfter, wholeMovements, rest}
 use Rattle.sheets.specs.Decoded.{netArcIn, netArcs, netOf, weightsOf, movementsOf}
 use Rattle.text.specs.Decimals.{decimalWithin, decimal, signedDecimal}
 use Rattle.statement.specs.Example.{Printed}
-use Rattle.lines.specs.Lines.{line, startLine, acceptedLine, refusedLine, endLine}
+use Rattle.statement.specs.lines.Lines.{line, startLine, acceptedLine, refusedLine, endLine}
 use Rattle.statement.specs.Replay.{unlessRefused, linesFrom, runText, movementsText, weightsText, sheetsText, replayText}
 
 pub printed : Printed

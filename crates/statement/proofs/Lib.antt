@@ -1,6 +1,6 @@
 pub mod Example
 pub mod Stating
-pub mod Telling
+mod Telling
 pub mod TextOfRun
-pub mod Texts
+mod Texts
 pub mod Weighed

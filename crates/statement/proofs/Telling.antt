@@ -18,28 +18,28 @@ use Rattle.model.specs.declared.Answer.the-variants.{Accepted, Refused}
 use Rattle.model.specs.Nets.{PNet, modes, modeNo}
 use Rattle.model.specs.Markings.{Marking}
 use Rattle.model.specs.Firing.{modeRefusal, fired}
-use Rattle.model.specs.Runs.{Outcome, runFrom, run}
-use Rattle.model.specs.Figures.{figure}
-use Rattle.model.specs.Promises.{Leads, moves}
-use Rattle.model.proofs.Figures.{figure-fired}
+use Rattle.movement.specs.Runs.{Outcome, runFrom, run}
+use Rattle.movement.specs.Figures.{figure}
+use Rattle.movement.specs.Promises.{Leads, moves}
+use Rattle.movement.proofs.Figures.{figure-fired}
 use Rattle.model.proofs.Firing.{accepted-there, accepted-enough}
-use Rattle.model.proofs.Markings.{marking-kept}
+use Rattle.movement.proofs.Markings.{marking-kept}
 use Rattle.model.proofs.Refusals.{answer-refused, answer-none}
-use Rattle.model.proofs.Runs.{runs, leads-whole}
+use Rattle.movement.proofs.Runs.{runs, leads-whole}
 use Rattle.opened.specs.declared.shape.NetShape.{NetShape}
 use Rattle.sheets.specs.Decoded.{netOf, weightsOf, movementsOf}
-use Rattle.sheets.proofs.Lists.{movements-within}
+use Rattle.sheets.proofs.Listed.{movements-within}
 use Rattle.opened.proofs.Shapes.{sizes}
 use Rattle.opened.specs.Read.{Read}
 use Rattle.run.specs.Parts.{RunTells}
-use Rattle.weigh.specs.Parts.{ChangesAre}
-use Rattle.weigh.proofs.Sizes.{fits-size}
+use Rattle.statement.specs.weigh.Parts.{ChangesAre}
+use Rattle.statement.proofs.weigh.Sizes.{fits-size}
 use Rattle.writes.specs.Writes.{Writes}
-use Rattle.lines.specs.Lines.{acceptedLine, refusedLine, endLine}
+use Rattle.statement.specs.lines.Lines.{acceptedLine, refusedLine, endLine}
 use Rattle.statement.specs.Promises.{acceptedLines, lastLines}
 use Rattle.statement.specs.Replay.{linesFrom}
 use Rattle.writes.proofs.Writing.{_and_, nothing, within, length-kept}
-use Rattle.lines.proofs.LineSizes.{accepted-size}
+use Rattle.statement.proofs.lines.LineSizes.{accepted-size}
 use Rattle.statement.proofs.TextOfRun.{lines-of-run}
 use Rattle.statement.proofs.Weighed.{figure-size}
 

@@ -11,9 +11,9 @@ use Rattle.model.specs.declared.Thing.the-variants.{Movements}
 use Rattle.model.specs.declared.Refusal.{Refusal}
 use Rattle.model.specs.Nets.{PNet, modeNo}
 use Rattle.model.specs.Firing.{modeRefusal, fired}
-use Rattle.model.specs.Runs.{Outcome, goOn, runFrom, run}
-use Rattle.model.specs.Figures.{figure}
-use Rattle.lines.specs.Lines.{startLine, acceptedLine, refusedLine, endLine}
+use Rattle.movement.specs.Runs.{Outcome, goOn, runFrom, run}
+use Rattle.movement.specs.Figures.{figure}
+use Rattle.statement.specs.lines.Lines.{startLine, acceptedLine, refusedLine, endLine}
 use Rattle.statement.specs.Promises.{acceptedLines, lastLines, linesOf, TextOfRun}
 use Rattle.statement.specs.Replay.{unlessRefused, linesFrom, runText}
 

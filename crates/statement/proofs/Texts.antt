@@ -11,10 +11,10 @@ use Rattle.model.specs.declared.Answer.{Answer}
 use Rattle.model.specs.declared.Answer.the-variants.{Accepted, Refused}
 use Rattle.model.specs.Refusals.{answer}
 use Rattle.model.specs.Nets.{PNet}
-use Rattle.model.specs.Figures.{figure}
+use Rattle.movement.specs.Figures.{figure}
 use Rattle.model.proofs.Refusals.{answer-refused, answer-none}
 use Rattle.writes.specs.Writes.{Writes}
-use Rattle.lines.specs.Lines.{startLine, badLine}
+use Rattle.statement.specs.lines.Lines.{startLine, badLine}
 use Rattle.statement.specs.Replay.{unlessRefused, linesFrom, runText, room}
 use Rattle.writes.proofs.Writing.{_and_, within}
 use Rattle.statement.proofs.Telling.{mostLines}

@@ -7,14 +7,14 @@ use lib.IntN.{pos, natAbs, _*ℤ_}
 use native.Mathlib.Omega.{arith}
 use Rattle.model.specs.Nets.{count}
 use Rattle.model.specs.Markings.{Marking}
-use Rattle.model.specs.Figures.{weight, figure}
-use Rattle.model.proofs.Figures.{size-sum}
+use Rattle.movement.specs.Figures.{weight, figure}
+use Rattle.movement.proofs.Figures.{size-sum}
 use Rattle.opened.specs.declared.shape.NetShape.{NetShape}
 use Rattle.lists.specs.Weights.{weightsRefusal}
 use Rattle.sheets.specs.Decoded.{netOf, weightsOf}
 use Rattle.opened.specs.Shape.{Open}
 use Rattle.opened.proofs.Shapes.{sizes}
-use Rattle.weigh.proofs.Terms.{figure-terms}
+use Rattle.statement.proofs.weigh.Terms.{figure-terms}
 
 module _ {s : List ℕ} {net : NetShape} (o : Open s net) (w : List ℕ) (accepted : weightsRefusal (net .pairs) w ≡ none) where
   -- at most 256 pairs of a weight and a count, each within 1,000,000

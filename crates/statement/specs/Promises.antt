@@ -1,4 +1,4 @@
--- What is promised of the text, in the words of running a list (`model/specs/Runs.antt`). The one term is `text-of-run` of proofs/TextOfRun.antt.
+-- What is promised of the text, in the words of running a list (`movement/specs/Runs.antt`). The one term is `text-of-run` of proofs/TextOfRun.antt.
 use Prim.Native.Nat.{ℕ, _+_}
 use mathlib.Core.Path.{_≡_}
 use mathlib.Core.List.{List, [], _∷_, _++_}
@@ -8,9 +8,9 @@ use lib.ListN.{take, getD}
 use Rattle.model.specs.declared.Mode.{Mode}
 use Rattle.model.specs.Nets.{PNet, modeNo}
 use Rattle.model.specs.Firing.{fired}
-use Rattle.model.specs.Runs.{Outcome, run}
-use Rattle.model.specs.Figures.{figure}
-use Rattle.lines.specs.Lines.{startLine, acceptedLine, refusedLine, endLine}
+use Rattle.movement.specs.Runs.{Outcome, run}
+use Rattle.movement.specs.Figures.{figure}
+use Rattle.statement.specs.lines.Lines.{startLine, acceptedLine, refusedLine, endLine}
 use Rattle.statement.specs.Replay.{runText}
 
 module _ (net : PNet) (weights : List ℤ) where

@@ -12,14 +12,14 @@ use Rattle.model.specs.declared.Refusal.{Refusal}
 use Rattle.model.specs.Refusals.{answer}
 use Rattle.model.specs.Nets.{PNet, pairs}
 use Rattle.model.specs.Firing.{modeRefusal, fired}
-use Rattle.model.specs.Figures.{figure}
-use Rattle.nets.specs.Nets.{netRefusal}
+use Rattle.movement.specs.Figures.{figure}
+use Rattle.sheets.specs.nets.Nets.{netRefusal}
 use Rattle.lists.specs.Weights.{weightsRefusal}
 use Rattle.sheets.specs.Whole.{wholeMovements, rest}
 use Rattle.sheets.specs.Decoded.{netOf, weightsOf, movementsOf}
 use Rattle.statement.specs.declared.Stated.{Stated}
 use Rattle.statement.specs.declared.Stated.the-variants.{Written, NoRoom}
-use Rattle.lines.specs.Lines.{startLine, acceptedLine, refusedLine, endLine, badLine, longLine}
+use Rattle.statement.specs.lines.Lines.{startLine, acceptedLine, refusedLine, endLine, badLine, longLine}
 
 -- a text, or what is printed of a refusal in its stead: "A bad sheet prints only `bad`, the thing, the number and the position."
 unfoldable pub unlessRefused : Option Refusal → List ℕ → (Refusal → List ℕ) → List ℕ

@@ -1,18 +1,18 @@
 // The three sheets of an input, each read in the part after the one before it: "A bad sheet prints only `bad`".
+use crate::lines::put_bad;
+use crate::lines::put_start;
 use crate::movements::put_movements;
 use crate::movements::run_list;
+use crate::weigh::sums::figure_of;
 use fire::start::write_start;
-use lines::put_bad;
-use lines::put_start;
 use lists::weights::read_weights;
 use model::Answer;
-use nets::net::read_net;
 use opened::shape::NetShape;
 use opened::shape::shape_of;
 use opened::starts::starts;
+use sheets::nets::net::read_net;
 use sheets::whole::after;
 use sheets::whole::whole_movements;
-use weigh::sums::figure_of;
 ghost use mathlib.Core.Path.{_≡_};
 ghost use mathlib.Core.Option.{none};
 ghost use Prim.Native.Nat.{_≤_};

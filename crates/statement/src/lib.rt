@@ -1,9 +1,14 @@
 // From replay's input to replay's output (document 01, "`replay`").
+pub mod exclude;
+pub mod fleet;
 mod input;
+pub mod lines;
 mod movements;
+pub mod told;
+pub mod weigh;
 
 use crate::input::put_sheets;
-use lines::put_long;
+use crate::lines::put_long;
 ghost use Prim.Native.Nat.{_≤_};
 ghost use lib.ListN.{length};
 ghost use Rattle.writes.specs.Writes.{Writes};

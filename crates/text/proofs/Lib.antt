@@ -1,4 +1,4 @@
 pub mod Decimals
-pub mod LastDigits
-pub mod Puts
+mod LastDigits
+mod Puts
 pub mod Sizes

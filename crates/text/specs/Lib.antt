@@ -4,3 +4,4 @@ pub mod Decimals
 pub mod Puts
 pub mod Contracts
 pub mod LastDigits
+pub mod twos

@@ -37,7 +37,7 @@ pub(crate) fn write_digits(out: &mut [u8], at: usize, count: usize, n: u64)
 }
 
 // How far from zero: for a negative number, the least too, one more than -1 less it, so that nothing wraps.
-pub fn size_of(z: i64) -> u64
+pub(crate) fn size_of(z: i64) -> u64
     ensures { λ r. ⌜ r ≡ natAbs z ⌝ }
 {
     if z < 0 { (-1 - z) as u64 + 1 } else { z as u64 }

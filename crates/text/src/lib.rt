@@ -1,5 +1,6 @@
 // Runs of bytes and numbers in decimal, put into a slice that the caller lends: the parts of a line of `replay` (document 01, "`replay`").
 pub mod digits;
+pub mod twos;
 
 use crate::digits::digit_count;
 use crate::digits::size_of;

@@ -6,7 +6,7 @@ use native.Mathlib.Omega.{arith}
 use Rattle.model.proofs.Refusals.{answer-none, answer-refused}
 use Rattle.complement.specs.Complemented.{complementSheet, roomRefusal}
 use Rattle.opened.proofs.Shapes.{sizes}
-use Rattle.written.proofs.Puts.{room-as, puts-as}
+use Rattle.sheets.proofs.written.Puts.{room-as, puts-as}
 use Rattle.complement.proofs.SheetParts.{sheet-is}
 use Rattle.complement.proofs.Answers.{room-enough, refused, written}
 use Rattle.complement.proofs.complement_open.Statement.{statement}

@@ -1,7 +1,7 @@
 -- The marking, 6, or what firing the mode's arcs gives.
 use borrow.Author.Needs.{needs}
 use Rattle.opened.proofs.Segments.{segment-own}
-use Rattle.firing.proofs.ByMode.{at-mode, mode-refusal}
+use Rattle.fire.proofs.firing.ByMode.{at-mode, mode-refusal}
 use Rattle.leaving.proofs.Leaving.{leaves-stops, leaves-goes-on}
 use Rattle.fire.proofs.Opened.{is-there}
 use Rattle.fire.proofs.fire_open.Statement.{statement}

@@ -2,7 +2,7 @@
 use borrow.Author.Needs.{needs}
 use Rattle.model.proofs.Refusals.{answer-stops, answer-goes-on}
 use Rattle.opened.proofs.Segments.{segment-own}
-use Rattle.firing.proofs.ByMode.{at-mode, mode-refusal}
+use Rattle.fire.proofs.firing.ByMode.{at-mode, mode-refusal}
 use Rattle.fire.proofs.Opened.{is-there}
 use Rattle.fire.proofs.test_open.Statement.{statement}
 use Rattle.fire.proofs.test_open.Tie as tie

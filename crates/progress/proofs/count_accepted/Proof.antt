@@ -31,8 +31,8 @@ add-visited c =
     let few = l .before .before .before .before .before .pre .1 .1 .0 in
     omega (arith, l .loop .inv .1 .few, c .before .before .before .loop-test .taken, c .before .tried-arcs .ensures .few, few)
 
-step-requires : tie.Need-step-requires Inv-loop μ-loop
-step-requires c κs =
+try-movement-requires : tie.Need-try-movement-requires Inv-loop μ-loop
+try-movement-requires c κs =
     let tried = c .before .before in
     let l = tried .before .before .before in
     (l .before .before .before .before .before .pre .0 .numbered, (tries-own (tried .tried-arcs .ensures), l .loop .inv .1 .marking))
@@ -41,21 +41,21 @@ same-length : tie.Need-same-length Inv-loop μ-loop
 same-length c =
     let done = c .before .before .before in
     let l = done .before .before .before .before .before .before in
-    done .step .kept .1 .1 .1 .1 .0 ∙ l .loop .inv .1 .marking .oneEach ∙ sym (l .before .before .before .before .before .pre .1 .1 .1 .oneEach)
+    done .try-movement .kept .1 .1 .1 .1 .0 ∙ l .loop .inv .1 .marking .oneEach ∙ sym (l .before .before .before .before .before .pre .1 .1 .1 .oneEach)
 
 returns : tie.Need-returns Inv-loop μ-loop
 returns c =
     let done = c .before .before .before in
     let tried = done .before .before .before in
     let read = tried .before in
-    along-stops (read .before .before .loop .inv .1) (read .before .loop-test .taken) (read .mode-at .ensures) (tried .tried-arcs .ensures) (done .step .ensures) (omega arith) (omega arith) (not-true _ (c .if1 .taken))
+    along-stops (read .before .before .loop .inv .1) (read .before .loop-test .taken) (read .mode-at .ensures) (tried .tried-arcs .ensures) (done .try-movement .ensures) (omega arith) (omega arith) (not-true _ (c .if1 .taken))
 
 loop-again : tie.Need-loop-again Inv-loop μ-loop
 loop-again c =
     let done = c .before .before .before in
     let tried = done .before .before .before in
     let read = tried .before in
-    (search needs, along-more (read .before .before .loop .inv .1) (read .before .loop-test .taken) (read .mode-at .ensures) (tried .tried-arcs .ensures) (done .step .ensures) (omega arith) (not-false _ (c .if1 .left)))
+    (search needs, along-more (read .before .before .loop .inv .1) (read .before .loop-test .taken) (read .mode-at .ensures) (tried .tried-arcs .ensures) (done .try-movement .ensures) (omega arith) (not-false _ (c .if1 .left)))
 
 same-length-2 : tie.Need-same-length-2 Inv-loop μ-loop
 same-length-2 c = c .before .loop .inv .1 .marking .oneEach ∙ sym (c .before .before .before .before .before .before .pre .1 .1 .1 .oneEach)
@@ -73,7 +73,7 @@ count-accepted-spec =
     (λ c κs. search needs)
     tried-arcs-requires
     add-visited
-    step-requires
+    try-movement-requires
     same-length
     returns
     (λ c. search needs)

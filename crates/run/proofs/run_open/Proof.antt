@@ -1,7 +1,7 @@
 -- The movement sheet, the marking, or the run.
 use borrow.Author.Needs.{needs}
 use Rattle.model.proofs.First.{left-none, none-then}
-use Rattle.model.proofs.Markings.{marking-test}
+use Rattle.movement.proofs.Markings.{marking-test}
 use Rattle.model.proofs.Refusals.{answer-none, answer-stops, answer-goes-on}
 use Rattle.sheets.specs.Whole.{wholeMovements}
 use Rattle.run.proofs.Reporting.{begins-refused, begins-run}

@@ -49,10 +49,10 @@ use Rattle.model.proofs.Answer as N
 use Rattle.model.proofs.Answer.Laws as N′
 use Rattle.answers.proofs.Answered as S
 use Rattle.answers.proofs.Answered.Laws as S′
-use Rattle.fleet.proofs.add_ship as adds
-use Rattle.fleet.proofs.add_ship.Symbol as add-def
-use Rattle.fleet.proofs.add_ship.Symbol.{name as #fleet·add-ship}
-use Rattle.fleet.proofs.add_ship.Met as add-thm
+use Rattle.statement.proofs.fleet.add_ship as adds
+use Rattle.statement.proofs.fleet.add_ship.Symbol as add-def
+use Rattle.statement.proofs.fleet.add_ship.Symbol.{name as #fleet·add-ship}
+use Rattle.statement.proofs.fleet.add_ship.Met as add-thm
 use Rattle.answers.proofs.tell as tell
 use Rattle.answers.proofs.tell.Symbol as tell-def
 use Rattle.answers.proofs.tell.Symbol.{name as #answers·tell}
@@ -178,5 +178,5 @@ pnet-fleet-add-spec 𝓤 H 𝓜 𝓖 𝓡 =
     entered 𝓤 H (tripleOf 𝓤 H (𝓖 .A) f.signature (f.spec 𝓤 H (𝓖 .A) (𝓜 .mem) (𝓡 .run)))
     (tables 𝓤 H 𝓜 𝓡 code.env .C) (tables 𝓤 H 𝓜 𝓡 code.env .Λ) #abi·pnet-fleet-add code.function (code.unfolded 𝓤 H 𝓜 𝓡)
     (pnet-fleet-add-meets 𝓤 H (𝓖 .A) (givenOf 𝓤 H 𝓜 𝓖) (𝓜 .mem) (𝓡 .run) (tablesOf 𝓤 H 𝓜 (tables 𝓤 H 𝓜 𝓡 code.env))
-    (cited 𝓤 H (Add 𝓤 H (𝓖 .A) (𝓜 .mem) (𝓡 .run)) 𝓜 𝓡 code.env #fleet·add-ship add-def.routine code.calls-fleet·add-ship (add-thm.met 𝓤 H 𝓜 𝓖 𝓡))
+    (cited 𝓤 H (Add 𝓤 H (𝓖 .A) (𝓜 .mem) (𝓡 .run)) 𝓜 𝓡 code.env #fleet·add-ship add-def.routine code.calls-statement·fleet·add-ship (add-thm.met 𝓤 H 𝓜 𝓖 𝓡))
     (cited 𝓤 H (Tell 𝓤 H (𝓖 .A) (𝓜 .mem) (𝓡 .run)) 𝓜 𝓡 code.env #answers·tell tell-def.routine code.calls-answers·tell (tell-thm.met 𝓤 H 𝓜 𝓖 𝓡)))

@@ -1,7 +1,7 @@
 -- A sheet that is accepted has its head.
 use borrow.Author.Needs.{needs}
 use Rattle.model.proofs.Refusals.{answer-none}
-use Rattle.sheets.proofs.Lists.{movements-headed}
+use Rattle.sheets.proofs.Listed.{movements-headed}
 use Rattle.abi.proofs.reading.pnet_read_movements.Statement.{statement}
 use Rattle.abi.proofs.reading.pnet_read_movements.Tie as tie
 

@@ -1,7 +1,7 @@
 -- A sheet that is accepted has its head.
 use borrow.Author.Needs.{needs}
 use Rattle.model.proofs.Refusals.{answer-none}
-use Rattle.nets.proofs.Valid.{headed}
+use Rattle.sheets.proofs.nets.Valid.{headed}
 use Rattle.abi.proofs.reading.pnet_read_net.Statement.{statement}
 use Rattle.abi.proofs.reading.pnet_read_net.Tie as tie
 

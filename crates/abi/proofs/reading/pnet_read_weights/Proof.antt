@@ -1,7 +1,7 @@
 -- A sheet that is accepted has its head.
 use borrow.Author.Needs.{needs}
 use Rattle.model.proofs.Refusals.{answer-none}
-use Rattle.sheets.proofs.Lists.{weights-headed}
+use Rattle.sheets.proofs.Listed.{weights-headed}
 use Rattle.abi.proofs.reading.pnet_read_weights.Statement.{statement}
 use Rattle.abi.proofs.reading.pnet_read_weights.Tie as tie
 

@@ -4,7 +4,7 @@ use borrow.Author.Tests.{not-true, not-false}
 use mathlib.Core.Path.{refl, sym, _∙_, ap}
 use mathlib.Core.Bool.{not}
 use Rattle.model.proofs.Refusals.{answer-last-passes, answer-last-fails}
-use Rattle.sections.proofs.Read.{inhibits-is}
+use Rattle.complement.proofs.sections.Read.{inhibits-is}
 use Rattle.complement.proofs.refusals.arc_answer.Statement.{statement}
 use Rattle.complement.proofs.refusals.arc_answer.Tie as tie
 

@@ -4,7 +4,7 @@ use mathlib.Core.Path.{refl}
 use native.Mathlib.Omega.{arith}
 use Rattle.opened.proofs.Shapes.{sizes}
 use Rattle.halves.proofs.Below.{entry-few, entries-rise, pair-count}
-use Rattle.sections.proofs.PlaceHalves.{place-count}
+use Rattle.complement.proofs.sections.PlaceHalves.{place-count}
 use Rattle.complement.proofs.sheet.complement_sizes.Statement.{statement}
 use Rattle.complement.proofs.sheet.complement_sizes.Tie as tie
 

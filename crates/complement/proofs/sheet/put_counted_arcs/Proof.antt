@@ -3,11 +3,11 @@ use borrow.Author.Needs.{needs}
 use mathlib.Core.Path.{refl, sym}
 use lib.ListN.{length}
 use native.Mathlib.Omega.{arith}
-use Rattle.model.specs.Complement.{complement}
+use Rattle.second_form.specs.Complement.{complement}
 use Rattle.sheets.specs.Decoded.{netOf}
-use Rattle.written.proofs.Puts.{put-length, puts-as, puts-before}
-use Rattle.written.proofs.Versions.{total-length}
-use Rattle.sections.proofs.Fields.{ends-as}
+use Rattle.sheets.proofs.written.Puts.{put-length, puts-as, puts-before}
+use Rattle.sheets.proofs.written.Versions.{total-length}
+use Rattle.complement.proofs.sections.Fields.{ends-as}
 use Rattle.complement.proofs.SheetParts.{arc-parts}
 use Rattle.complement.proofs.Last.{rows-room, total-room, total-is, total-few}
 use Rattle.complement.proofs.sheet.put_counted_arcs.Statement.{statement}

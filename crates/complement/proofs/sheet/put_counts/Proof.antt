@@ -4,10 +4,10 @@ use Prim.Native.Nat.{_-_}
 use mathlib.Core.Path.{_≡_, sym, ap, ap₂}
 use native.Mathlib.Omega.{arith}
 use Rattle.model.specs.Nets.{ruleNumber}
-use Rattle.model.specs.Complement.{complement}
+use Rattle.second_form.specs.Complement.{complement}
 use Rattle.sheets.specs.Decoded.{netOf}
-use Rattle.written.specs.Written.{bytes16, headBytes, lengthOf}
-use Rattle.written.proofs.Puts.{put-length, room-as, puts-as, count-fits, room-first, room-next, puts-both}
+use Rattle.sheets.specs.written.Written.{bytes16, headBytes, lengthOf}
+use Rattle.sheets.proofs.written.Puts.{put-length, room-as, puts-as, count-fits, room-first, room-next, puts-both}
 use Rattle.opened.proofs.Shapes.{sizes}
 use Rattle.complement.proofs.SheetParts.{transitions-are, length-is, rule-is}
 use Rattle.complement.proofs.sheet.put_counts.Statement.{statement}

@@ -1,6 +1,6 @@
 -- Places, modes and pairs.
 use borrow.Author.Needs.{needs}
-use Rattle.written.proofs.Puts.{room-first, room-next, puts-both}
+use Rattle.sheets.proofs.written.Puts.{room-first, room-next, puts-both}
 use Rattle.complement.proofs.sheet.put_records.Statement.{statement}
 use Rattle.complement.proofs.sheet.put_records.Tie as tie
 

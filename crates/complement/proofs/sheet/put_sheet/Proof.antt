@@ -2,10 +2,10 @@
 use borrow.Author.Needs.{needs}
 use mathlib.Core.Path.{refl, sym}
 use native.Mathlib.Omega.{arith}
-use Rattle.model.specs.Complement.{complement}
+use Rattle.second_form.specs.Complement.{complement}
 use Rattle.sheets.specs.Decoded.{netOf}
-use Rattle.written.proofs.Puts.{put-length, puts-as, room-first, room-next, puts-both, puts-before}
-use Rattle.sections.proofs.Fields.{ends-as}
+use Rattle.sheets.proofs.written.Puts.{put-length, puts-as, room-first, room-next, puts-both, puts-before}
+use Rattle.complement.proofs.sections.Fields.{ends-as}
 use Rattle.complement.proofs.SheetParts.{sheet-parts, sheet-few, counts-size}
 use Rattle.complement.proofs.Last.{rest-room, counts-room, ends-sheet}
 use Rattle.complement.proofs.sheet.put_sheet.Statement.{statement}

@@ -1,9 +1,9 @@
 -- The fields of the arc that was read, one after the other.
 use borrow.Author.Needs.{needs}
 use mathlib.Core.List.{flatten}
-use Rattle.written.specs.Written.{tailBytes, arcBytes}
-use Rattle.written.proofs.Puts.{nothing, puts}
-use Rattle.written.proofs.Records.{number-bound}
+use Rattle.sheets.specs.written.Written.{tailBytes, arcBytes}
+use Rattle.sheets.proofs.written.Puts.{nothing, puts}
+use Rattle.sheets.proofs.written.Records.{number-bound}
 use Rattle.convert.proofs.arcs.put_arc.Statement.{statement}
 use Rattle.convert.proofs.arcs.put_arc.Tie as tie
 

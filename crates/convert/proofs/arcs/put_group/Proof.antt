@@ -3,9 +3,9 @@ use borrow.Author.Needs.{needs}
 use mathlib.Core.Path.{sym, ap}
 use native.Mathlib.Omega.{arith}
 use Rattle.opened.proofs.Shapes.{sizes}
-use Rattle.written.specs.Written.{ownBytes}
-use Rattle.written.proofs.Puts.{room-as, puts-as, put-length, room-first, room-next, puts-both}
-use Rattle.written.proofs.Versions.{own-length}
+use Rattle.sheets.specs.written.Written.{ownBytes}
+use Rattle.sheets.proofs.written.Puts.{room-as, puts-as, put-length, room-first, room-next, puts-both}
+use Rattle.sheets.proofs.written.Versions.{own-length}
 use Rattle.convert.proofs.Segments.{segment-count}
 use Rattle.convert.proofs.arcs.put_group.Statement.{statement}
 use Rattle.convert.proofs.arcs.put_group.Tie as tie

@@ -6,8 +6,8 @@ use native.Mathlib.Omega.{arith}
 use Rattle.model.specs.Lists.{joined}
 use Rattle.sheets.specs.Decoded.{netOf}
 use Rattle.opened.proofs.Shapes.{sizes}
-use Rattle.written.specs.Puts.{Puts}
-use Rattle.written.proofs.Puts.{room-as, puts-as, puts-none, room-more, puts-more, puts-end}
+use Rattle.sheets.specs.written.Puts.{Puts}
+use Rattle.sheets.proofs.written.Puts.{room-as, puts-as, puts-none, room-more, puts-more, puts-end}
 use Rattle.convert.specs.Parts.{modeGroup}
 use Rattle.convert.proofs.arcs.put_groups.Statement.{statement}
 use Rattle.convert.proofs.arcs.put_groups.Tie as tie

@@ -4,8 +4,8 @@ use Prim.Native.Nat.{_≤_, _-_, _+_}
 use mathlib.Core.Path.{sym}
 use Rattle.model.specs.Lists.{joined}
 use Rattle.sheets.specs.Decoded.{netOf}
-use Rattle.written.specs.Puts.{Puts}
-use Rattle.written.proofs.Puts.{put-length, room-as, puts-as, arc-fits, puts-none, room-more, puts-more, puts-end}
+use Rattle.sheets.specs.written.Puts.{Puts}
+use Rattle.sheets.proofs.written.Puts.{put-length, room-as, puts-as, arc-fits, puts-none, room-more, puts-more, puts-end}
 use Rattle.convert.specs.Parts.{arcNoBytes}
 use Rattle.convert.proofs.Segments.{segment-bytes}
 use Rattle.convert.proofs.arcs.put_mode_arcs.Statement.{statement}

@@ -2,10 +2,10 @@
 use borrow.Author.Needs.{needs}
 use mathlib.Core.Path.{sym, _∙_, ap}
 use native.Mathlib.Omega.{arith}
-use Rattle.nets.proofs.Valid.{headed}
+use Rattle.sheets.proofs.nets.Valid.{headed}
 use Rattle.opened.proofs.Shapes.{sizes}
-use Rattle.written.specs.Puts.{partOf}
-use Rattle.written.proofs.Puts.{room-as, puts-as}
+use Rattle.sheets.specs.written.Puts.{partOf}
+use Rattle.sheets.proofs.written.Puts.{room-as, puts-as}
 use Rattle.convert.proofs.Parts.{commonSize, common-there, common-is}
 use Rattle.convert.proofs.sheet.put_common.Statement.{statement}
 use Rattle.convert.proofs.sheet.put_common.Tie as tie

@@ -3,7 +3,7 @@ use borrow.Author.Needs.{needs}
 use mathlib.Core.Path.{sym}
 use native.Mathlib.Omega.{arith}
 use Rattle.opened.proofs.Shapes.{sizes}
-use Rattle.written.proofs.Puts.{room-as, puts-as, room-first, room-next, puts-both}
+use Rattle.sheets.proofs.written.Puts.{room-as, puts-as, room-first, room-next, puts-both}
 use Rattle.convert.proofs.Parts.{section-parts}
 use Rattle.convert.proofs.sheet.put_section.Statement.{statement}
 use Rattle.convert.proofs.sheet.put_section.Tie as tie

@@ -2,8 +2,8 @@
 use borrow.Author.Needs.{needs}
 use mathlib.Core.Path.{sym, ap₂}
 use native.Mathlib.Omega.{arith}
-use Rattle.written.specs.Written.{headBytes}
-use Rattle.written.proofs.Puts.{room-as, puts-as, room-first, room-next, puts-both}
+use Rattle.sheets.specs.written.Written.{headBytes}
+use Rattle.sheets.proofs.written.Puts.{room-as, puts-as, room-first, room-next, puts-both}
 use Rattle.convert.proofs.Parts.{sheet-parts, rule-is, length-is, size-small}
 use Rattle.convert.proofs.sheet.put_sheet.Statement.{statement}
 use Rattle.convert.proofs.sheet.put_sheet.Tie as tie

@@ -1,7 +1,7 @@
 -- A finite I.
 use borrow.Author.Needs.{needs}
 use mathlib.Core.Path.{sym, _∙_, ap}
-use Rattle.model.specs.Complement.{finite}
+use Rattle.second_form.specs.Complement.{finite}
 use Rattle.model.proofs.Refusals.{answer-last-passes, answer-last-fails}
 use Rattle.export.proofs.bounds.inhibitor_answer.Statement.{statement}
 use Rattle.export.proofs.bounds.inhibitor_answer.Tie as tie

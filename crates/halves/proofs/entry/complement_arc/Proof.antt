@@ -5,7 +5,7 @@ use Prim.Native.Nat.{_≤_}
 use mathlib.Core.Path.{refl, sym, _∙_}
 use native.Mathlib.Omega.{arith}
 use Rattle.model.specs.Numbers.{limit}
-use Rattle.model.proofs.ComplementRow.{claim-within, claimed, reserve-within}
+use Rattle.second_form.proofs.ComplementRow.{claim-within, claimed, reserve-within}
 use Rattle.fields.specs.Numbers.{unbounded}
 use Rattle.fields.proofs.Bounds.{bound-unbounded}
 use Rattle.fields.proofs.BoundNumbers.{finite-is, unbounded-is}

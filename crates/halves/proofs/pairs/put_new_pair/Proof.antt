@@ -3,7 +3,7 @@ use borrow.Author.Needs.{needs}
 use borrow.Author.Tests.{not-true, not-false}
 use mathlib.Core.Path.{sym, _∙_}
 use native.Mathlib.Omega.{arith}
-use Rattle.written.proofs.Puts.{nothing, put-length, room-as, puts-as, pair-fits}
+use Rattle.sheets.proofs.written.Puts.{nothing, put-length, room-as, puts-as, pair-fits}
 use Rattle.fields.proofs.BoundNumbers.{finite-is, unbounded-is}
 use Rattle.halves.proofs.PairHalves.{start-within, new-pair}
 use Rattle.halves.proofs.pairs.put_new_pair.Statement.{statement}

@@ -2,8 +2,8 @@
 use mathlib.Core.Path.{_∙_}
 use mathlib.Core.List.{flatten}
 use native.Mathlib.Omega.{arith}
-use Rattle.written.specs.Written.{modeBytes, tailBytes, arcBytes}
-use Rattle.written.proofs.Puts.{nothing, puts}
+use Rattle.sheets.specs.written.Written.{modeBytes, tailBytes, arcBytes}
+use Rattle.sheets.proofs.written.Puts.{nothing, puts}
 use Rattle.import.proofs.arcs.put_arc.Statement.{statement}
 use Rattle.import.proofs.arcs.put_arc.Tie as tie
 

@@ -1,6 +1,6 @@
 -- One line, by its kind.
 use native.Mathlib.Omega.{arith}
-use Rattle.scan.proofs.Onward.{step-as, arc-small}
+use Rattle.import.proofs.scan.Onward.{step-as, arc-small}
 use Rattle.import.proofs.LineWrites.{post-room, begun-wrote, pre-wrote, post-wrote, place-wrote, close-wrote, stop-wrote}
 use Rattle.import.proofs.arcs.write_line.Statement.{statement}
 use Rattle.import.proofs.arcs.write_line.Tie as tie

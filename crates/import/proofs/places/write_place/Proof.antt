@@ -1,6 +1,6 @@
 -- One place; what is none leaves nothing.
 use native.Mathlib.Omega.{arith}
-use Rattle.scan.proofs.Onward.{step-as}
+use Rattle.import.proofs.scan.Onward.{step-as}
 use Rattle.import.proofs.LineWrites.{placed, begun-placed, pre-placed, post-placed, close-placed, stop-placed}
 use Rattle.import.proofs.places.write_place.Statement.{statement}
 use Rattle.import.proofs.places.write_place.Tie as tie

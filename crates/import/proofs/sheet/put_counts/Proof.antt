@@ -1,6 +1,6 @@
 -- Four parts in turn.
 use native.Mathlib.Omega.{arith}
-use Rattle.written.proofs.Puts.{put-length, count-fits, room-first, room-next, puts-both}
+use Rattle.sheets.proofs.written.Puts.{put-length, count-fits, room-first, room-next, puts-both}
 use Rattle.import.proofs.sheet.put_counts.Statement.{statement}
 use Rattle.import.proofs.sheet.put_counts.Tie as tie
 

@@ -2,8 +2,8 @@
 use borrow.Author.Needs.{needs}
 use Prim.Native.Nat.{_≤_, _-_}
 use native.Mathlib.Omega.{arith}
-use Rattle.written.specs.Puts.{Puts}
-use Rattle.written.proofs.Puts.{puts-none, room-more, puts-more, puts-end, put-length, count-fits}
+use Rattle.sheets.specs.written.Puts.{Puts}
+use Rattle.sheets.proofs.written.Puts.{puts-none, room-more, puts-more, puts-end, put-length, count-fits}
 use Rattle.import.specs.Parts.{onesBytes}
 use Rattle.import.proofs.sheet.put_ones.Statement.{statement}
 use Rattle.import.proofs.sheet.put_ones.Tie as tie

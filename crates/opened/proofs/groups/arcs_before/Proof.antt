@@ -3,7 +3,7 @@ use borrow.Author.Needs.{needs}
 use Prim.Native.Nat.{_≤_, _-_}
 use mathlib.Core.Path.{_≡_}
 use native.Mathlib.Omega.{arith}
-use Rattle.nets.proofs.GroupsRead.{before-none}
+use Rattle.sheets.proofs.nets.GroupsRead.{before-none}
 use Rattle.opened.specs.Shape.{Before}
 use Rattle.opened.proofs.groups.arcs_before.Statement.{statement}
 use Rattle.opened.proofs.groups.arcs_before.Tie as tie

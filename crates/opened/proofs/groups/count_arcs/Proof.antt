@@ -2,7 +2,7 @@
 use mathlib.Core.Path.{sym, _∙_, ap}
 use native.Mathlib.Omega.{arith}
 use Rattle.heads.specs.Bytes.{u16At}
-use Rattle.nets.proofs.Valid.{headed}
+use Rattle.sheets.proofs.nets.Valid.{headed}
 use Rattle.opened.proofs.Versions.{count-there, count-one, count-two}
 use Rattle.opened.proofs.groups.count_arcs.Statement.{statement}
 use Rattle.opened.proofs.groups.count_arcs.Tie as tie

@@ -1,7 +1,7 @@
 -- A movement sheet's modes stand from its first field on.
 use mathlib.Core.Path.{sym, _∙_}
 use native.Mathlib.Omega.{arith}
-use Rattle.sheets.proofs.Lists.{movements-length, movement-is, movements-stand}
+use Rattle.sheets.proofs.Listed.{movements-length, movement-is, movements-stand}
 use Rattle.opened.proofs.listed.movement.Statement.{statement}
 use Rattle.opened.proofs.listed.movement.Tie as tie
 

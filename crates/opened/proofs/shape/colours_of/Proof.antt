@@ -2,7 +2,7 @@
 use Prim.Native.Nat.{_+_, _*_, _≤_}
 use lib.ListN.{length}
 use native.Mathlib.Omega.{arith}
-use Rattle.nets.proofs.Valid.{headed}
+use Rattle.sheets.proofs.nets.Valid.{headed}
 use Rattle.opened.proofs.Shapes.{place-there, colours-read}
 use Rattle.opened.proofs.shape.colours_of.Statement.{statement}
 use Rattle.opened.proofs.shape.colours_of.Tie as tie

@@ -2,7 +2,7 @@
 use mathlib.Core.Path.{sym, _∙_}
 use native.Mathlib.Omega.{arith}
 use Rattle.heads.proofs.Heads.{fields-at-most}
-use Rattle.nets.proofs.Valid.{headed, counts-hold}
+use Rattle.sheets.proofs.nets.Valid.{headed, counts-hold}
 use Rattle.sheets.proofs.Meaning.{rule-is}
 use Rattle.opened.proofs.Shapes.{shape-is}
 use Rattle.opened.proofs.shape.shape_of.Statement.{statement}

@@ -2,7 +2,7 @@
 use borrow.Author.Needs.{needs}
 use mathlib.Core.Path.{sym}
 use lib.Seq.{length-take-le}
-use Rattle.model.specs.Runs.{certificateRefusal}
+use Rattle.movement.specs.Runs.{certificateRefusal}
 use Rattle.model.proofs.Refusals.{answer-passes, answer-fails}
 use Rattle.opened.proofs.Shapes.{sizes}
 use Rattle.fire.proofs.Opened.{one-each, not-one-each}

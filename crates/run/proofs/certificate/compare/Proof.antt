@@ -5,7 +5,7 @@ use mathlib.Core.Path.{_≡_}
 use mathlib.Core.Option.{none}
 use Rattle.model.specs.First.{first}
 use Rattle.model.proofs.Refusals.{answer-first-at, answer-first-end, answer-first-more}
-use Rattle.model.specs.Runs.{elsewhere}
+use Rattle.movement.specs.Runs.{elsewhere}
 use Rattle.run.proofs.certificate.compare.Statement.{statement}
 use Rattle.run.proofs.certificate.compare.Tie as tie
 

@@ -1,7 +1,7 @@
 -- The test as the definition has it.
 use borrow.Author.Needs.{needs}
 use borrow.Author.Tests.{eq-eqb, ne-eqb}
-use Rattle.model.specs.Runs.{elsewhere}
+use Rattle.movement.specs.Runs.{elsewhere}
 use Rattle.run.proofs.certificate.pair_answer.Statement.{statement}
 use Rattle.run.proofs.certificate.pair_answer.Tie as tie
 

@@ -2,7 +2,7 @@
 use borrow.Author.Needs.{needs}
 use Rattle.model.proofs.Refusals.{answer-stops, answer-goes-on}
 use Rattle.opened.proofs.Segments.{segment-own}
-use Rattle.firing.proofs.ByMode.{mode-refusal}
+use Rattle.fire.proofs.firing.ByMode.{mode-refusal}
 use Rattle.fire.proofs.Opened.{is-there}
 use Rattle.run.proofs.movements.refusal_of.Statement.{statement}
 use Rattle.run.proofs.movements.refusal_of.Tie as tie

@@ -1,6 +1,6 @@
 -- The sheet's modes are those that stand from its first field on.
 use borrow.Author.Needs.{needs}
-use Rattle.sheets.proofs.Lists.{movements-are, movements-headed, movements-length, movements-stand, movements-within}
+use Rattle.sheets.proofs.Listed.{movements-are, movements-headed, movements-length, movements-stand, movements-within}
 use Rattle.run.proofs.movements.run_listed.Statement.{statement}
 use Rattle.run.proofs.movements.run_listed.Tie as tie
 

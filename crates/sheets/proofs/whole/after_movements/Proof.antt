@@ -1,7 +1,7 @@
 -- The part after the sheet, by its answer.
 use borrow.Author.Needs.{needs}
 use Rattle.model.proofs.Refusals.{answer-none}
-use Rattle.sheets.proofs.Lists.{movements-headed}
+use Rattle.sheets.proofs.Listed.{movements-headed}
 use Rattle.sheets.proofs.whole.after_movements.Statement.{statement}
 use Rattle.sheets.proofs.whole.after_movements.Tie as tie
 

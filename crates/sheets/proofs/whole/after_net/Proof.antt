@@ -1,7 +1,7 @@
 -- The part after the sheet, by its answer.
 use borrow.Author.Needs.{needs}
 use Rattle.model.proofs.Refusals.{answer-none}
-use Rattle.nets.proofs.Valid.{headed}
+use Rattle.sheets.proofs.nets.Valid.{headed}
 use Rattle.sheets.proofs.whole.after_net.Statement.{statement}
 use Rattle.sheets.proofs.whole.after_net.Tie as tie
 

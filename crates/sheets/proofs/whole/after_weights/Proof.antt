@@ -1,7 +1,7 @@
 -- The part after the sheet, by its answer.
 use borrow.Author.Needs.{needs}
 use Rattle.model.proofs.Refusals.{answer-none}
-use Rattle.sheets.proofs.Lists.{weights-headed}
+use Rattle.sheets.proofs.Listed.{weights-headed}
 use Rattle.sheets.proofs.whole.after_weights.Statement.{statement}
 use Rattle.sheets.proofs.whole.after_weights.Tie as tie
 

@@ -2,7 +2,7 @@
 use borrow.Author.Needs.{needs}
 use Rattle.model.proofs.Refusals.{answer-none, answer-stops, answer-goes-on}
 use Rattle.sheets.specs.Whole.{wholeMovements}
-use Rattle.sheets.proofs.Lists.{movements-headed}
+use Rattle.sheets.proofs.Listed.{movements-headed}
 use Rattle.sheets.proofs.whole.whole_movements.Statement.{statement}
 use Rattle.sheets.proofs.whole.whole_movements.Tie as tie
 

@@ -2,7 +2,7 @@
 use borrow.Author.Needs.{needs}
 use Rattle.model.proofs.Refusals.{answer-none, answer-stops, answer-goes-on}
 use Rattle.sheets.specs.Whole.{wholeNet}
-use Rattle.nets.proofs.Valid.{headed}
+use Rattle.sheets.proofs.nets.Valid.{headed}
 use Rattle.sheets.proofs.whole.whole_net.Statement.{statement}
 use Rattle.sheets.proofs.whole.whole_net.Tie as tie
 

@@ -2,7 +2,7 @@
 use borrow.Author.Needs.{needs}
 use Rattle.model.proofs.Refusals.{answer-none, answer-stops, answer-goes-on}
 use Rattle.sheets.specs.Whole.{wholeWeights}
-use Rattle.sheets.proofs.Lists.{weights-headed}
+use Rattle.sheets.proofs.Listed.{weights-headed}
 use Rattle.sheets.proofs.whole.whole_weights.Statement.{statement}
 use Rattle.sheets.proofs.whole.whole_weights.Tie as tie
 

@@ -1,7 +1,7 @@
 -- The net sheet, or what stands in the part after it.
 use borrow.Author.Needs.{needs}
 use Rattle.model.proofs.Refusals.{answer-none}
-use Rattle.nets.proofs.Valid.{headed}
+use Rattle.sheets.proofs.nets.Valid.{headed}
 use Rattle.statement.specs.Replay.{sheetsText}
 use Rattle.statement.proofs.Texts.{bad-told, text-told}
 use Rattle.statement.proofs.input.put_sheets.Statement.{statement}

@@ -1,7 +1,7 @@
 -- The weight sheet, or what stands in the part after it.
 use borrow.Author.Needs.{needs}
 use Rattle.model.proofs.Refusals.{answer-none}
-use Rattle.sheets.proofs.Lists.{weights-headed}
+use Rattle.sheets.proofs.Listed.{weights-headed}
 use Rattle.opened.proofs.Shapes.{sizes}
 use Rattle.statement.specs.Replay.{weightsText}
 use Rattle.statement.proofs.Texts.{bad-told, text-told}

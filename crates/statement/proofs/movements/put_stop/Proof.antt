@@ -2,7 +2,7 @@
 use borrow.Author.Needs.{needs}
 use native.Mathlib.Omega.{arith}
 use mir.Facts.{toZ-ofZ}
-use Rattle.sheets.proofs.Lists.{movements-within}
+use Rattle.sheets.proofs.Listed.{movements-within}
 use Rattle.writes.proofs.Writing.{_and_}
 use Rattle.statement.proofs.movements.put_stop.Statement.{statement}
 use Rattle.statement.proofs.movements.put_stop.Tie as tie

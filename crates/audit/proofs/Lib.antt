@@ -1,5 +1,0 @@
-pub mod Excesses
-pub mod Searches
-pub mod OneEach
-pub mod Answers
-pub mod Promises

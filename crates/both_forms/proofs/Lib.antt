@@ -1,0 +1,11 @@
+pub mod WorkedExamples
+pub mod WeakExamples
+pub mod Edges
+pub mod ArcByArc
+pub mod Steps
+pub mod CorrespondingSteps
+pub mod Orders
+pub mod ApartInBoth
+pub mod OutOfStep
+pub mod OutOfStepMoves
+pub mod Visits

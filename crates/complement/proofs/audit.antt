@@ -1,0 +1,5 @@
+mod Excesses
+mod Searches
+mod OneEach
+pub mod Answers
+pub mod Promises

@@ -1,0 +1,4 @@
+mod ByMode
+mod Parts
+mod Answers
+pub mod Promises

@@ -1,0 +1,32 @@
+-- The net's refusals, then those of an open net.
+use borrow.Author.Needs.{needs}
+use mathlib.Core.Path.{refl}
+use Rattle.model.proofs.First.{none-then, some-then}
+use Rattle.opened.proofs.Opening.{opened-refused, opened-shape, opens}
+use Rattle.convert.specs.strip.Stripped.{strippingRefusal}
+use Rattle.convert.proofs.strip.Answers.{refused}
+use Rattle.convert.proofs.strip.strip.Statement.{statement}
+use Rattle.convert.proofs.strip.strip.Tie as tie
+
+strip-open-requires : tie.Need-strip-open-requires
+strip-open-requires c κs = opens _ (c .before .before .before .before .open-net .ensures) (c .before .before .opened2 .given .1)
+
+returns : tie.Need-returns
+unfolding strippingRefusal
+returns c = refused _ _ _ (some-then _ (opened-refused _ _ (c .before .before .before .open-net .ensures) (c .before .opened .given .1)))
+
+returns-2 : tie.Need-returns-2
+unfolding strippingRefusal
+returns-2 c = rw (none-then (opened-shape _ _ (c .before .before .before .before .before .before .before .open-net .ensures) (c .before .before .before .before .before .opened2 .given .1) .0) refl) (c .before .before .strip-open .ensures)
+
+pub strip-spec : {M : Type 1} → statement M
+strip-spec =
+    tie.close
+    (tie.spec
+    (λ c κs. search needs)
+    (λ c. search needs)
+    (λ c. search needs)
+    strip-open-requires
+    returns
+    (λ c. search needs)
+    returns-2)

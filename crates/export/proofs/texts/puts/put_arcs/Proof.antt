@@ -1,0 +1,49 @@
+-- The arcs passed are put.
+use borrow.Author.Needs.{needs}
+use Prim.Native.Nat.{_+_, _≤_, _-_}
+use mathlib.Core.Path.{sym}
+use Rattle.model.specs.Lists.{joined}
+use Rattle.sheets.specs.Decoded.{netOf}
+use Rattle.sheets.specs.written.Puts.{Puts}
+use Rattle.sheets.proofs.written.Puts.{puts-as, puts-none, puts-more, puts-end}
+use Rattle.export.specs.texts.Parts.{arcNoText}
+use Rattle.export.proofs.texts.Texts.{segment-texts, for-as, for-more}
+use Rattle.export.proofs.texts.puts.put_arcs.Statement.{statement}
+use Rattle.export.proofs.texts.puts.put_arcs.Tie as tie
+
+abbrev Inv-loop : tie.InvT-loop
+Inv-loop s net arcs twos out₀ at count next₀ i₀ out next i = (i ≤ count) × Puts out₀ at (joined i (λ i. arcNoText (netOf s) (arcs .start + i))) out next
+
+abbrev μ-loop : tie.MeasureT-loop
+μ-loop s net arcs twos out₀ at count next₀ i₀ out next i = count - i
+
+put-arc-requires : tie.Need-put-arc-requires Inv-loop μ-loop
+put-arc-requires c κs =
+    let l = c .before .before .loop in
+    let pre = c .before .before .before .before .before .pre in
+    let room = for-more _ (l .i) (l .inv .1) _ (for-as (segment-texts (pre .1 .0)) (pre .1 .1 .1)) (c .before .loop-test .taken) in
+    (pre .0, (search needs, (pre .1 .1 .0, room)))
+
+loop-again : tie.Need-loop-again Inv-loop μ-loop
+loop-again c =
+    let l = c .before .before .before .before .before .loop in
+    (search needs, puts-more _ (l .i) (l .inv .1) (c .before .before .put-arc .ensures))
+
+returns : tie.Need-returns Inv-loop μ-loop
+returns c =
+    let l = c .before .loop in
+    puts-as (sym (segment-texts (c .before .before .before .before .pre .1 .0))) (puts-end _ (l .i) (l .inv .1) _ (l .inv .0) (c .loop-test .left))
+
+pub put-arcs-spec : {M : Type 1} → statement M
+put-arcs-spec =
+    tie.close
+    (tie.spec
+    Inv-loop
+    μ-loop
+    (λ c. (search needs, puts-none _))
+    put-arc-requires
+    (λ c. search needs)
+    (λ c. search needs)
+    loop-again
+    (λ c. c .before .loop .inv .1 .kept)
+    returns)

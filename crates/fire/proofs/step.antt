@@ -1,0 +1,3 @@
+mod Adding
+mod Summing
+mod AtPairs

@@ -1,0 +1,57 @@
+-- Refused by the sums, and nothing is written; or the members have fired at once.
+use borrow.Author.Needs.{needs}
+use mathlib.Core.Path.{refl, sym, _∙_, ap}
+use native.Mathlib.Omega.{arith}
+use Rattle.model.specs.Refusals.{answer}
+use Rattle.opened.proofs.Shapes.{sizes}
+use Rattle.leaving.proofs.Leaving.{leaves-refused, leaves-written}
+use Rattle.fire.proofs.step.Summing.{sums-none, tabled, sums-below, sums-refusal, sums-fired}
+use Rattle.fire.proofs.step.fire_members.Statement.{statement}
+use Rattle.fire.proofs.step.fire_members.Tie as tie
+
+sum-members-requires : tie.Need-sum-members-requires
+sum-members-requires c κs =
+    let start = c .before .before .before .before .before .before in
+    (start .pre .0, (start .pre .1 .1, (sums-none (omega (arith, sizes (start .pre .0))), tabled)))
+
+find-refusal-requires : tie.Need-find-refusal-requires
+find-refusal-requires c κs =
+    let sums = c .before .before .before .before in
+    let start = sums .before .before .before .before .before .before .before in
+    (start .pre .0, (start .pre .1 .0, sums-below (start .args .modes .now) 64 (sizes (start .pre .0) .wellFormed) (start .pre .1 .1 .few) (sums .sum-members .ensures)))
+
+returns : tie.Need-returns
+returns c =
+    let sums = c .before .before .before .before .before .before .before in
+    let a = sums .before .before .before .before .before .before .before .args in
+    let is = ap answer (sums-refusal (a .modes .now) (sums .sum-members .ensures) (a .marking .now)) in
+    leaves-refused _ (c .before .before .find-refusal .ensures ∙ is) (c .enum-told .given .1)
+
+write-pairs-requires : tie.Need-write-pairs-requires
+write-pairs-requires c κs =
+    let sums = c .before .before .before .before .before .before .before .before .before .before .before in
+    let start = sums .before .before .before .before .before .before .before in
+    (start .pre .0, (start .pre .1 .0, sums-below (start .args .modes .now) 64 (sizes (start .pre .0) .wellFormed) (start .pre .1 .1 .few) (sums .sum-members .ensures)))
+
+returns-2 : tie.Need-returns-2
+returns-2 c =
+    let passed = c .before .before .before .before .before .before .before in
+    let sums = passed .before .before .before .before .before .before .before in
+    let a = sums .before .before .before .before .before .before .before .args in
+    let is = ap answer (sums-refusal (a .modes .now) (sums .sum-members .ensures) (a .marking .now)) in
+    leaves-written _ (sym (passed .enum-told2 .given .1) ∙ passed .before .before .find-refusal .ensures ∙ is) refl
+    (c .before .before .write-pairs .ensures ∙ sums-fired (a .modes .now) (sums .sum-members .ensures) (a .marking .now))
+
+pub fire-members-spec : {M : Type 1} → statement M
+fire-members-spec =
+    tie.close
+    (tie.spec
+    sum-members-requires
+    find-refusal-requires
+    (λ c. search needs)
+    (λ c. search needs)
+    returns
+    (λ c. search needs)
+    write-pairs-requires
+    (λ c. search needs)
+    returns-2)

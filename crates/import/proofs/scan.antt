@@ -1,0 +1,5 @@
+mod Heads
+mod Choice
+mod LineKinds
+pub mod Onward
+pub mod Answers

@@ -1,0 +1,11 @@
+pub mod Joined
+pub mod Each
+pub mod Rooms
+pub mod Markings
+pub mod Runs
+pub mod Nets
+pub mod PassBelow
+pub mod ByArcs
+pub mod Integers
+pub mod Figures
+pub mod Exclusion

@@ -1,4 +1,0 @@
-pub mod Names
-pub mod TailsRead
-pub mod GroupsRead
-pub mod Valid

@@ -1,6 +1,0 @@
-// The net sheet: bytes in. A net stays in the bytes that the caller lent; reading tests it once.
-// What the reader answers is said in specs/Nets.antt.
-mod arcs;
-mod groups;
-pub mod net;
-mod tails;

@@ -1,7 +1,0 @@
-pub mod Prefixes
-pub mod Steps
-pub mod Reading
-pub mod Joints
-pub mod Literals
-pub mod Threes
-pub mod Values

@@ -1,5 +1,0 @@
-pub mod Heads
-pub mod Choice
-pub mod LineKinds
-pub mod Onward
-pub mod Answers

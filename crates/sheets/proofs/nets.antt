@@ -1,0 +1,4 @@
+mod Names
+pub mod TailsRead
+pub mod GroupsRead
+pub mod Valid

@@ -1,9 +1,0 @@
--- The contract of the public call, which the source states by this name.
-use Prim.Native.Nat.{ℕ}
-use mathlib.Core.Path.{_≡_}
-use mathlib.Core.List.{List}
-use Rattle.size.specs.declared.Measured.{Measured}
-use Rattle.size.specs.Sizes.{measuredOf}
-
-abbrev pub SizeAllows : List ℕ → Measured → Type 0
-SizeAllows net told = told ≡ measuredOf net

@@ -1,3 +1,0 @@
-pub mod Adding
-pub mod Summing
-pub mod AtPairs

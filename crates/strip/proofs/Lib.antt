@@ -1,4 +1,0 @@
-pub mod ByMode
-pub mod Parts
-pub mod Answers
-pub mod Promises
