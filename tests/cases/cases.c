@@ -37,6 +37,7 @@ static struct told decided(struct pnet_decided got) { return tell(got.answer, go
 static struct told named(struct pnet_named got) { return tell(got.answer, got.found, got.mode.number, got.pair.number); }
 static struct told audited(struct pnet_audited got) { return tell(got.answer, got.found, got.pair.number, got.excess); }
 static struct told ran(struct pnet_ran got) { return tell(got.answer, (int64_t)got.accepted, (int64_t)got.arcs, 0); }
+static struct told sized(struct pnet_sized got) { return tell(got.answer, (int64_t)got.pairs, (int64_t)got.modes, (int64_t)got.arcs); }
 static struct told salvaged(struct pnet_salvaged got) { return tell(got.answer, (int64_t)got.length, (int64_t)got.kept, (int64_t)got.dropped); }
 
 static _Noreturn void stop(const char *why)
@@ -101,6 +102,7 @@ static struct told call_on_sheets(const char *name, const struct lent *l, struct
     if (IS("read_net")) return counted(pnet_read_net(FIRST));
     if (IS("read_weights")) return counted(pnet_read_weights(FIRST, l->number));
     if (IS("read_movements")) return counted(pnet_read_movements(FIRST));
+    if (IS("size")) return sized(pnet_size(FIRST));
     if (IS("change")) return weighed(pnet_change(BOTH, mode));
     if (IS("is_dead")) return decided(pnet_is_dead(FIRST, mode));
     if (IS("first_dead")) return named(pnet_first_dead(FIRST));

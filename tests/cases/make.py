@@ -13,7 +13,8 @@ A list has, each with its lines below it, indented; `#` starts a comment, which 
     case NAME           `call fire, net P1, marking 3 1, mode 0`, of a step `modes 0 1` or `modes 65 times 0`, of an audit `beside 3 1 2`, the complement's
                         marking; what it answers, `accepted` or
                         `refused by 13, thing 3, at 0, amount 1` (a number that is not said is 0), with what it yields, `value 91`, `yes`, `no`, `mode 1 pair 1`,
-                        `pair 6 excess -1`, of a run `ran 3 arcs 8`: how many were accepted and how many arcs visited, or of a salvage `length 11 kept 3 dropped 1`;
+                        `pair 6 excess -1`, of a run `ran 3 arcs 8`: how many were accepted and how many arcs visited, of a size `pairs 2 modes 8 arcs 8`, or of a salvage
+                        `length 11 kept 3 dropped 1`;
                         `salvage_stop` is the same call, and what it answers is the first refusal that it reports;
                         `leaves 2 1`, the marking after (else it is as before); `writes NAME`, the sheet or text in the bytes lent, of which it has `room` (else
                         nothing is written)
@@ -44,6 +45,7 @@ CALLS = {
     "read_net": ("net", ""),
     "read_weights": ("weights", ""),
     "read_movements": ("movements", ""),
+    "size": ("net", ""),
     "complement": ("net", ""),
     "to_version_2": ("net", ""),
     "to_version_1": ("net", ""),
@@ -117,7 +119,7 @@ def add(name, call, arguments, told, after, written):
 
 def answer_of(call, line):
     """Number, thing, position, amount and three numbers more, as cases.c has what is told."""
-    found = re.fullmatch(r"(?:accepted|refused by (\d+)(?:, thing (\d+))?(?:, at (\d+))?(?:, amount (\d+))?)(?:, (value -?\d+|yes|no|mode \d+ pair \d+|pair \d+ excess -?\d+|ran \d+ arcs \d+|length \d+ kept \d+ dropped \d+))?", line)
+    found = re.fullmatch(r"(?:accepted|refused by (\d+)(?:, thing (\d+))?(?:, at (\d+))?(?:, amount (\d+))?)(?:, (value -?\d+|yes|no|mode \d+ pair \d+|pair \d+ excess -?\d+|ran \d+ arcs \d+|pairs \d+ modes \d+ arcs \d+|length \d+ kept \d+ dropped \d+))?", line)
     assert found, line
     yielded = found[5] or "no"
     told = [int(number or 0) for number in found.groups()[:4]]

@@ -12,7 +12,7 @@ use native.Mathlib.Omega.{arith}
 use Rattle.model.specs.First.{_▸_, first, onlyIf, lowest}
 use Rattle.model.specs.Numbers.{ℕ∞, fin, ∞}
 use Rattle.model.specs.Nets.{PNet, pairs, pairNo, K, count}
-use Rattle.second_form.specs.Complement.{bounded, complement, Corresponds}
+use Rattle.second_form.specs.Complement.{bounded, Corresponds}
 use Rattle.model.specs.Lists.{joined}
 use Rattle.both_forms.specs.Audit.{addsUp, strays, excessOf, Finding, countBeside, outOfStep, excess, audited, OutOfStep, AuditFinds, AuditExamples}
 use Rattle.model.proofs.First.{below-or, first-ext, Decides, lowest-none, lowest-some, none-lowest, some-lowest}

@@ -1,6 +1,6 @@
 -- The complement arc by arc; Steps, Orders, Visits, Audit, Edges and WorkedExamples have their own promises.
 use mathlib.Core.Path.{_≡_}
-use mathlib.Core.List.{List, List·Memᴰ}
+use mathlib.Core.List.{List·Memᴰ}
 use mathlib.Core.Logic.{_↔_, _⊎_}
 use Rattle.model.specs.Nets.{NetArc, PNet, pairs, pairNo, K}
 use Rattle.model.specs.WellFormed.{Blank, WellFormed}

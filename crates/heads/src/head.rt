@@ -8,7 +8,7 @@ use model::Refusal;
 use model::Thing;
 use model::Version;
 ghost use mathlib.Core.Path.{_≡_};
-ghost use Prim.Native.Nat.{_+_, _<_, _≤_};
+ghost use Prim.Native.Nat.{_≤_};
 ghost use lib.ListN.{length};
 ghost use Rattle.model.specs.Refusals.{answer, wrong};
 ghost use Rattle.heads.specs.Layout.{sheetEnd, fieldsAt};

@@ -12,7 +12,7 @@ use Rattle.model.specs.Refusals.{answer, number, amount, thingNumber}
 use Rattle.model.specs.RefusalTables.{markingTable, modeTable, Reads}
 use Rattle.model.specs.Rows.{Row, Capacities, Counts}
 use Rattle.model.specs.Billington.{Enables}
-use Rattle.model.specs.Nets.{PNet, row}
+use Rattle.model.specs.Nets.{PNet}
 use Rattle.model.specs.Markings.{markingRefusal}
 use Rattle.model.specs.Firing.{ruleRefusal, rowRefusal, modeRefusal}
 

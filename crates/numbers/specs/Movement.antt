@@ -1,6 +1,6 @@
 -- One movement of a list.
 -- A reader of the promises may skip this file.
-use Prim.Native.Nat.{ℕ, _≤_, _<_}
+use Prim.Native.Nat.{_≤_, _<_}
 use mathlib.Core.Path.{_≡_}
 use Rattle.model.specs.declared.Mode.{Mode}
 use Rattle.model.specs.Nets.{PNet, modes}

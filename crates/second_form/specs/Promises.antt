@@ -1,5 +1,5 @@
 -- What is promised of dead modes and of the complement; DemandThree and DeadComplement have more.
-use Prim.Native.Nat.{ℕ, suc, _-_, _≤_, _<_}
+use Prim.Native.Nat.{ℕ, suc, _-_, _<_}
 use mathlib.Core.Path.{_≡_}
 use mathlib.Core.Bool.{Bool, true, false}
 use mathlib.Core.List.{List, _++_}
@@ -7,7 +7,7 @@ use mathlib.Core.Logic.{_↔_}
 use mathlib.Core.Option.{none, some}
 use lib.Dec.{ltb}
 use lib.ListN.{length, replicate}
-use lib.IntN.{ℤ, pos, _+ℤ_, _-ℤ_}
+use lib.IntN.{pos, _+ℤ_, _-ℤ_}
 use Rattle.model.specs.declared.CapacityRule.the-variants.{Strong, Weak}
 use Rattle.model.specs.declared.Mode.{Mode}
 use Rattle.model.specs.declared.Thing.{Thing}
@@ -21,9 +21,8 @@ use Rattle.model.specs.Nets.{PNet, pairs, modes, firstPair, pairNo, modeNo, K, 
 use Rattle.model.specs.Markings.{Marking}
 use Rattle.model.specs.WellFormed.{WellFormed}
 use Rattle.model.specs.Firing.{modeRefusal}
-use Rattle.movement.specs.Figures.{figure}
 use Rattle.second_form.specs.Dead.{Kills, isDead, lowestMarking, firstDead}
-use Rattle.second_form.specs.Complement.{boundedBelow, complementPair, original, complementEntry, complement, Corresponds}
+use Rattle.second_form.specs.Complement.{boundedBelow, complementPair, original, complement, Corresponds}
 
 -- 1. Locally dead: "at some pair, Pre is above the least of K less Post and I, or Post is above K", by the weak rule "the lesser of K and I"; the first dead mode is the lowest, named with its lowest pair.
 abbrev pub KillsAt : PNet → Mode → ℕ → Type 0

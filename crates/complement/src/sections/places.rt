@@ -7,7 +7,7 @@ use opened::shape::modes_of;
 use sheets::written::put_count;
 ghost use mathlib.Core.Path.{_≡_};
 ghost use mathlib.Core.List.{flatMap};
-ghost use Prim.Native.Nat.{_<_, _≤_};
+ghost use Prim.Native.Nat.{_≤_};
 ghost use lib.ListN.{length};
 ghost use Rattle.model.specs.Nets.{pairs};
 ghost use Rattle.second_form.specs.Complement.{complement};

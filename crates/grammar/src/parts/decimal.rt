@@ -1,7 +1,7 @@
 // A number of low..1,000,000 in decimal, without leading zeros.
 use crate::parts::Numbered;
 ghost use mathlib.Core.Path.{_≡_};
-ghost use Prim.Native.Nat.{_+_, _≤_, _<_};
+ghost use Prim.Native.Nat.{_≤_, _<_};
 ghost use lib.ListN.{length};
 ghost use Rattle.grammar.specs.parts.Numbers.{nextValue, Span, ReadNumberAllows};
 
