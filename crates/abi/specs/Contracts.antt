@@ -21,8 +21,7 @@ use Rattle.complement.specs.Complemented as complement
 use Rattle.convert.specs.Converted as convert
 use Rattle.convert.specs.strip.Stripped as strip
 use Rattle.export.specs.Exports as export
-use Rattle.import.specs.declared.Imported.{Imported}
-use Rattle.import.specs.Imports as import
+use Rattle.sheets.specs.declared.Emitted.{Emitted}
 use Rattle.import.specs.Contracts as importing
 use Rattle.complement.specs.audit.Audits as audit
 use Rattle.run.specs.salvage.Salvaged as salvage
@@ -41,6 +40,7 @@ use Rattle.answers.specs.declared.Audited.{Audited}
 use Rattle.answers.specs.declared.Reported.{Reported}
 use Rattle.answers.specs.Told.{answered, counted, weighed, decided, named, sized, audited, reported, textTold}
 use Rattle.abi.specs.Told.{ran, taken}
+use Rattle.sheets.specs.Emitted as emitting
 
 -- the readers, on a run of bytes
 module _ (s : List ℕ) where
@@ -94,19 +94,19 @@ module _ (net : List ℕ) where
   SizeAllows told = told ≡ sized (size.told (size.measuredOf net))
 
   abbrev pub ComplementAllows : List ℕ → Counted × List ℕ → Type 0
-  ComplementAllows out o = (o .0 ≡ counted (complement.told (complement.complementOf net out))) × (o .1 ≡ complement.outputOf net out)
+  ComplementAllows out o = (o .0 ≡ counted (emitting.told (complement.complementOf net out))) × (o .1 ≡ complement.outputOf net out)
 
   abbrev pub ToVersion2Allows : List ℕ → Counted × List ℕ → Type 0
-  ToVersion2Allows out o = (o .0 ≡ counted (convert.told (convert.conversionOf One Two net out))) × (o .1 ≡ convert.outputOf One Two net out)
+  ToVersion2Allows out o = (o .0 ≡ counted (emitting.told (convert.conversionOf One Two net out))) × (o .1 ≡ convert.outputOf One Two net out)
 
   abbrev pub ToVersion1Allows : List ℕ → Counted × List ℕ → Type 0
-  ToVersion1Allows out o = (o .0 ≡ counted (convert.told (convert.conversionOf Two One net out))) × (o .1 ≡ convert.outputOf Two One net out)
+  ToVersion1Allows out o = (o .0 ≡ counted (emitting.told (convert.conversionOf Two One net out))) × (o .1 ≡ convert.outputOf Two One net out)
 
   abbrev pub StripAllows : Pair → List ℕ → Counted × List ℕ → Type 0
-  StripAllows p out o = (o .0 ≡ counted (strip.told (strip.strippedOf net p out))) × (o .1 ≡ strip.outputOf net p out)
+  StripAllows p out o = (o .0 ≡ counted (emitting.told (strip.strippedOf net p out))) × (o .1 ≡ strip.outputOf net p out)
 
   abbrev pub ExportPnmlAllows : List ℕ → Counted × List ℕ → Type 0
-  ExportPnmlAllows out o = (o .0 ≡ counted (export.told (export.exportOf net out))) × (o .1 ≡ export.outputOf net out)
+  ExportPnmlAllows out o = (o .0 ≡ counted (emitting.told (export.exportOf net out))) × (o .1 ≡ export.outputOf net out)
 
   abbrev pub AuditAllows : List ℕ → List ℕ → Audited → Type 0
   AuditAllows marking beside told = told ≡ audited (audit.told (audit.auditedOf net marking beside))
@@ -116,7 +116,7 @@ module _ (net : List ℕ) where
 
 -- what is told is an answer that the library's contract allows, with what is left in the slice
 abbrev pub ImportPnmlAllows : List ℕ → List ℕ → Counted × List ℕ → Type 0
-ImportPnmlAllows text out o = (answer : Imported) × (importing.ImportPnmlAllows text out (answer, o .1)) × (o .0 ≡ counted (import.told answer))
+ImportPnmlAllows text out o = (answer : Emitted) × (importing.ImportPnmlAllows text out (answer, o .1)) × (o .0 ≡ counted (emitting.told answer))
 
 abbrev pub FleetAddAllows : Fleet → List ℕ → List ℕ → List ℕ → Answered × Fleet → Type 0
 FleetAddAllows found net weights movements o =

@@ -1,6 +1,6 @@
 // A net with a transition that strips a pair bare.
 use answers::Counted;
-use answers::tell_stripped;
+use answers::tell_emitted;
 use convert::strip::strip;
 use model::Pair;
 ghost use Rattle.abi.specs.Contracts.{StripAllows};
@@ -9,5 +9,5 @@ ghost use Rattle.abi.specs.Contracts.{StripAllows};
 pub extern "C" fn pnet_strip(net: &[u8], pair: Pair, out: &mut [u8]) -> Counted
     ensures { λ r. ⌜ StripAllows (now (net .entry)) pair (now (out .entry)) (r, now (out .exit)) ⌝ }
 {
-    tell_stripped(strip(net, pair, out))
+    tell_emitted(strip(net, pair, out))
 }

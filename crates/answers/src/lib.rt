@@ -1,10 +1,5 @@
 // What a call tells C, as structs by value: document 01's number, thing and position, document 02's amount, and the value, 0 where a refused call has none.
-use complement::Complemented;
 use complement::audit::Found;
-use convert::Converted;
-use convert::strip::Stripped;
-use export::Exported;
-use import::Imported;
 use model::Answer;
 use model::Fault;
 use model::Mode;
@@ -15,6 +10,7 @@ use opened::dead::Deadness;
 use opened::dead::FirstDead;
 use opened::size::Measured;
 use run::salvage::Salvaged;
+use sheets::Emitted;
 use statement::Stated;
 use statement::told::line_of;
 use statement::told::thing_of;
@@ -24,15 +20,11 @@ ghost use mathlib.Core.Option.{none};
 ghost use Rattle.model.specs.declared.Answer.the-variants.{Refused};
 ghost use Rattle.model.specs.Replies.{yields, refuses};
 ghost use Rattle.complement.specs.audit.Audits.{told as auditTold};
-ghost use Rattle.complement.specs.Complemented.{told as complementTold};
-ghost use Rattle.convert.specs.Converted.{told as convertedTold};
+ghost use Rattle.sheets.specs.Emitted.{told as emittedTold};
 ghost use Rattle.opened.specs.dead.FirstDead.{told as firstDeadTold};
 ghost use Rattle.opened.specs.dead.IsDead.{told as deadnessTold};
-ghost use Rattle.export.specs.Exports.{told as exportTold};
-ghost use Rattle.import.specs.Imports.{told as importTold};
 ghost use Rattle.run.specs.salvage.Salvaged.{told as salvageTold};
 ghost use Rattle.opened.specs.size.Sizes.{told as measuredTold};
-ghost use Rattle.convert.specs.strip.Stripped.{told as strippedTold};
 ghost use Rattle.statement.specs.weigh.Calls.{told as figuredTold};
 ghost use Rattle.answers.specs.Told.{answered, counted, textTold, weighed, decided, naming, named, sized, finding, audited, reported};
 
@@ -162,48 +154,12 @@ fn wrote_nothing(refusal: Refusal) -> Counted
     }
 }
 
-pub fn tell_length(complemented: Complemented) -> Counted
-    ensures { λ r. ⌜ r ≡ counted (complementTold complemented) ⌝ }
+pub fn tell_emitted(emitted: Emitted) -> Counted
+    ensures { λ r. ⌜ r ≡ counted (emittedTold emitted) ⌝ }
 {
-    match complemented {
-        Complemented::Length(length) => wrote(length),
-        Complemented::Refused(refusal) => wrote_nothing(refusal),
-    }
-}
-
-pub fn tell_converted(converted: Converted) -> Counted
-    ensures { λ r. ⌜ r ≡ counted (convertedTold converted) ⌝ }
-{
-    match converted {
-        Converted::Length(length) => wrote(length),
-        Converted::Refused(refusal) => wrote_nothing(refusal),
-    }
-}
-
-pub fn tell_stripped(stripped: Stripped) -> Counted
-    ensures { λ r. ⌜ r ≡ counted (strippedTold stripped) ⌝ }
-{
-    match stripped {
-        Stripped::Length(length) => wrote(length),
-        Stripped::Refused(refusal) => wrote_nothing(refusal),
-    }
-}
-
-pub fn tell_exported(exported: Exported) -> Counted
-    ensures { λ r. ⌜ r ≡ counted (exportTold exported) ⌝ }
-{
-    match exported {
-        Exported::Length(length) => wrote(length),
-        Exported::Refused(refusal) => wrote_nothing(refusal),
-    }
-}
-
-pub fn tell_imported(imported: Imported) -> Counted
-    ensures { λ r. ⌜ r ≡ counted (importTold imported) ⌝ }
-{
-    match imported {
-        Imported::Length(length) => wrote(length),
-        Imported::Refused(refusal) => wrote_nothing(refusal),
+    match emitted {
+        Emitted::Length(length) => wrote(length),
+        Emitted::Refused(refusal) => wrote_nothing(refusal),
     }
 }
 

@@ -25,12 +25,10 @@ use Rattle.opened.specs.Shape.{Open, arcOffset}
 use Rattle.opened.specs.Starts.{StartsAre}
 use Rattle.complement.specs.sections.Arcs.{clearAt, every}
 use Rattle.complement.proofs.sections.Every.{and-left, and-right, every-each}
-use Rattle.sheets.proofs.written.Puts.{from-start}
-use Rattle.complement.specs.declared.Complemented.the-variants.{Length, Refused}
 use Rattle.complement.specs.declared.sheet.Sizes.{Sizes}
 use Rattle.complement.specs.ArcRefusals.{inhibitedAt}
-use Rattle.complement.specs.Complemented.{complementSheet, tooShort, roomRefusal, complemented, output}
-use Rattle.sheets.specs.written.Puts.{Puts, sheetSize}
+use Rattle.complement.specs.Complemented.{complementSheet, tooShort, roomRefusal}
+use Rattle.sheets.specs.written.Puts.{sheetSize}
 use Rattle.complement.specs.Sizes.{sizesOf, SizesWith, inLimits, sizesRefusal, firstOf}
 use Rattle.complement.proofs.SheetParts.{sizes-are, arcs-at-most, size-is, sheet-is}
 
@@ -103,11 +101,3 @@ module _ {s : List ℕ} {net : NetShape} (o : Open s net) (room : ℕ) where
 pub room-enough : (s : List ℕ) (room : ℕ) → roomRefusal s room ≡ none → length (complementSheet s) ≤ room
 unfolding roomRefusal
 room-enough s room e = ltb-false _ _ (only-if-none _ _ (right-none _ _ e))
-
--- a refusal, with nothing written, and a sheet from the first byte on
-pub refused : {o : Option Refusal} {r : Refusal} (n : ℕ) (sheet found : List ℕ) → o ≡ some r → (Refused r ≡ complemented o n) × (found ≡ output o sheet found)
-refused n sheet found e = rw e (refl, refl)
-
-pub written : {o : Option Refusal} {found now : List ℕ} {after : ℕ} (sheet : List ℕ) → o ≡ none → length sheet ≤ length found → Puts found 0 sheet now after
-    → (Length after ≡ complemented o (length sheet)) × (now ≡ output o sheet found)
-written {after = after} sheet e h p = let n : after ≡ length sheet = omega (arith, p .next) in rw e (ap Length n, from-start (p .written) h)

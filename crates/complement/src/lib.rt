@@ -13,26 +13,21 @@ use crate::sections::survey::survey;
 use crate::sheet::complement_sizes;
 use crate::sheet::put_sheet;
 use model::Answer;
-use model::Refusal;
 use opened::Opened;
 use opened::open_net;
 use opened::shape::NetShape;
 use opened::starts::starts;
+use sheets::Emitted;
 ghost use mathlib.Core.Path.{_≡_};
 ghost use lib.ListN.{length};
 ghost use Rattle.opened.specs.Shape.{Open};
-ghost use Rattle.complement.specs.Complemented.{complementSheet, roomRefusal, complemented, output};
+ghost use Rattle.complement.specs.Complemented.{complementSheet, roomRefusal};
+ghost use Rattle.sheets.specs.Emitted.{emitted, output};
 ghost use Rattle.complement.specs.Contracts.{ComplementAllows};
 
-// How many bytes were written, or why none.
-pub enum Complemented {
-    Length(usize),
-    Refused(Refusal),
-}
-
-fn complement_open(s: &[u8], net: NetShape, out: &mut [u8]) -> Complemented
+fn complement_open(s: &[u8], net: NetShape, out: &mut [u8]) -> Emitted
     requires { ⌜ Open (now s) net ⌝ }
-    ensures { λ r. ⌜ r ≡ complemented (roomRefusal (now (s .entry)) (length (now (out .entry)))) (length (complementSheet (now (s .entry)))) ⌝ }
+    ensures { λ r. ⌜ r ≡ emitted (roomRefusal (now (s .entry)) (length (now (out .entry)))) (length (complementSheet (now (s .entry)))) ⌝ }
     ensures { λ _. ⌜ now (out .exit) ≡ output (roomRefusal (now (s .entry)) (length (now (out .entry)))) (complementSheet (now (s .entry))) (now (out .entry)) ⌝ }
 {
     let starts = starts(s, net);
@@ -42,20 +37,20 @@ fn complement_open(s: &[u8], net: NetShape, out: &mut [u8]) -> Complemented
     let most = complement_sizes(s, net, &below, 2 * net.arcs);
     let answer = complement_answer(s, net, &starts, &below, &dead, clear, most, out.len());
     match answer {
-        Answer::Refused(refusal) => Complemented::Refused(refusal),
+        Answer::Refused(refusal) => Emitted::Refused(refusal),
         Answer::Accepted => {
-            Complemented::Length(put_sheet(s, net, &starts, &below, &dead, most, out))
+            Emitted::Length(put_sheet(s, net, &starts, &below, &dead, most, out))
         }
     }
 }
 
 // Writes the sheet of the net's complement from the first byte of `out` on.
-pub fn complement(net: &[u8], out: &mut [u8]) -> Complemented
+pub fn complement(net: &[u8], out: &mut [u8]) -> Emitted
     ensures { λ r. ⌜ ComplementAllows (now (net .entry)) (now (out .entry)) (r, now (out .exit)) ⌝ }
 {
     let opened = open_net(net);
     match opened {
-        Opened::Refused(refusal) => Complemented::Refused(refusal),
+        Opened::Refused(refusal) => Emitted::Refused(refusal),
         Opened::Open(shape) => complement_open(net, shape, out),
     }
 }

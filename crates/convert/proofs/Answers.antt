@@ -1,6 +1,6 @@
 -- The order of the refusals, and what an accepted conversion leaves.
 use Prim.Native.Nat.{ℕ, _≤_, _<_}
-use mathlib.Core.Path.{_≡_, refl, sym, _∙_, ap}
+use mathlib.Core.Path.{_≡_, refl, sym, _∙_}
 use mathlib.Core.List.{List}
 use mathlib.Core.Logic.{_≢_}
 use mathlib.Core.Option.{Option, none, some}
@@ -26,12 +26,10 @@ use Rattle.opened.specs.declared.shape.NetShape.{NetShape}
 use Rattle.opened.specs.declared.Opened.the-variants as opening
 use Rattle.opened.specs.Opened.{opened}
 use Rattle.sheets.specs.written.Written.{versionNumber}
-use Rattle.sheets.specs.written.Puts.{Puts}
-use Rattle.sheets.proofs.written.Puts.{from-start}
 use Rattle.sheets.proofs.written.Versions.{version-is}
 use Rattle.sheets.proofs.written.RoundTrip.{own-sheet}
-use Rattle.convert.specs.declared.Converted.the-variants.{Length, Refused}
-use Rattle.convert.specs.Converted.{ofVersion, convertedSheet, lostRule, tooShort, openRefusal, converted, output}
+use Rattle.sheets.specs.declared.Emitted.the-variants.{Refused}
+use Rattle.convert.specs.Converted.{ofVersion, convertedSheet, lostRule, tooShort, openRefusal}
 
 module _ (v : Version) (s : List ℕ) where
   -- a sheet of the version that is read, and one of another
@@ -80,11 +78,3 @@ module _ (target : Version) (s : List ℕ) {room : ℕ} where
   pub roomy : lostRule target (netOf s .rule) ≡ none → length (convertedSheet target s) ≤ room → openRefusal target s room ≡ none
   unfolding openRefusal tooShort
   roomy k h = none-then k (rw (le-ltb room (length (convertedSheet target s)) h) refl)
-
--- a refusal, with nothing written, and a sheet from the first byte on
-pub refused : {o : Option Refusal} {r : Refusal} (n : ℕ) (sheet found : List ℕ) → o ≡ some r → (Refused r ≡ converted o n) × (found ≡ output o sheet found)
-refused n sheet found e = rw e (refl, refl)
-
-pub written : {o : Option Refusal} {found now : List ℕ} {after : ℕ} (sheet : List ℕ) → o ≡ none → length sheet ≤ length found → Puts found 0 sheet now after
-    → (Length after ≡ converted o (length sheet)) × (now ≡ output o sheet found)
-written {after = after} sheet e h p = let n : after ≡ length sheet = omega (arith, p .next) in rw e (ap Length n, from-start (p .written) h)

@@ -18,8 +18,9 @@ use Rattle.sheets.specs.written.Written.{versionNumber, sheetOf}
 use Rattle.sheets.specs.written.Promises.{ReadBack}
 use Rattle.sheets.proofs.written.Versions.{number-is, version-is}
 use Rattle.sheets.proofs.written.RoundTrip.{known-holds, read-then-written, written-then-read}
-use Rattle.convert.specs.declared.Converted.the-variants.{Length}
-use Rattle.convert.specs.Converted.{ofVersion, lostRule, convertedSheet, openRefusal, convertRefusal, converted, output, conversionOf, outputOf}
+use Rattle.sheets.specs.declared.Emitted.the-variants.{Length}
+use Rattle.convert.specs.Converted.{ofVersion, lostRule, convertedSheet, openRefusal, convertRefusal, conversionOf, outputOf}
+use Rattle.sheets.specs.Emitted.{emitted, output}
 use Rattle.convert.specs.Promises.{SourceOnly, ConvertedReads, Returned, ThereAndBack}
 use Rattle.convert.proofs.Answers.{read-on, stops, read-whole, read-version, kept, own-rule, roomy}
 
@@ -43,7 +44,7 @@ converted-reads source target s e k =
     }
 
 -- a length is told only where nothing is refused
-length-told : (o : Option Refusal) {n m : ℕ} → Length n ≡ converted o m → (o ≡ none) × (n ≡ m)
+length-told : (o : Option Refusal) {n m : ℕ} → Length n ≡ emitted o m → (o ≡ none) × (n ≡ m)
 length-told none e = (refl, cc)
 length-told (some r) e = let z : _≡_ {A = ℕ} 0 1 = cc in absurd (omega arith)
 

@@ -3,10 +3,10 @@
 -- P10: "Converting a rule-1 sheet to version 1 is always refused by 23, before 10."
 use Prim.Native.Nat.{ℕ}
 use mathlib.Core.Bool.{not}
-use mathlib.Core.List.{List, _++_}
+use mathlib.Core.List.{List}
 use mathlib.Core.Option.{Option, none, some}
 use lib.Dec.{eqb, ltb}
-use lib.ListN.{length, drop}
+use lib.ListN.{length}
 use Rattle.model.specs.declared.Thing.the-variants.{Net}
 use Rattle.model.specs.declared.Fault.the-variants.{WrongVersion, NoRoom, RuleLost}
 use Rattle.model.specs.declared.Refusal.{Refusal}
@@ -16,15 +16,14 @@ use Rattle.model.specs.declared.CapacityRule.{CapacityRule}
 use Rattle.model.specs.declared.CapacityRule.the-variants.{Strong, Weak}
 use Rattle.model.specs.First.{_▸_, onlyIf}
 use Rattle.model.specs.Refusals.{wrong}
-use Rattle.model.specs.Replies.{Reply, yields, refuses}
 use Rattle.heads.specs.Layout.{version}
 use Rattle.heads.specs.Checks.{headRefusal}
 use Rattle.sheets.specs.nets.Nets.{netFields}
 use Rattle.sheets.specs.Whole.{bytesAfter}
 use Rattle.sheets.specs.Decoded.{netOf}
 use Rattle.sheets.specs.written.Written.{versionNumber, sheetOf}
-use Rattle.convert.specs.declared.Converted.{Converted}
-use Rattle.convert.specs.declared.Converted.the-variants.{Length, Refused}
+use Rattle.sheets.specs.declared.Emitted.{Emitted}
+use Rattle.sheets.specs.Emitted.{emitted, output}
 
 -- the net's refusals where sheets of one version alone are read: any other version byte is 2, in 2's place ("1, then L = 0, then 2, then the fields")
 unfoldable pub ofVersion : Version → List ℕ → Option Refusal
@@ -52,24 +51,9 @@ openRefusal target s room = lostRule target (netOf s .rule) ▸ tooShort target 
 unfoldable pub convertRefusal : Version → Version → List ℕ → ℕ → Option Refusal
 convertRefusal source target s room = ofVersion source s ▸ openRefusal target s room
 
--- the first refusal, if there is one, or the length written
-abbrev pub converted : Option Refusal → ℕ → Converted
-converted none length = Length length
-converted (some r) length = Refused r
-
--- the number, thing, position and value of each answer
-abbrev pub told : Converted → Reply ℕ
-told (Length length) = yields length
-told (Refused r) = refuses r
-
--- the sheet from the first byte on and no byte after it touched; "Other refused calls write nothing."
-abbrev pub output : Option Refusal → List ℕ → List ℕ → List ℕ
-output none sheet found = sheet ++ drop (length sheet) found
-output (some r) sheet found = found
-
 module _ (source target : Version) (net out : List ℕ) where
-  abbrev pub conversionOf : Converted
-  conversionOf = converted (convertRefusal source target net (length out)) (length (convertedSheet target net))
+  abbrev pub conversionOf : Emitted
+  conversionOf = emitted (convertRefusal source target net (length out)) (length (convertedSheet target net))
 
   abbrev pub outputOf : List ℕ
   outputOf = output (convertRefusal source target net (length out)) (convertedSheet target net) out

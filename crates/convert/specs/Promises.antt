@@ -13,7 +13,7 @@ use Rattle.heads.specs.Bytes.{byteAt}
 use Rattle.heads.specs.Version.{versionOf}
 use Rattle.sheets.specs.Whole.{wholeNet}
 use Rattle.sheets.specs.Decoded.{netOf}
-use Rattle.convert.specs.declared.Converted.the-variants.{Length}
+use Rattle.sheets.specs.declared.Emitted.the-variants.{Length}
 use Rattle.convert.specs.Converted.{ofVersion, lostRule, convertedSheet, conversionOf, outputOf}
 
 -- "a conversion answers 2 to a sheet of its target version", and takes every sheet of its source version that another call takes

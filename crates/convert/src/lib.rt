@@ -15,6 +15,7 @@ use model::Version;
 use opened::Opened;
 use opened::open_net;
 use opened::shape::NetShape;
+use sheets::Emitted;
 use sheets::written::sheet_size;
 ghost use mathlib.Core.Path.{_≡_};
 ghost use lib.ListN.{length};
@@ -22,14 +23,9 @@ ghost use Rattle.model.specs.Refusals.{answer};
 ghost use Rattle.opened.specs.Shape.{shapeOf, Open};
 ghost use Rattle.opened.specs.Opened.{opened};
 ghost use Rattle.sheets.specs.written.Written.{versionNumber};
-ghost use Rattle.convert.specs.Converted.{ofVersion, lostRule, convertedSheet, openRefusal, converted, output, conversionOf, outputOf};
+ghost use Rattle.convert.specs.Converted.{ofVersion, lostRule, convertedSheet, openRefusal, conversionOf, outputOf};
+ghost use Rattle.sheets.specs.Emitted.{emitted, output};
 ghost use Rattle.convert.specs.Contracts.{ToVersion1Allows, ToVersion2Allows};
-
-// How many bytes were written, or why none.
-pub enum Converted {
-    Length(usize),
-    Refused(Refusal),
-}
 
 fn version_byte(version: Version) -> u8
     ensures { λ r. ⌜ r ≡ versionNumber version ⌝ }
@@ -71,15 +67,15 @@ fn keep_rule(target: Version, rule: CapacityRule) -> Answer
 }
 
 // 23, then "10 to a short output", or the sheet of the same net.
-fn convert_open(s: &[u8], net: NetShape, target: Version, out: &mut [u8]) -> Converted
+fn convert_open(s: &[u8], net: NetShape, target: Version, out: &mut [u8]) -> Emitted
     requires { ⌜ Open (now s) net ⌝ }
-    ensures { λ r. ⌜ r ≡ converted (openRefusal target (now (s .entry)) (length (now (out .entry)))) (length (convertedSheet target (now (s .entry)))) ⌝ }
+    ensures { λ r. ⌜ r ≡ emitted (openRefusal target (now (s .entry)) (length (now (out .entry)))) (length (convertedSheet target (now (s .entry)))) ⌝ }
     ensures { λ _. ⌜ now (out .exit) ≡ output (openRefusal target (now (s .entry)) (length (now (out .entry)))) (convertedSheet target (now (s .entry))) (now (out .entry)) ⌝ }
 {
     let rule = net.rule;
     let kept = keep_rule(target, rule);
     if let Answer::Refused(refusal) = kept {
-        return Converted::Refused(refusal);
+        return Emitted::Refused(refusal);
     }
     let size = sheet_size(
         target,
@@ -90,34 +86,34 @@ fn convert_open(s: &[u8], net: NetShape, target: Version, out: &mut [u8]) -> Con
         net.arcs,
     );
     if out.len() < size {
-        return Converted::Refused(Refusal {
+        return Emitted::Refused(Refusal {
             thing: Thing::Net,
             fault: Fault::NoRoom,
         });
     }
-    Converted::Length(put_sheet(s, net, target, size, out))
+    Emitted::Length(put_sheet(s, net, target, size, out))
 }
 
-fn convert(s: &[u8], source: Version, target: Version, out: &mut [u8]) -> Converted
+fn convert(s: &[u8], source: Version, target: Version, out: &mut [u8]) -> Emitted
     ensures { λ r. ⌜ r ≡ conversionOf source target (now (s .entry)) (now (out .entry)) ⌝ }
     ensures { λ _. ⌜ now (out .exit) ≡ outputOf source target (now (s .entry)) (now (out .entry)) ⌝ }
 {
     let opened = open_version(s, source);
     match opened {
-        Opened::Refused(refusal) => Converted::Refused(refusal),
+        Opened::Refused(refusal) => Emitted::Refused(refusal),
         Opened::Open(shape) => convert_open(s, shape, target, out),
     }
 }
 
 // Writes the net of a version 1 sheet in version 2, from the first byte of `out` on.
-pub fn to_version_2(net: &[u8], out: &mut [u8]) -> Converted
+pub fn to_version_2(net: &[u8], out: &mut [u8]) -> Emitted
     ensures { λ r. ⌜ ToVersion2Allows (now (net .entry)) (now (out .entry)) (r, now (out .exit)) ⌝ }
 {
     convert(net, Version::One, Version::Two, out)
 }
 
 // And back: "with the old bytes returned exactly".
-pub fn to_version_1(net: &[u8], out: &mut [u8]) -> Converted
+pub fn to_version_1(net: &[u8], out: &mut [u8]) -> Emitted
     ensures { λ r. ⌜ ToVersion1Allows (now (net .entry)) (now (out .entry)) (r, now (out .exit)) ⌝ }
 {
     convert(net, Version::Two, Version::One, out)

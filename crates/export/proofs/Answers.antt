@@ -2,21 +2,16 @@
 use Prim.Native.Nat.{ℕ, _≤_}
 use mathlib.Core.Path.{_≡_, refl, ap}
 use mathlib.Core.List.{List}
-use mathlib.Core.Option.{Option, none, some}
+use mathlib.Core.Option.{none}
 use lib.ListN.{length}
 use borrow.Author.Tests.{ltb-false}
-use native.Mathlib.Omega.{arith}
-use Rattle.model.specs.declared.Refusal.{Refusal}
 use Rattle.model.specs.First.{first}
 use Rattle.model.proofs.First.{right-none, only-if-none}
 use Rattle.sheets.specs.Decoded.{netOf}
 use Rattle.opened.specs.declared.shape.NetShape.{NetShape}
 use Rattle.opened.specs.Shape.{Open, inhibitorOffset}
 use Rattle.opened.proofs.Shapes.{sizes}
-use Rattle.sheets.specs.written.Puts.{Puts}
-use Rattle.sheets.proofs.written.Puts.{from-start}
-use Rattle.export.specs.declared.Exported.the-variants.{Length, Refused}
-use Rattle.export.specs.Exports.{boundedCapacity, boundedInhibitor, capacityOffset, exportText, roomRefusal, exported, output}
+use Rattle.export.specs.Exports.{boundedCapacity, boundedInhibitor, capacityOffset, exportText, roomRefusal}
 use Rattle.export.specs.Bounds.{capacityRefusal, inhibitorRefusal}
 
 -- 19 is the first of its pairs, and of its arcs
@@ -31,11 +26,3 @@ each-inhibitor s = refl
 pub room-enough : (s : List ℕ) (room : ℕ) → roomRefusal s room ≡ none → length (exportText s) ≤ room
 unfolding roomRefusal
 room-enough s room e = ltb-false _ _ (only-if-none _ _ (right-none _ _ e))
-
--- a refusal, with nothing written, and a text from the first byte on
-pub refused : {o : Option Refusal} {r : Refusal} (n : ℕ) (text found : List ℕ) → o ≡ some r → (Refused r ≡ exported o n) × (found ≡ output o text found)
-refused n text found e = rw e (refl, refl)
-
-pub written : {o : Option Refusal} {found now : List ℕ} {after : ℕ} (text : List ℕ) → o ≡ none → length text ≤ length found → Puts found 0 text now after
-    → (Length after ≡ exported o (length text)) × (now ≡ output o text found)
-written {after = after} text e h p = let n : after ≡ length text = omega (arith, p .next) in rw e (ap Length n, from-start (p .written) h)

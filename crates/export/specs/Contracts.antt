@@ -2,8 +2,8 @@
 use Prim.Native.Nat.{ℕ}
 use mathlib.Core.Path.{_≡_}
 use mathlib.Core.List.{List}
-use Rattle.export.specs.declared.Exported.{Exported}
+use Rattle.sheets.specs.declared.Emitted.{Emitted}
 use Rattle.export.specs.Exports.{exportOf, outputOf}
 
-abbrev pub ExportPnmlAllows : List ℕ → List ℕ → Exported × List ℕ → Type 0
+abbrev pub ExportPnmlAllows : List ℕ → List ℕ → Emitted × List ℕ → Type 0
 ExportPnmlAllows net out o = (o .0 ≡ exportOf net out) × (o .1 ≡ outputOf net out)

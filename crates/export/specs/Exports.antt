@@ -1,10 +1,10 @@
 -- The exporting call: what it answers, and what it leaves in the output slice.
 -- Document 02, P5: "Refusals: for export the net's, 19 at the first finite K or I, 10 for a short output".
 use Prim.Native.Nat.{ℕ}
-use mathlib.Core.List.{List, _++_}
-use mathlib.Core.Option.{Option, none, some}
+use mathlib.Core.List.{List}
+use mathlib.Core.Option.{Option}
 use lib.Dec.{ltb}
-use lib.ListN.{length, drop}
+use lib.ListN.{length}
 use Rattle.model.specs.declared.Thing.the-variants.{Net}
 use Rattle.model.specs.declared.Fault.the-variants.{NotUnbounded, NoRoom}
 use Rattle.model.specs.declared.Refusal.{Refusal}
@@ -12,14 +12,13 @@ use Rattle.model.specs.First.{_▸_, onlyIf, lowest}
 use Rattle.model.specs.Nets.{PNet, pairs, K, arcNo}
 use Rattle.second_form.specs.Complement.{finite}
 use Rattle.model.specs.Refusals.{wrong}
-use Rattle.model.specs.Replies.{Reply, yields, refuses}
 use Rattle.heads.specs.Layout.{pairsAt, pairAt, capacityAt}
 use Rattle.sheets.specs.Whole.{wholeNet}
 use Rattle.sheets.specs.Decoded.{netOf}
 use Rattle.opened.specs.Shape.{inhibitorOffset}
 use Rattle.pnml.specs.Pnml.{pnml}
-use Rattle.export.specs.declared.Exported.{Exported}
-use Rattle.export.specs.declared.Exported.the-variants.{Length, Refused}
+use Rattle.sheets.specs.declared.Emitted.{Emitted}
+use Rattle.sheets.specs.Emitted.{emitted, output}
 
 -- "19 at the first finite K or I": of all K, and then of the arcs' I as they stand. `capacity p` and `inhibitor k` are where these fields stand in the sheet.
 unfoldable pub boundedCapacity : (ℕ → ℕ) → PNet → Option Refusal
@@ -50,23 +49,8 @@ roomRefusal net room = refusal19 net ▸ tooShort net room
 unfoldable pub exportRefusal : List ℕ → ℕ → Option Refusal
 exportRefusal net room = wholeNet net ▸ roomRefusal net room
 
--- the first refusal, if there is one, or the length written
-abbrev pub exported : Option Refusal → ℕ → Exported
-exported none length = Length length
-exported (some r) length = Refused r
-
--- the number, thing, position and value of each answer
-abbrev pub told : Exported → Reply ℕ
-told (Length length) = yields length
-told (Refused r) = refuses r
-
--- the text from the first byte on and no byte after it touched; "Other refused calls write nothing."
-abbrev pub output : Option Refusal → List ℕ → List ℕ → List ℕ
-output none text found = text ++ drop (length text) found
-output (some r) text found = found
-
-abbrev pub exportOf : List ℕ → List ℕ → Exported
-exportOf net out = exported (exportRefusal net (length out)) (length (exportText net))
+abbrev pub exportOf : List ℕ → List ℕ → Emitted
+exportOf net out = emitted (exportRefusal net (length out)) (length (exportText net))
 
 abbrev pub outputOf : List ℕ → List ℕ → List ℕ
 outputOf net out = output (exportRefusal net (length out)) (exportText net) out

@@ -9,26 +9,21 @@ use crate::texts::puts::put_text;
 use heads::head::refused;
 use model::Answer;
 use model::Fault;
-use model::Refusal;
 use model::Thing;
 use opened::Opened;
 use opened::open_net;
 use opened::shape::NetShape;
 use opened::starts::starts;
+use sheets::Emitted;
 ghost use mathlib.Core.Path.{_≡_};
 ghost use lib.ListN.{length};
 ghost use Rattle.model.specs.Refusals.{answer};
 ghost use Rattle.sheets.specs.Decoded.{netOf};
 ghost use Rattle.opened.specs.Shape.{Open};
 ghost use Rattle.opened.specs.Starts.{StartsAre};
-ghost use Rattle.export.specs.Exports.{exportText, roomRefusal, exported, output};
+ghost use Rattle.export.specs.Exports.{exportText, roomRefusal};
+ghost use Rattle.sheets.specs.Emitted.{emitted, output};
 ghost use Rattle.export.specs.Contracts.{ExportPnmlAllows};
-
-// How many bytes were written, or why none.
-pub enum Exported {
-    Length(usize),
-    Refused(Refusal),
-}
 
 // 19, then 10.
 fn room_answer(s: &[u8], net: NetShape, starts: &[u16; 257], room: usize) -> Answer
@@ -46,26 +41,26 @@ fn room_answer(s: &[u8], net: NetShape, starts: &[u16; 257], room: usize) -> Ans
     Answer::Accepted
 }
 
-fn export_open(s: &[u8], net: NetShape, out: &mut [u8]) -> Exported
+fn export_open(s: &[u8], net: NetShape, out: &mut [u8]) -> Emitted
     requires { ⌜ Open (now s) net ⌝ }
-    ensures { λ r. ⌜ r ≡ exported (roomRefusal (now (s .entry)) (length (now (out .entry)))) (length (exportText (now (s .entry)))) ⌝ }
+    ensures { λ r. ⌜ r ≡ emitted (roomRefusal (now (s .entry)) (length (now (out .entry)))) (length (exportText (now (s .entry)))) ⌝ }
     ensures { λ _. ⌜ now (out .exit) ≡ output (roomRefusal (now (s .entry)) (length (now (out .entry)))) (exportText (now (s .entry))) (now (out .entry)) ⌝ }
 {
     let starts = starts(s, net);
     let answer = room_answer(s, net, &starts, out.len());
     match answer {
-        Answer::Refused(refusal) => Exported::Refused(refusal),
-        Answer::Accepted => Exported::Length(put_text(s, net, &starts, out)),
+        Answer::Refused(refusal) => Emitted::Refused(refusal),
+        Answer::Accepted => Emitted::Length(put_text(s, net, &starts, out)),
     }
 }
 
 // Writes the net's text from the first byte of `out` on.
-pub fn export_pnml(net: &[u8], out: &mut [u8]) -> Exported
+pub fn export_pnml(net: &[u8], out: &mut [u8]) -> Emitted
     ensures { λ r. ⌜ ExportPnmlAllows (now (net .entry)) (now (out .entry)) (r, now (out .exit)) ⌝ }
 {
     let opened = open_net(net);
     match opened {
-        Opened::Refused(refusal) => Exported::Refused(refusal),
+        Opened::Refused(refusal) => Emitted::Refused(refusal),
         Opened::Open(shape) => export_open(net, shape, out),
     }
 }

@@ -20,20 +20,20 @@ use Rattle.pnml.proofs.ImportRefusal.{too-many, short, roomy}
 use Rattle.grammar.specs.declared.State.{State}
 use Rattle.import.specs.declared.scan.Checked.{Checked}
 use Rattle.import.specs.scan.Kinds.{ExportOf, CheckAllows, CheckedAs}
-use Rattle.import.specs.declared.Imported.{Imported}
-use Rattle.import.specs.declared.Imported.the-variants.{Length, Refused}
-use Rattle.import.specs.Imports.{imported, output}
+use Rattle.sheets.specs.declared.Emitted.{Emitted}
+use Rattle.sheets.specs.declared.Emitted.the-variants.{Length, Refused}
+use Rattle.sheets.specs.Emitted.{emitted, output}
 use Rattle.import.specs.Parts.{SheetPut, ImportedAs}
 use Rattle.import.proofs.Singles.{size-is}
 
-refused : {o : Option Refusal} {r : Refusal} {a : Imported} (n : ℕ) (sheet found : List ℕ) → a ≡ Refused r → o ≡ some r → (a ≡ imported o n) × (found ≡ output o sheet found)
+refused : {o : Option Refusal} {r : Refusal} {a : Emitted} (n : ℕ) (sheet found : List ℕ) → a ≡ Refused r → o ≡ some r → (a ≡ emitted o n) × (found ≡ output o sheet found)
 refused n sheet found i e = rw (e, i) (refl, refl)
 
 module _ {s : List ℕ} {q : State} (x : ExportOf s q) where
   pub arcs-few : q .arcs ≤ 2048
   arcs-few = omega (arith, x .tells (x .net) (x .exportable) (x .text) .many, x .exportable .wellFormed .arcCount)
 
-  pub imported-many : {out : List ℕ} {a : Imported} → (64 < q .places) ⊎ (64 < q .modes) → a ≡ Refused (wrong Argument (CountOutside 0)) → ImportedAs s out a out
+  pub imported-many : {out : List ℕ} {a : Emitted} → (64 < q .places) ⊎ (64 < q .modes) → a ≡ Refused (wrong Argument (CountOutside 0)) → ImportedAs s out a out
   imported-many {out} h i =
       record {
         each = λ net e is.
@@ -48,7 +48,7 @@ module _ {s : List ℕ} {q : State} (x : ExportOf s q) where
         let t = x .tells net e is in
         omega (arith, size-is net e (omega (arith, t .pairs)) (omega (arith, t .modes)), t .pairs, t .modes, t .many)
 
-    pub imported-short : {out : List ℕ} {a : Imported} → length out < size → a ≡ Refused (wrong Net NoRoom) → ImportedAs s out a out
+    pub imported-short : {out : List ℕ} {a : Emitted} → length out < size → a ≡ Refused (wrong Net NoRoom) → ImportedAs s out a out
     imported-short {out} h i =
         record {
           each = λ net e is.
@@ -66,7 +66,7 @@ module _ {s : List ℕ} {q : State} (x : ExportOf s q) where
               written (importedSheet net) (roomy net (length out) (omega (arith, t .pairs)) (omega (arith, t .modes)) (omega (arith, sized net e is))) n (from-start (y .written) (omega (arith, sized net e is)));
         }
       where
-        written : {o : Option Refusal} (sheet : List ℕ) → o ≡ none → after ≡ length sheet → now ≡ output none sheet out → (Length after ≡ imported o (length sheet)) × (now ≡ output o sheet out)
+        written : {o : Option Refusal} (sheet : List ℕ) → o ≡ none → after ≡ length sheet → now ≡ output none sheet out → (Length after ≡ emitted o (length sheet)) × (now ≡ output o sheet out)
         written sheet e n j = rw e (ap Length n, j)
 
 pub checked-as : {s : List ℕ} {r : Checked} → CheckAllows s r → {x : Checked} → r ≡ x → CheckedAs s x

@@ -21,9 +21,10 @@ use Rattle.pnml.specs.Singles.{singles, importedSheet, importRefusal}
 use Rattle.pnml.proofs.ImportRefusal.{roomy, Way, many, full, whole, way}
 use Rattle.grammar.proofs.parts.Steps.{agrees-fewer}
 use Rattle.grammar.proofs.Generated.{total-some}
-use Rattle.import.specs.declared.Imported.{Imported}
-use Rattle.import.specs.declared.Imported.the-variants.{Length, Refused}
-use Rattle.import.specs.Imports.{imported, output, importOf, outputOf, told}
+use Rattle.sheets.specs.declared.Emitted.{Emitted}
+use Rattle.sheets.specs.declared.Emitted.the-variants.{Length, Refused}
+use Rattle.import.specs.Imports.{importOf, outputOf}
+use Rattle.sheets.specs.Emitted.{emitted, told, output}
 use Rattle.import.specs.Contracts.{ImportPnmlAllows}
 use Rattle.import.specs.Promises.{RefusedExactly, Small, ImportsExactly, ImportedReads}
 use Rattle.import.proofs.Singles.{pairs-same, modes-same, singles-well, no-bound}
@@ -41,7 +42,7 @@ once a b = first-once (a .first) (b .first)
 outcome : {A B : Type 0} {a c : A} {b d : B} → a ≡ c → b ≡ d → _≡_ {A = A × B} (a, b) (c, d)
 outcome {A} {B} e f = ap₂ {C = A × B} (λ x y. (x, y)) e f
 
-pub import-once : (text out : List ℕ) (o o′ : Imported × List ℕ) → ImportPnmlAllows text out o → ImportPnmlAllows text out o′ → o ≡ o′
+pub import-once : (text out : List ℕ) (o o′ : Emitted × List ℕ) → ImportPnmlAllows text out o → ImportPnmlAllows text out o′ → o ≡ o′
 import-once text out o o′ (inl x) (inl y) =
     let e = x .each (x .net) (x .exportable) (x .is) in
     let f = y .each (x .net) (x .exportable) (x .is) in
@@ -53,19 +54,19 @@ import-once text out o o′ (inr x) (inr y) =
     outcome (x .answer ∙ ap (λ n. Refused (wrong Net (NotAnExport n))) e ∙ sym (y .answer)) (x .kept ∙ sym (y .kept))
 
 -- an answer that tells another number is another answer
-abbrev numberOf : Imported → ℕ
+abbrev numberOf : Emitted → ℕ
 numberOf a = told a .carried .number
 
-abbrev positionOf : Imported → ℕ
+abbrev positionOf : Emitted → ℕ
 positionOf a = told a .carried .position
 
-pub answered : (net : PNet) (out : List ℕ) {a : Imported} {o : Option Refusal} → a ≡ importOf net out → importRefusal net (length out) ≡ o → a ≡ imported o (length (importedSheet net))
-answered net out e f = e ∙ ap (λ o. imported o (length (importedSheet net))) f
+pub answered : (net : PNet) (out : List ℕ) {a : Emitted} {o : Option Refusal} → a ≡ importOf net out → importRefusal net (length out) ≡ o → a ≡ emitted o (length (importedSheet net))
+answered net out e f = e ∙ ap (λ o. emitted o (length (importedSheet net))) f
 
 pub left : (net : PNet) (out : List ℕ) {now : List ℕ} {o : Option Refusal} → now ≡ outputOf net out → importRefusal net (length out) ≡ o → now ≡ output o (importedSheet net) out
 left net out e f = e ∙ ap (λ o. output o (importedSheet net) out) f
 
-refused-only : (text out : List ℕ) (o : Imported × List ℕ) → ImportPnmlAllows text out o → (at : ℕ) → o .0 ≡ Refused (wrong Net (NotAnExport at)) → Refused20 text at
+refused-only : (text out : List ℕ) (o : Emitted × List ℕ) → ImportPnmlAllows text out o → (at : ℕ) → o .0 ≡ Refused (wrong Net (NotAnExport at)) → Refused20 text at
 refused-only text out o (inr x) at e = subst (λ n. Refused20 text n) (ap positionOf (sym (x .answer) ∙ e)) (x .refused)
 refused-only text out o (inl x) at e = go (way (x .net) (length out))
   where
@@ -80,11 +81,11 @@ refused-only text out o (inl x) at e = go (way (x .net) (length out))
 pub refused-exactly : RefusedExactly
 refused-exactly = record { only = refused-only; all = all }
   where
-    all : (text out : List ℕ) (o : Imported × List ℕ) → ImportPnmlAllows text out o → (at : ℕ) → Refused20 text at → o .0 ≡ Refused (wrong Net (NotAnExport at))
+    all : (text out : List ℕ) (o : Emitted × List ℕ) → ImportPnmlAllows text out o → (at : ℕ) → Refused20 text at → o .0 ≡ Refused (wrong Net (NotAnExport at))
     all text out o (inl x) at r = absurd (r .noExport (x .net) (x .exportable) (x .is))
     all text out o (inr x) at r = x .answer ∙ ap (λ n. Refused (wrong Net (NotAnExport n))) (once (x .refused) r)
 
-imports-only : (text out : List ℕ) (o : Imported × List ℕ) → ImportPnmlAllows text out o → (n : ℕ) → o .0 ≡ Length n
+imports-only : (text out : List ℕ) (o : Emitted × List ℕ) → ImportPnmlAllows text out o → (n : ℕ) → o .0 ≡ Length n
     → (net : PNet) × (Small net) × (text ≡ pnml net) × (length (importedSheet net) ≤ length out)
 imports-only text out o (inr x) n e = absurd (omega (arith, ap numberOf (sym (x .answer) ∙ e)))
 imports-only text out o (inl x) n e = go (way (x .net) (length out))
@@ -98,12 +99,12 @@ imports-only text out o (inl x) n e = go (way (x .net) (length out))
     go (whole p m h r) = (x .net, record { exportable = x .exportable; pairs = p; modes = m }, x .is, h)
 
 -- of a net's export the answer and the output are that net's
-pub of-net : (net : PNet) → Exportable net → {text : List ℕ} → text ≡ pnml net → (out : List ℕ) (o : Imported × List ℕ) → ImportPnmlAllows text out o
+pub of-net : (net : PNet) → Exportable net → {text : List ℕ} → text ≡ pnml net → (out : List ℕ) (o : Emitted × List ℕ) → ImportPnmlAllows text out o
     → (o .0 ≡ importOf net out) × (o .1 ≡ outputOf net out)
 of-net net e is out o (inl x) = x .each net e is
 of-net net e is out o (inr x) = absurd (x .refused .noExport net e is)
 
-imports-all : (net : PNet) → Small net → (out : List ℕ) → length (importedSheet net) ≤ length out → (o : Imported × List ℕ) → ImportPnmlAllows (pnml net) out o
+imports-all : (net : PNet) → Small net → (out : List ℕ) → length (importedSheet net) ≤ length out → (o : Emitted × List ℕ) → ImportPnmlAllows (pnml net) out o
     → (o .0 ≡ Length (length (importedSheet net))) × (o .1 ≡ importedSheet net ++ drop (length (importedSheet net)) out)
 imports-all net w out h o allows =
     let r = roomy net (length out) (w .pairs) (w .modes) h in
@@ -130,7 +131,7 @@ imported-reads =
     }
 
 -- a refused import leaves the output as it was
-pub import-kept : (text out : List ℕ) (o : Imported × List ℕ) → ImportPnmlAllows text out o → told (o .0) .carried .number ≢ 0 → o .1 ≡ out
+pub import-kept : (text out : List ℕ) (o : Emitted × List ℕ) → ImportPnmlAllows text out o → told (o .0) .carried .number ≢ 0 → o .1 ≡ out
 import-kept text out o (inr x) h = x .kept
 import-kept text out o (inl x) h = go (way (x .net) (length out))
   where
@@ -163,6 +164,6 @@ between net e =
       places-some (pairs net) (net .start) (total-some (net .colours) (w .somePlace) (w .places)),
     )
 
-pub refuses-none : (out : List ℕ) (o : Imported × List ℕ) → ImportPnmlAllows [] out o → told (o .0) .carried .number ≢ 0
+pub refuses-none : (out : List ℕ) (o : Emitted × List ℕ) → ImportPnmlAllows [] out o → told (o .0) .carried .number ≢ 0
 refuses-none out o (inr x) e = omega (arith, ap numberOf (x .answer))
 refuses-none out o (inl x) e = omega (arith, ap length (x .is), between (x .net) (x .exportable))

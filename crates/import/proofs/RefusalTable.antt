@@ -15,8 +15,8 @@ use Rattle.model.specs.RefusalTables.{Table, row, _then_, each, Silent, Gives, 
 use Rattle.pnml.specs.Pnml.{pnml, Exportable, Refused20}
 use Rattle.pnml.specs.Singles.{importedSheet, importRefusal}
 use Rattle.pnml.proofs.ImportRefusal.{too-many, Way, many, full, whole, way}
-use Rattle.import.specs.declared.Imported.{Imported}
-use Rattle.import.specs.Imports.{imported, refusalOf}
+use Rattle.sheets.specs.declared.Emitted.{Emitted}
+use Rattle.sheets.specs.Emitted.{emitted, refusalOf}
 use Rattle.import.specs.Contracts.{OfExport, OfNone}
 use Rattle.import.specs.RefusalTable.{ExportOfSome, importTable, ImportTable}
 use Rattle.import.proofs.Promises.{once, answered}
@@ -94,7 +94,7 @@ Many text = ExportOfSome text (λ net. (64 < pairs net) ⊎ (64 < modes net))
 abbrev Short : List ℕ → ℕ → Type 0
 Short text room = ExportOfSome text (λ net. room < length (importedSheet net))
 
-module _ {text out : List ℕ} {o : Imported × List ℕ} where
+module _ {text out : List ℕ} {o : Emitted × List ℕ} where
   none-reads : OfNone text out o → Reads (importTable text (length out)) (refusalOf (o .0))
   none-reads x =
       let is : refusalOf (o .0) ≡ some (wrong Net (NotAnExport (x .at))) = ap refusalOf (x .answer) in
@@ -109,7 +109,7 @@ module _ {text out : List ℕ} {o : Imported × List ℕ} where
     refusal-of : (net : PNet) → Exportable net → text ≡ pnml net → {r : Option Refusal} → importRefusal net (length out) ≡ r → refusalOf (o .0) ≡ r
     refusal-of net e i {r} f = ap refusalOf (answered net out (x .each net e i .0) f) ∙ told r
       where
-        told : (r : Option Refusal) → refusalOf (imported r (length (importedSheet net))) ≡ r
+        told : (r : Option Refusal) → refusalOf (emitted r (length (importedSheet net))) ≡ r
         told none = refl
         told (some r) = refl
 

@@ -23,7 +23,7 @@ use Rattle.grammar.specs.Gathered.{Gathered, arc, gather, finish, Tells}
 use Rattle.grammar.proofs.Made.{Made}
 use Rattle.import.specs.scan.Kinds.{Sound}
 use Rattle.import.specs.Imports.{importOf, outputOf}
-use Rattle.import.specs.declared.Imported.{Imported}
+use Rattle.sheets.specs.declared.Emitted.{Emitted}
 use Rattle.import.specs.declared.Wrote.{Wrote}
 use Rattle.import.specs.declared.Wrote.the-variants.{On, End}
 
@@ -144,7 +144,7 @@ abbrev pub countsBytes : ℕ → ℕ → List ℕ
 countsBytes places modes = bytes16 places ++ (bytes16 modes ++ (onesBytes places ++ onesBytes modes))
 
 -- the answer and the output of whatever net's export the text is
-pub record ImportedAs (s before : List ℕ) (r : Imported) (now : List ℕ) : Type 0 where
+pub record ImportedAs (s before : List ℕ) (r : Emitted) (now : List ℕ) : Type 0 where
   pub each : (net : PNet) → Exportable net → s ≡ pnml net → (r ≡ importOf net before) × (now ≡ outputOf net before)
 
 pub record PostRoom (q : State) (pair : ℕ) (out : List ℕ) (at : ℕ) : Type 0 where

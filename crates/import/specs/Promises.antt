@@ -11,14 +11,14 @@ use Rattle.model.specs.Refusals.{wrong}
 use Rattle.sheets.specs.written.Promises.{ReadBack}
 use Rattle.pnml.specs.Pnml.{pnml, Exportable, Refused20}
 use Rattle.pnml.specs.Singles.{singles, importedSheet}
-use Rattle.import.specs.declared.Imported.{Imported}
-use Rattle.import.specs.declared.Imported.the-variants.{Length, Refused}
+use Rattle.sheets.specs.declared.Emitted.{Emitted}
+use Rattle.sheets.specs.declared.Emitted.the-variants.{Length, Refused}
 use Rattle.import.specs.Contracts.{ImportPnmlAllows}
 
 -- "20 at the first byte (or the end) from which no export agrees with the text": there, and nowhere else
 pub record RefusedExactly : Type 0 where
-  pub only : (text out : List ℕ) (o : Imported × List ℕ) → ImportPnmlAllows text out o → (at : ℕ) → o .0 ≡ Refused (wrong Net (NotAnExport at)) → Refused20 text at
-  pub all : (text out : List ℕ) (o : Imported × List ℕ) → ImportPnmlAllows text out o → (at : ℕ) → Refused20 text at → o .0 ≡ Refused (wrong Net (NotAnExport at))
+  pub only : (text out : List ℕ) (o : Emitted × List ℕ) → ImportPnmlAllows text out o → (at : ℕ) → o .0 ≡ Refused (wrong Net (NotAnExport at)) → Refused20 text at
+  pub all : (text out : List ℕ) (o : Emitted × List ℕ) → ImportPnmlAllows text out o → (at : ℕ) → Refused20 text at → o .0 ≡ Refused (wrong Net (NotAnExport at))
 
 -- "Import reads exactly what export writes", of nets of at most 64 pairs and 64 modes
 pub record Small (net : PNet) : Type 0 where
@@ -27,9 +27,9 @@ pub record Small (net : PNet) : Type 0 where
   pub modes : modes net ≤ 64
 
 pub record ImportsExactly : Type 0 where
-  pub only : (text out : List ℕ) (o : Imported × List ℕ) → ImportPnmlAllows text out o → (n : ℕ) → o .0 ≡ Length n
+  pub only : (text out : List ℕ) (o : Emitted × List ℕ) → ImportPnmlAllows text out o → (n : ℕ) → o .0 ≡ Length n
       → (net : PNet) × (Small net) × (text ≡ pnml net) × (length (importedSheet net) ≤ length out)
-  pub all : (net : PNet) → Small net → (out : List ℕ) → length (importedSheet net) ≤ length out → (o : Imported × List ℕ) → ImportPnmlAllows (pnml net) out o
+  pub all : (net : PNet) → Small net → (out : List ℕ) → length (importedSheet net) ≤ length out → (o : Emitted × List ℕ) → ImportPnmlAllows (pnml net) out o
       → (o .0 ≡ Length (length (importedSheet net))) × (o .1 ≡ importedSheet net ++ drop (length (importedSheet net)) out)
 
 -- "the same pairs, modes, numbers and first marking, with each pair a place of one colour and each mode a transition of one mode"

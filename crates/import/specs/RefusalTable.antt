@@ -10,8 +10,8 @@ use Rattle.model.specs.Refusals.{carries}
 use Rattle.model.specs.RefusalTables.{Table, row, _then_, each, Reads}
 use Rattle.pnml.specs.Pnml.{pnml, Exportable, Refused20}
 use Rattle.pnml.specs.Singles.{importedSheet}
-use Rattle.import.specs.declared.Imported.{Imported}
-use Rattle.import.specs.Imports.{refusalOf}
+use Rattle.sheets.specs.declared.Emitted.{Emitted}
+use Rattle.sheets.specs.Emitted.{refusalOf}
 use Rattle.import.specs.Contracts.{ImportPnmlAllows}
 
 -- the text is the export of such a net
@@ -25,4 +25,4 @@ importTable text room =
     then row (ExportOfSome text (λ net. room < length (importedSheet net))) (carries 10 0 0)
 
 abbrev pub ImportTable : Type 0
-ImportTable = (text out : List ℕ) (o : Imported × List ℕ) → ImportPnmlAllows text out o → Reads (importTable text (length out)) (refusalOf (o .0))
+ImportTable = (text out : List ℕ) (o : Emitted × List ℕ) → ImportPnmlAllows text out o → Reads (importTable text (length out)) (refusalOf (o .0))

@@ -12,19 +12,14 @@ use model::Fault;
 use model::Refusal;
 use model::Thing;
 use model::Version;
+use sheets::Emitted;
 use sheets::written::sheet_size;
 ghost use mathlib.Core.Path.{_≡_};
 ghost use Rattle.model.specs.Refusals.{wrong};
-ghost use Rattle.import.specs.declared.Imported.the-variants.{Refused};
+ghost use Rattle.sheets.specs.declared.Emitted.the-variants.{Refused};
 ghost use Rattle.import.specs.scan.Kinds.{ExportOf};
 ghost use Rattle.import.specs.Contracts.{ImportPnmlAllows};
 ghost use Rattle.import.specs.Parts.{ImportedAs};
-
-// How many bytes were written, or why none.
-pub enum Imported {
-    Length(usize),
-    Refused(Refusal),
-}
 
 // What was written of a line: the state after it, where it ends, and the place after what was written; or there is no line.
 enum Wrote {
@@ -32,14 +27,14 @@ enum Wrote {
     End,
 }
 
-fn refused(thing: Thing, fault: Fault) -> Imported
+fn refused(thing: Thing, fault: Fault) -> Emitted
     ensures { λ r. ⌜ r ≡ Refused (wrong thing fault) ⌝ }
 {
-    Imported::Refused(Refusal { thing, fault })
+    Emitted::Refused(Refusal { thing, fault })
 }
 
 // 4, then 10, or the sheet: the text is an export, and `q` has its counts.
-fn import_export(text: &[u8], q: State, out: &mut [u8]) -> Imported
+fn import_export(text: &[u8], q: State, out: &mut [u8]) -> Emitted
     requires { ⌜ ExportOf (now text) q ⌝ }
     ensures { λ r. ⌜ ImportedAs (now (text .entry)) (now (out .entry)) r (now (out .exit)) ⌝ }
 {
@@ -55,11 +50,11 @@ fn import_export(text: &[u8], q: State, out: &mut [u8]) -> Imported
     if out.len() < size {
         return refused(Thing::Net, Fault::NoRoom);
     }
-    Imported::Length(put_sheet(text, q, size, out))
+    Emitted::Length(put_sheet(text, q, size, out))
 }
 
 // Writes the net whose export the text is as a sheet of version 1, from the first byte of `out` on.
-pub fn import_pnml(text: &[u8], out: &mut [u8]) -> Imported
+pub fn import_pnml(text: &[u8], out: &mut [u8]) -> Emitted
     ensures { λ r. ⌜ ImportPnmlAllows (now (text .entry)) (now (out .entry)) (r, now (out .exit)) ⌝ }
 {
     let checked = check_text(text);

@@ -43,9 +43,7 @@ use Rattle.opened.specs.dead.IsDead as one
 use Rattle.opened.specs.dead.FirstDead as first
 use Rattle.complement.specs.Complemented.{complementingRefusal}
 use Rattle.opened.specs.size.Sizes as sizing
-use Rattle.complement.specs.Complemented as complementing
 use Rattle.convert.specs.Converted.{ofVersion, convertedSheet, lostRule, convertRefusal, conversionOf}
-use Rattle.convert.specs.Converted as converting
 use Rattle.convert.specs.Promises.{SameNet}
 use Rattle.bare.specs.Strip.{strip, stripRefusal}
 use Rattle.convert.specs.strip.Stripped.{strippedSheet, strippingRefusal, strippedOf}
@@ -53,7 +51,6 @@ use Rattle.convert.specs.strip.Stripped as stripping
 use Rattle.convert.proofs.Answers.{own-rule, roomy}
 use Rattle.convert.proofs.Promises.{source-only, converted-reads}
 use Rattle.export.specs.Exports.{exportRefusal}
-use Rattle.export.specs.Exports as exporting
 use Rattle.import.proofs.Promises.{refuses-none}
 use Rattle.complement.specs.audit.Audits.{finds, auditingRefusal}
 use Rattle.complement.specs.audit.Audits as auditing
@@ -71,6 +68,7 @@ use Rattle.promises.specs.OwnExample as own
 use Rattle.statement.specs.Example as sheets
 use Rattle.promises.specs.ConstantAnswers.{Only, Never, NotConstant, Varies, PartVaries, full, ConstantAnswers}
 use Rattle.promises.proofs.OwnExample.{read-back, weights-read, movements-read, tests, steps, runs-whole, own-example}
+use Rattle.sheets.specs.Emitted as emitting
 
 module _ {I O : Type 0} (Allows : I → O → Type 0) (number : O → ℕ) where
   not-constant : (i j : I) → Only Allows number 0 i → Never Allows number 0 j → NotConstant Allows number
@@ -246,7 +244,7 @@ own-two : SameNet Two own.net
 own-two = converted-reads One Two own.net own-source own-kept
 
 converts : (source target : Version) (net : List ℕ) → ofVersion source net ≡ none → lostRule target (netOf net .rule) ≡ none
-    → converting.told (conversionOf source target net (slice (length (convertedSheet target net)) .0)) .carried .number ≡ 0
+    → emitting.told (conversionOf source target net (slice (length (convertedSheet target net)) .0)) .carried .number ≡ 0
 unfolding convertRefusal
 converts source target net e k = rw (none-then e (roomy target net k (slice (length (convertedSheet target net)) .1)))
 
@@ -255,7 +253,7 @@ own-strip : stripRefusal own.example (pairNo 0) ≡ none
 unfolding stripRefusal strip table _▸_
 own-strip = refl
 
-strips : stripping.told (strippedOf own.net (pairNo 0) (slice (length (strippedSheet own.net (pairNo 0))) .0)) .carried .number ≡ 0
+strips : emitting.told (strippedOf own.net (pairNo 0) (slice (length (strippedSheet own.net (pairNo 0))) .0)) .carried .number ≡ 0
 unfolding strippingRefusal stripping.roomRefusal
 strips =
     let room = slice (length (strippedSheet own.net (pairNo 0))) in
@@ -309,23 +307,23 @@ constant-answers =
           (λ o a. ap (λ o. sizing.told o .carried .number) a ∙ rw (some-then _ net-cut));
       complement =
           varies _ _ (own.net, own.room) (lone, []) (λ o a. ap (λ r. r .carried .number) (own-example .complement o a))
-          (λ o a. ap (λ o. complementing.told o .carried .number) (a .0) ∙ rw complement-cut);
+          (λ o a. ap (λ o. emitting.told o .carried .number) (a .0) ∙ rw complement-cut);
       toVersion2 =
           varies _ _ (own.net, slice (length (convertedSheet Two own.net)) .0) (lone, [])
-          (λ o a. ap (λ o. converting.told o .carried .number) (a .0) ∙ converts One Two own.net own-source own-kept)
-          (λ o a. ap (λ o. converting.told o .carried .number) (a .0) ∙ rw (convert-cut One Two));
+          (λ o a. ap (λ o. emitting.told o .carried .number) (a .0) ∙ converts One Two own.net own-source own-kept)
+          (λ o a. ap (λ o. emitting.told o .carried .number) (a .0) ∙ rw (convert-cut One Two));
       toVersion1 =
           let two = convertedSheet Two own.net in
           varies _ _ (two, slice (length (convertedSheet One two)) .0) (lone, [])
-          (λ o a. ap (λ o. converting.told o .carried .number) (a .0) ∙ converts Two One two (own-two .back) (ap (λ n. lostRule One (n .rule)) (own-two .same) ∙ own-rule One own.net (read-back .version)))
-          (λ o a. ap (λ o. converting.told o .carried .number) (a .0) ∙ rw (convert-cut Two One));
+          (λ o a. ap (λ o. emitting.told o .carried .number) (a .0) ∙ converts Two One two (own-two .back) (ap (λ n. lostRule One (n .rule)) (own-two .same) ∙ own-rule One own.net (read-back .version)))
+          (λ o a. ap (λ o. emitting.told o .carried .number) (a .0) ∙ rw (convert-cut Two One));
       strip =
           varies _ _ (own.net, pairNo 0, slice (length (strippedSheet own.net (pairNo 0))) .0) (lone, pairNo 0, [])
-          (λ o a. ap (λ o. stripping.told o .carried .number) (a .0) ∙ strips)
-          (λ o a. ap (λ o. stripping.told o .carried .number) (a .0) ∙ rw strip-cut);
+          (λ o a. ap (λ o. emitting.told o .carried .number) (a .0) ∙ strips)
+          (λ o a. ap (λ o. emitting.told o .carried .number) (a .0) ∙ rw strip-cut);
       exportPnml =
           varies _ _ (own.complementNet, replicate 887 0) (lone, []) (λ o a. ap (λ r. r .carried .number) (own-example .exportPnml o a .0))
-          (λ o a. ap (λ o. exporting.told o .carried .number) (a .0) ∙ rw export-cut);
+          (λ o a. ap (λ o. emitting.told o .carried .number) (a .0) ∙ rw export-cut);
       importPnml =
           accepts-and-refuses _ _ (own.text, own.room) ([], []) (λ o a. ap (λ r. r .carried .number) (own-example .importPnml o a .0)) (refuses-none []);
       audit =

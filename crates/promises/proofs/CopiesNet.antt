@@ -22,7 +22,8 @@ use Rattle.sheets.specs.Decoded.{netOf}
 use Rattle.sheets.proofs.Meaning.{counts-length, colours-are}
 use Rattle.sheets.proofs.nets.Valid.{counts-hold}
 use Rattle.sheets.proofs.written.RoundTrip.{written-then-read}
-use Rattle.complement.specs.Complemented.{told, complementSheet, complemented, complementingRefusal, outputOf}
+use Rattle.complement.specs.Complemented.{complementSheet, complementingRefusal, outputOf}
+use Rattle.sheets.specs.Emitted.{emitted, told}
 use Rattle.promises.specs.Frauds.{CopiesNet}
 use Rattle.promises.proofs.Accepting.{unrefused}
 use Rattle.promises.proofs.DemandThree.{complementable, complement-sheet}
@@ -74,7 +75,7 @@ pub copies-net : CopiesNet
 copies-net =
     record {
       excluded = λ net out p k h e o a n same.
-          let q = unrefused (λ o. told (complemented o (length (complementSheet net)))) (length (complementSheet net)) refl (λ r. refl) (complementingRefusal net (length out)) (sym (ap (λ c. told c .carried .number) (a .0)) ∙ n) in
+          let q = unrefused (λ o. told (emitted o (length (complementSheet net)))) (length (complementSheet net)) refl (λ r. refl) (complementingRefusal net (length out)) (sym (ap (λ c. told c .carried .number) (a .0)) ∙ n) in
           omega (
             arith,
             written-places net out q,

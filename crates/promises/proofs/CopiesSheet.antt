@@ -15,7 +15,8 @@ use Rattle.heads.specs.Version.{versionOf}
 use Rattle.heads.proofs.Heads.{head-holds}
 use Rattle.sheets.specs.Decoded.{netOf}
 use Rattle.sheets.proofs.written.SheetLength.{sheet-least}
-use Rattle.convert.specs.Converted.{ofVersion, lostRule, convertedSheet, openRefusal, convertRefusal, converted, output, told, conversionOf, outputOf}
+use Rattle.convert.specs.Converted.{ofVersion, lostRule, convertedSheet, openRefusal, convertRefusal, conversionOf, outputOf}
+use Rattle.sheets.specs.Emitted.{emitted, told, output}
 use Rattle.convert.proofs.Answers.{read-version}
 use Rattle.convert.proofs.Promises.{converted-reads}
 use Rattle.promises.specs.Frauds.{CopiesSheet}
@@ -30,7 +31,7 @@ module _ (source target : Version) (d : source ≢ target) (net out : List ℕ) 
   unfolding convertRefusal openRefusal ofVersion
   not-copied accepted copied =
       let sheet = convertedSheet target net in
-      let none-refused = unrefused (λ o. told (converted o (length sheet))) (length sheet) refl (λ r. refl) (convertRefusal source target net (length out)) accepted in
+      let none-refused = unrefused (λ o. told (emitted o (length sheet))) (length sheet) refl (λ r. refl) (convertRefusal source target net (length out)) accepted in
       let whole = left-none (ofVersion source net) _ none-refused in
       let kept = left-none (lostRule target (netOf net .rule)) _ (right-none (ofVersion source net) _ none-refused) in
       let head = head-holds Net net (left-none _ _ whole) in

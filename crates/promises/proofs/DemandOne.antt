@@ -26,13 +26,13 @@ use Rattle.fire.specs.step.Calls.{stepModes, testStepRefusal}
 use Rattle.ships.specs.declared.Fleet.{Fleet}
 use Rattle.ships.specs.Ships.{Ship, ship, voyageOf, withVoyage}
 use Rattle.ships.specs.Entered.{shipRefusal, left, entered}
-use Rattle.complement.specs.Complemented.{complementSheet, complementingRefusal, told, complemented, output, complementOf}
+use Rattle.complement.specs.Complemented.{complementSheet, complementingRefusal, complementOf}
+use Rattle.sheets.specs.Emitted.{emitted, told, output}
 use Rattle.complement.specs.Complemented as complementing
-use Rattle.convert.specs.Converted.{convertedSheet, convertRefusal, converted, conversionOf, outputOf}
-use Rattle.convert.specs.Converted as converting
-use Rattle.convert.specs.strip.Stripped.{strippedSheet, strippingRefusal, stripped, strippedOf}
+use Rattle.convert.specs.Converted.{convertedSheet, convertRefusal, conversionOf, outputOf}
+use Rattle.convert.specs.strip.Stripped.{strippedSheet, strippingRefusal, strippedOf}
 use Rattle.convert.specs.strip.Stripped as stripping
-use Rattle.export.specs.Exports.{exportText, exportRefusal, exported, exportOf}
+use Rattle.export.specs.Exports.{exportText, exportRefusal, exportOf}
 use Rattle.export.specs.Exports as exporting
 use Rattle.import.proofs.Promises.{import-kept}
 use Rattle.run.specs.salvage.Salvaged as salvaging
@@ -44,6 +44,7 @@ use Rattle.statement.specs.Replay.{room, replayText, stated, statedIn}
 use Rattle.answers.specs.Told.{counted, textTold}
 use Rattle.promises.specs.DemandOne.{Refused, DemandOne, DemandOneForC}
 use Rattle.promises.proofs.Accepting.{left-alone}
+use Rattle.sheets.specs.Emitted as emitting
 
 kept : (o : Option Refusal) (new found : List ℕ) → Refused (answer o) → written o new found ≡ found
 kept o new found = left-alone (λ o. number (answer o)) (λ o. written o new found) refl (λ r. refl) o
@@ -55,30 +56,30 @@ ship-kept f s = left-alone (λ o. number (answer o)) (λ o. left o f (withVoyage
 complement-kept : (net out : List ℕ) → told (complementOf net out) .carried .number ≢ 0 → complementing.outputOf net out ≡ out
 complement-kept net out =
     let sheet = complementSheet net in
-    left-alone (λ o. told (complemented o (length sheet)) .carried .number) (λ o. output o sheet out) refl (λ r. refl) (complementingRefusal net (length out))
+    left-alone (λ o. told (emitted o (length sheet)) .carried .number) (λ o. output o sheet out) refl (λ r. refl) (complementingRefusal net (length out))
 
-converted-kept : (source target : Version) (net out : List ℕ) → converting.told (conversionOf source target net out) .carried .number ≢ 0
+converted-kept : (source target : Version) (net out : List ℕ) → emitting.told (conversionOf source target net out) .carried .number ≢ 0
     → outputOf source target net out ≡ out
 converted-kept source target net out =
     let sheet = convertedSheet target net in
-    left-alone (λ o. converting.told (converted o (length sheet)) .carried .number) (λ o. converting.output o sheet out) refl (λ r. refl)
+    left-alone (λ o. emitting.told (emitted o (length sheet)) .carried .number) (λ o. emitting.output o sheet out) refl (λ r. refl)
     (convertRefusal source target net (length out))
 
-stripped-kept : (net : List ℕ) (p : Pair) (out : List ℕ) → stripping.told (strippedOf net p out) .carried .number ≢ 0 → stripping.outputOf net p out ≡ out
+stripped-kept : (net : List ℕ) (p : Pair) (out : List ℕ) → emitting.told (strippedOf net p out) .carried .number ≢ 0 → stripping.outputOf net p out ≡ out
 stripped-kept net p out =
     let sheet = strippedSheet net p in
-    left-alone (λ o. stripping.told (stripped o (length sheet)) .carried .number) (λ o. stripping.output o sheet out) refl (λ r. refl)
+    left-alone (λ o. emitting.told (emitted o (length sheet)) .carried .number) (λ o. emitting.output o sheet out) refl (λ r. refl)
     (strippingRefusal net p (length out))
 
-exported-kept : (net out : List ℕ) → exporting.told (exportOf net out) .carried .number ≢ 0 → exporting.outputOf net out ≡ out
+exported-kept : (net out : List ℕ) → emitting.told (exportOf net out) .carried .number ≢ 0 → exporting.outputOf net out ≡ out
 exported-kept net out =
     let text = exportText net in
-    left-alone (λ o. exporting.told (exported o (length text)) .carried .number) (λ o. exporting.output o text out) refl (λ r. refl)
+    left-alone (λ o. emitting.told (emitted o (length text)) .carried .number) (λ o. emitting.output o text out) refl (λ r. refl)
     (exportRefusal net (length out))
 
 salvaged-kept : (net damaged out : List ℕ) → salvaging.told (salvaging.salvageOf net damaged out) .carried .number ≢ 0 → salvaging.outputOf net damaged out ≡ out
 salvaged-kept net damaged out =
-    left-alone (λ o. salvaging.told (salvaging.salvaged o (salvaging.report net damaged)) .carried .number) (λ o. salvaging.output o (salvaging.freshSheet net damaged) out)
+    left-alone (λ o. salvaging.told (salvaging.salvaged o (salvaging.report net damaged)) .carried .number) (λ o. emitting.output o (salvaging.freshSheet net damaged) out)
     refl (λ r. refl) (salvaging.salvageRefusal net damaged (length out))
 
 put-kept : (out : List ℕ) (at : ℕ) (bytes : List ℕ) → putTo out at bytes ≡ Full → putInto out at bytes ≡ out
@@ -118,11 +119,11 @@ demand-one =
       complement = λ net out o allows refused.
           allows .1 ∙ complement-kept net out (subst (λ c. told c .carried .number ≢ 0) (allows .0) refused);
       toVersion2 = λ net out o allows refused.
-          allows .1 ∙ converted-kept One Two net out (subst (λ c. converting.told c .carried .number ≢ 0) (allows .0) refused);
+          allows .1 ∙ converted-kept One Two net out (subst (λ c. emitting.told c .carried .number ≢ 0) (allows .0) refused);
       toVersion1 = λ net out o allows refused.
-          allows .1 ∙ converted-kept Two One net out (subst (λ c. converting.told c .carried .number ≢ 0) (allows .0) refused);
-      strip = λ net p out o allows refused. allows .1 ∙ stripped-kept net p out (subst (λ c. stripping.told c .carried .number ≢ 0) (allows .0) refused);
-      exportPnml = λ net out o allows refused. allows .1 ∙ exported-kept net out (subst (λ c. exporting.told c .carried .number ≢ 0) (allows .0) refused);
+          allows .1 ∙ converted-kept Two One net out (subst (λ c. emitting.told c .carried .number ≢ 0) (allows .0) refused);
+      strip = λ net p out o allows refused. allows .1 ∙ stripped-kept net p out (subst (λ c. emitting.told c .carried .number ≢ 0) (allows .0) refused);
+      exportPnml = λ net out o allows refused. allows .1 ∙ exported-kept net out (subst (λ c. emitting.told c .carried .number ≢ 0) (allows .0) refused);
       importPnml = import-kept;
       salvage = λ net damaged out o allows refused.
           allows .1 ∙ salvaged-kept net damaged out (subst (λ c. salvaging.told c .carried .number ≢ 0) (allows .0) refused);

@@ -45,12 +45,14 @@ use Rattle.export.specs.Exports.{boundedCapacity, boundedInhibitor}
 use Rattle.export.specs.Exports as exporting
 use Rattle.complement.specs.audit.Audits as auditing
 use Rattle.damaged.specs.Damaged.{damagedRefusal, modesIn}
-use Rattle.run.specs.salvage.Salvaged.{sheetOfFirst, reportOf, tooShort, salvaged, output, trial, salvageRefusal, salvageOf, outputOf}
+use Rattle.sheets.specs.Emitted.{output}
+use Rattle.run.specs.salvage.Salvaged.{sheetOfFirst, reportOf, tooShort, salvaged, trial, salvageRefusal, salvageOf, outputOf}
 use Rattle.statement.specs.Replay.{unlessRefused, weightsText, sheetsText, replayText, stated, statedIn}
 use Rattle.promises.specs.DemandThree.{asWritten}
 use Rattle.promises.specs.EqualNets.{OneNet, OffsetAside, RepliesAlike, Fits, StripFits, Bytes, AlikeBefore, Alike, EqualNets}
 use Rattle.promises.proofs.TwoRuns.{length-accepted, written}
 use Rattle.promises.proofs.StripWritten.{sheet-there, sheet-reads}
+use Rattle.sheets.specs.Emitted as emitting
 
 -- the refusals that name an offset: 15 and 19
 data Naming : Type 0 where
@@ -104,7 +106,7 @@ aside-told : {A : Type 0} {o p : Option Refusal} (tell : Option Refusal → Repl
 aside-told tell there (same o) = record { carried = equal-aside _; value = refl }
 aside-told tell there (offsets f i j) = rw (there (naming f i), there (naming f j)) (record { carried = aside-carried (offsets f i j); value = refl })
 
-complement-carried : (o : Option Refusal) (l : ℕ) → complementing.told (complementing.complemented o l) .carried ≡ carried (answer o)
+complement-carried : (o : Option Refusal) (l : ℕ) → emitting.told (emitting.emitted o l) .carried ≡ carried (answer o)
 complement-carried none l = refl
 complement-carried (some r) l = refl
 
@@ -114,7 +116,7 @@ complement-fits : (net out : List ℕ) → wholeNet net ≡ none → Fits net ou
 unfolding complementing.complementingRefusal complementing.roomRefusal
 complement-fits net out w fits = none-then w (rw (le-ltb (length out) (length (complementing.complementSheet net)) fits) (then-none _))
 
-strip-carried : (o : Option Refusal) (l : ℕ) → stripping.told (stripping.stripped o l) .carried ≡ carried (answer o)
+strip-carried : (o : Option Refusal) (l : ℕ) → emitting.told (emitting.emitted o l) .carried ≡ carried (answer o)
 strip-carried none l = refl
 strip-carried (some r) l = refl
 
@@ -173,7 +175,7 @@ module _ (a b : List ℕ) (one : OneNet a b) where
   net = sym (one .net)
 
   pub complements : (out out′ : List ℕ) → Fits a out → Fits b out′
-      → OffsetAside (complementing.told (complementing.complementOf a out) .carried) (complementing.told (complementing.complementOf b out′) .carried)
+      → OffsetAside (emitting.told (complementing.complementOf a out) .carried) (emitting.told (complementing.complementOf b out′) .carried)
   complements out out′ f f′ =
       rw (complement-carried (complementing.complementingRefusal a (length out)), complement-carried, complement-fits a out (one .first) f, complement-fits b out′ (one .second) f′, one .net)
       (aside-carried (aside-complement (netOf b) (arcOffset a) (arcOffset b)))
@@ -193,14 +195,14 @@ module _ (a b : List ℕ) (one : OneNet a b) where
       rw (one .first, one .second, one .net)
       (aside-then (same none) (aside-then (aside-bounded (netOf b) (exporting.capacityOffset a) (exporting.capacityOffset b) (inhibitorOffset a) (inhibitorOffset b)) (same _)))
 
-  pub exports : (out : List ℕ) → RepliesAlike (exporting.told (exporting.exportOf a out)) (exporting.told (exporting.exportOf b out))
+  pub exports : (out : List ℕ) → RepliesAlike (emitting.told (exporting.exportOf a out)) (emitting.told (exporting.exportOf b out))
   exports out =
-      rw (one .net) (aside-told (λ o. exporting.told (exporting.exported o (length (exporting.exportText b)))) (λ r. refl) (export-refusals (length out)))
+      rw (one .net) (aside-told (λ o. emitting.told (emitting.emitted o (length (exporting.exportText b)))) (λ r. refl) (export-refusals (length out)))
 
   pub export-outputs : (out : List ℕ) → exporting.outputOf a out ≡ exporting.outputOf b out
   export-outputs out = rw (one .net) (left (exporting.exportText b) (export-refusals (length out)))
     where
-      left : (text : List ℕ) {o p : Option Refusal} → Aside o p → exporting.output o text out ≡ exporting.output p text out
+      left : (text : List ℕ) {o p : Option Refusal} → Aside o p → emitting.output o text out ≡ emitting.output p text out
       left text (same o) = refl
       left text (offsets f i j) = refl
 
@@ -214,8 +216,8 @@ module _ (a b : List ℕ) (one : OneNet a b) where
   pub salvage-outputs : (damaged out : List ℕ) → outputOf a damaged out ≡ outputOf b damaged out
   salvage-outputs damaged out = salvage-left a b damaged (sym whole) (trials damaged) out
 
-  one-again : (out out′ : List ℕ) (n n′ : ℕ) → complementing.told (complementing.complementOf a out) ≡ yields n
-      → complementing.told (complementing.complementOf b out′) ≡ yields n′ → OneNet (asWritten a out n) (asWritten b out′ n′)
+  one-again : (out out′ : List ℕ) (n n′ : ℕ) → emitting.told (complementing.complementOf a out) ≡ yields n
+      → emitting.told (complementing.complementOf b out′) ≡ yields n′ → OneNet (asWritten a out n) (asWritten b out′ n′)
   one-again out out′ n n′ e e′ =
       let w = written a out (length-accepted (complementing.complementingRefusal a (length out)) _ e) e in
       let w′ = written b out′ (length-accepted (complementing.complementingRefusal b (length out′)) _ e′) e′ in
@@ -223,12 +225,12 @@ module _ (a b : List ℕ) (one : OneNet a b) where
 
   -- stripping: the same refusal, whatever the version, where there is room
   pub strips : (p : Pair) (out out′ : List ℕ) → StripFits a p out → StripFits b p out′
-      → stripping.told (stripping.strippedOf a p out) .carried ≡ stripping.told (stripping.strippedOf b p out′) .carried
+      → emitting.told (stripping.strippedOf a p out) .carried ≡ emitting.told (stripping.strippedOf b p out′) .carried
   strips p out out′ f f′ =
       rw (strip-carried (stripping.strippingRefusal a p (length out)), strip-carried, strip-fits a p out (one .first) f, strip-fits b p out′ (one .second) f′, one .net)
 
-  stripped-again : (p : Pair) (out out′ : List ℕ) (n n′ : ℕ) → stripping.told (stripping.strippedOf a p out) ≡ yields n
-      → stripping.told (stripping.strippedOf b p out′) ≡ yields n′ → OneNet (take n (stripping.outputOf a p out)) (take n′ (stripping.outputOf b p out′))
+  stripped-again : (p : Pair) (out out′ : List ℕ) (n n′ : ℕ) → emitting.told (stripping.strippedOf a p out) ≡ yields n
+      → emitting.told (stripping.strippedOf b p out′) ≡ yields n′ → OneNet (take n (stripping.outputOf a p out)) (take n′ (stripping.outputOf b p out′))
   stripped-again p out out′ n n′ e e′ =
       let r = sheet-reads a p out n e in
       let r′ = sheet-reads b p out′ n′ e′ in

@@ -22,14 +22,12 @@ use Rattle.complement.specs.Complemented as complementing
 use Rattle.pnml.specs.Pnml.{body, pnml, Exportable}
 use Rattle.pnml.specs.Singles.{singles, importedSheet}
 use Rattle.pnml.proofs.ImportRefusal.{too-many, short}
-use Rattle.export.specs.declared.Exported.{Exported}
-use Rattle.export.specs.Exports.{exportText, roomRefusal, exportRefusal, exported, output}
-use Rattle.export.specs.Exports as exporting
+use Rattle.sheets.specs.declared.Emitted.{Emitted}
+use Rattle.export.specs.Exports.{exportText, roomRefusal, exportRefusal}
+use Rattle.sheets.specs.Emitted.{emitted, output}
 use Rattle.export.specs.Contracts.{ExportPnmlAllows}
 use Rattle.export.proofs.Promises.{exports-exactly, complements-exportable}
-use Rattle.import.specs.declared.Imported.{Imported}
-use Rattle.import.specs.declared.Imported.the-variants.{Length, Refused}
-use Rattle.import.specs.Imports.{imported}
+use Rattle.sheets.specs.declared.Emitted.the-variants.{Length, Refused}
 use Rattle.import.specs.Imports as importing
 use Rattle.import.specs.Promises.{Small}
 use Rattle.import.specs.Contracts.{ImportPnmlAllows}
@@ -39,15 +37,16 @@ use Rattle.promises.specs.Exchange.{singleBytes, ComesBack, ImportAnswer
 use Rattle.promises.proofs.Accepting.{yielded}
 use Rattle.promises.proofs.DemandThree.{complementable}
 use Rattle.promises.proofs.TwoRuns.{length-accepted, written}
+use Rattle.sheets.specs.Emitted as emitting
 
 -- an export that answers a length leaves the text of an exportable net
-module _ (net out : List ℕ) (o : Exported × List ℕ) (n : ℕ) (allows : ExportPnmlAllows net out o) (e : exporting.told (o .0) ≡ yields n) where
+module _ (net out : List ℕ) (o : Emitted × List ℕ) (n : ℕ) (allows : ExportPnmlAllows net out o) (e : emitting.told (o .0) ≡ yields n) where
   abbrev text : List ℕ
   text = exportText net
 
   pub told-length : (exportRefusal net (length out) ≡ none) × (n ≡ length text)
   told-length =
-      yielded (λ r. exporting.told (exported r (length text))) (length text) refl (λ r. refl) (exportRefusal net (length out)) (sym (ap exporting.told (allows .0)) ∙ e)
+      yielded (λ r. emitting.told (emitted r (length text))) (length text) refl (λ r. refl) (exportRefusal net (length out)) (sym (ap emitting.told (allows .0)) ∙ e)
 
   pub exportable : Exportable (netOf net)
   unfolding exportRefusal roomRefusal
@@ -57,7 +56,7 @@ module _ (net out : List ℕ) (o : Exported × List ℕ) (n : ℕ) (allows : Exp
   text-there = ap (take n) (allows .1 ∙ ap (λ r. output r text out) (told-length .0)) ∙ take-at text (drop (length text) out) n (sym (told-length .1))
 
 -- the sheet of an exportable net is refused for want of room alone
-module _ (net out : List ℕ) (o : Exported × List ℕ) (allows : ExportPnmlAllows net out o) (whole : wholeNet net ≡ none) (x : Exportable (netOf net)) where
+module _ (net out : List ℕ) (o : Emitted × List ℕ) (allows : ExportPnmlAllows net out o) (whole : wholeNet net ≡ none) (x : Exportable (netOf net)) where
   fits : length (exportText net) ≤ length out → exportRefusal net (length out) ≡ none
   unfolding exportRefusal roomRefusal
   fits h = none-then whole (none-then (exports-exactly .all net x) (rw (le-ltb (length out) (length (exportText net)) h) refl))
@@ -70,12 +69,12 @@ module _ (net out : List ℕ) (o : Exported × List ℕ) (allows : ExportPnmlAll
   exports =
       let text = exportText net in
       record {
-        written = λ h. (ap exporting.told (allows .0 ∙ ap (λ r. exported r (length text)) (fits h)), allows .1 ∙ ap (λ r. output r text out) (fits h));
-        tooShort = λ h. ap (λ a. exporting.told a .carried) (allows .0 ∙ ap (λ r. exported r (length text)) (full h));
+        written = λ h. (ap emitting.told (allows .0 ∙ ap (λ r. emitted r (length text)) (fits h)), allows .1 ∙ ap (λ r. output r text out) (fits h));
+        tooShort = λ h. ap (λ a. emitting.told a .carried) (allows .0 ∙ ap (λ r. emitted r (length text)) (full h));
       }
 
 -- what import answers to the export of a net
-module _ (net : PNet) (x : Exportable net) (out : List ℕ) (o : Imported × List ℕ) (allows : ImportPnmlAllows (pnml net) out o) where
+module _ (net : PNet) (x : Exportable net) (out : List ℕ) (o : Emitted × List ℕ) (allows : ImportPnmlAllows (pnml net) out o) where
   answer-is : o .0 ≡ importing.importOf net out
   answer-is = of-net net x refl out o allows .0
 
@@ -91,20 +90,20 @@ module _ (net : PNet) (x : Exportable net) (out : List ℕ) (o : Imported × Lis
         let back = imported-reads .readBack net small in
         let there : take (singleBytes net) (o .1) ≡ sheet = ap (take (singleBytes net)) (y .1) ∙ take-at sheet (drop (length sheet) out) (singleBytes net) size in
         record {
-          answered = ap importing.told (y .0) ∙ ap yields size;
+          answered = ap emitting.told (y .0) ∙ ap yields size;
           version = rw there (back .version);
           accepted = rw there (back .accepted);
           same = rw (there, back .same) (imported-reads .same net x);
           untouched = ap (drop (singleBytes net)) (y .1) ∙ drop-at sheet (drop (length sheet) out) (singleBytes net) size ∙ ap (λ k. drop k out) size;
         }
 
-    too-short : length out < singleBytes net → importing.told (o .0) .carried ≡ carries 10 0 0
+    too-short : length out < singleBytes net → emitting.told (o .0) .carried ≡ carries 10 0 0
     too-short h =
-        ap (λ a. importing.told a .carried)
-        (answer-is ∙ ap (λ r. imported r (length (importedSheet net))) (short net (length out) few some-modes (omega (arith, size))))
+        ap (λ a. emitting.told a .carried)
+        (answer-is ∙ ap (λ r. emitted r (length (importedSheet net))) (short net (length out) few some-modes (omega (arith, size))))
 
-  too-many-told : (64 < pairs net) ⊎ (64 < modes net) → importing.told (o .0) .carried ≡ carries 4 3 0
-  too-many-told h = ap (λ a. importing.told a .carried) (answer-is ∙ ap (λ r. imported r (length (importedSheet net))) (too-many net (length out) h))
+  too-many-told : (64 < pairs net) ⊎ (64 < modes net) → emitting.told (o .0) .carried ≡ carries 4 3 0
+  too-many-told h = ap (λ a. emitting.told a .carried) (answer-is ∙ ap (λ r. emitted r (length (importedSheet net))) (too-many net (length out) h))
 
   pub imports : ImportAnswers net out o
   imports = record { comesBack = comes-back; tooMany = too-many-told; tooShort = too-short }
@@ -127,7 +126,7 @@ module _ (net : PNet) (w : Small net) where
   unfolding pnml body
   same-text = rw (pairs-same net, modes-same net)
 
-length-told : (a : Imported) {n : ℕ} → importing.told a ≡ yields n → a ≡ Length n
+length-told : (a : Emitted) {n : ℕ} → emitting.told a ≡ yields n → a ≡ Length n
 length-told (Length l) {n} e = let v : some l ≡ some n = ap (λ r. r .value) e in let same : l ≡ n = cc in ap Length same
 length-told (Refused r) {n} e = let v : none ≡ some n = ap (λ r. r .value) e in absurd (Option·none-ne-some n v)
 
@@ -149,7 +148,7 @@ import-then-export text out o n allows e out′ o′ allows′ =
 
 pub complement-then-export : ComplementThenExport
 complement-then-export net out o n allows e out′ o′ allows′ =
-    let told = sym (ap complementing.told (allows .0)) ∙ e in
+    let told = sym (ap emitting.told (allows .0)) ∙ e in
     let q = length-accepted (complementing.complementingRefusal net (length out)) _ told in
     let w = written net out q told in
     let x = complements-exportable (netOf net) (demand3 (netOf net) (complementable net (length out) q) .isNet) in

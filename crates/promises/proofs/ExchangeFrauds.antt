@@ -11,7 +11,7 @@ use Rattle.sheets.specs.Decoded.{netOf}
 use Rattle.pnml.specs.Agrees.{Agrees}
 use Rattle.pnml.specs.Pnml.{opening, closing, pnml}
 use Rattle.pnml.proofs.ImportRefusal.{Way, many, full, whole, way}
-use Rattle.import.specs.declared.Imported.{Imported}
+use Rattle.sheets.specs.declared.Emitted.{Emitted}
 use Rattle.import.specs.Imports as importing
 use Rattle.import.specs.Contracts.{ImportPnmlAllows}
 use Rattle.import.proofs.Promises.{of-net, answered, between}
@@ -22,15 +22,16 @@ use Rattle.promises.proofs.ConstantAnswers.{accepts-and-refuses}
 use Rattle.promises.proofs.ConstantAnswersForC.{tells}
 use Rattle.promises.proofs.Exchange.{exportable, text-there}
 use Rattle.promises.proofs.OwnExample.{printed-exportable}
+use Rattle.sheets.specs.Emitted as emitting
 
 -- to an export the answer is 4, 10 or a length
-never-20 : (net : PNet) (out : List ℕ) {a : Imported} → a ≡ importing.importOf net out → Way net (length out) → importing.told a .carried .number ≢ 20
-never-20 net out is (many h r) e = omega (arith, ap (λ a. importing.told a .carried .number) (answered net out is r))
-never-20 net out is (full p m h r) e = omega (arith, ap (λ a. importing.told a .carried .number) (answered net out is r))
-never-20 net out is (whole p m h r) e = omega (arith, ap (λ a. importing.told a .carried .number) (answered net out is r))
+never-20 : (net : PNet) (out : List ℕ) {a : Emitted} → a ≡ importing.importOf net out → Way net (length out) → emitting.told a .carried .number ≢ 20
+never-20 net out is (many h r) e = omega (arith, ap (λ a. emitting.told a .carried .number) (answered net out is r))
+never-20 net out is (full p m h r) e = omega (arith, ap (λ a. emitting.told a .carried .number) (answered net out is r))
+never-20 net out is (whole p m h r) e = omega (arith, ap (λ a. emitting.told a .carried .number) (answered net out is r))
 
-abbrev positionOf : Imported → ℕ
-positionOf a = importing.told a .carried .position
+abbrev positionOf : Emitted → ℕ
+positionOf a = emitting.told a .carried .position
 
 -- an empty text ceases at its end, and the first byte of an export after it
 abbrev bracket : List ℕ
@@ -40,11 +41,11 @@ opens : Agrees bracket 0 1 (pnml (ownExample .printed))
 unfolding pnml opening
 opens = record { inRun = omega arith; inText = omega arith; each = λ i h. let z : i ≡ 0 = omega arith in rw z refl }
 
-ends-empty : (o : Imported × List ℕ) → ImportPnmlAllows [] [] o → positionOf (o .0) ≡ 0
+ends-empty : (o : Emitted × List ℕ) → ImportPnmlAllows [] [] o → positionOf (o .0) ≡ 0
 ends-empty o (inl x) = absurd (omega (arith, ap length (x .is), between (x .net) (x .exportable)))
 ends-empty o (inr x) = let p : positionOf (o .0) ≡ x .at = ap positionOf (x .answer) in omega (arith, x .refused .first .one .1 .inRun)
 
-ends-after : (o : Imported × List ℕ) → ImportPnmlAllows bracket [] o → positionOf (o .0) ≢ 0
+ends-after : (o : Emitted × List ℕ) → ImportPnmlAllows bracket [] o → positionOf (o .0) ≢ 0
 unfolding opening closing
 ends-after o (inl x) e = omega (arith, ap length (x .is), between (x .net) (x .exportable))
 ends-after o (inr x) e =

@@ -65,17 +65,13 @@ use Rattle.opened.specs.dead.IsDead as one
 use Rattle.opened.specs.dead.IsDead.{deadRefusal}
 use Rattle.opened.specs.dead.FirstDead as first
 use Rattle.opened.specs.size.Sizes as sizing
-use Rattle.complement.specs.Complemented as complementing
 use Rattle.complement.specs.Complemented.{roomRefusal, complementingRefusal}
 use Rattle.text.specs.Decimals.{decimalWithin, decimal}
 use Rattle.pnml.specs.Pnml.{opening, closing, three, placeText, transitionText, weightText, preText, postText, arcText, modeText, body, pnml, Exportable}
 use Rattle.pnml.specs.Singles.{singles, importedSheet}
-use Rattle.export.specs.declared.Exported.{Exported}
-use Rattle.export.specs.Exports as exporting
+use Rattle.sheets.specs.declared.Emitted.{Emitted}
 use Rattle.export.specs.Contracts.{ExportPnmlAllows}
 use Rattle.export.proofs.Promises.{complements-exportable}
-use Rattle.import.specs.declared.Imported.{Imported}
-use Rattle.import.specs.Imports as importing
 use Rattle.import.specs.Promises.{Small}
 use Rattle.import.specs.Contracts.{ImportPnmlAllows}
 use Rattle.import.proofs.Singles.{size-is}
@@ -87,7 +83,8 @@ use Rattle.damaged.specs.Damaged.{considered}
 use Rattle.run.specs.declared.salvage.Salvaged.{Salvaged}
 use Rattle.run.specs.declared.salvage.Salvaged.the-variants.{Written}
 use Rattle.run.specs.salvage.MovementSheet.{movementSheet}
-use Rattle.run.specs.salvage.Salvaged.{sheetOfFirst, reportOf, salvaged, output, trial, kept, report, freshSheet, salvageRefusal, salvageOf}
+use Rattle.sheets.specs.Emitted.{output}
+use Rattle.run.specs.salvage.Salvaged.{sheetOfFirst, reportOf, salvaged, trial, kept, report, freshSheet, salvageRefusal, salvageOf}
 use Rattle.run.specs.salvage.Salvaged as salvaging
 use Rattle.run.specs.salvage.Contracts.{SalvageAllows}
 use Rattle.run.proofs.salvage.Answers.{kept-part, first-length, roomy}
@@ -97,6 +94,7 @@ use Rattle.promises.specs.OwnExample as own
 use Rattle.promises.specs.Exchange.{ExportAnswers}
 use Rattle.statement.specs.Example as sheets
 use Rattle.promises.proofs.Exchange.{exports}
+use Rattle.sheets.specs.Emitted as emitting
 
 start-accepted : markingRefusal example (3 ∷ 0 ∷ []) ≡ none
 unfolding markingRefusal first _▸_
@@ -411,7 +409,7 @@ printed-text : pnml (ownExample .printed) ≡ own.text
 unfolding opening closing three placeText transitionText weightText preText postText arcText modeText body pnml joined ofMode flatMap decimal decimalWithin
 printed-text = refl
 
-export-allows : (o : Exported × List ℕ) → ExportPnmlAllows own.complementNet (replicate 887 0) o → (exporting.told (o .0) ≡ yields 887) × (o .1 ≡ own.text)
+export-allows : (o : Emitted × List ℕ) → ExportPnmlAllows own.complementNet (replicate 887 0) o → (emitting.told (o .0) ≡ yields 887) × (o .1 ≡ own.text)
 unfolding opening closing
 export-allows o a =
     let same = printed-back .same in
@@ -422,13 +420,13 @@ export-allows o a =
 singles-printed : singles (ownExample .printed) ≡ ownExample .printed
 singles-printed = refl
 
-import-allows : (o : Imported × List ℕ) → ImportPnmlAllows own.text own.room o → (importing.told (o .0) ≡ yields 91) × (o .1 ≡ own.complementNet)
+import-allows : (o : Emitted × List ℕ) → ImportPnmlAllows own.text own.room o → (emitting.told (o .0) ≡ yields 91) × (o .1 ≡ own.complementNet)
 import-allows o a =
     let net = ownExample .printed in
     let small : Small net = record { exportable = printed-exportable; pairs = omega arith; modes = omega arith } in
     let size : length (importedSheet net) ≡ 91 = omega (arith, size-is net printed-exportable (omega arith) (omega arith)) in
     let y = imports-exactly .all net small own.room (omega (arith, size)) o (subst (λ t. ImportPnmlAllows t own.room o) (sym printed-text) a) in
-    (ap importing.told (y .0) ∙ ap yields size, y .1 ∙ ap (λ n. importedSheet net ++ drop n own.room) size ∙ append-nil (importedSheet net) ∙ ap (sheetOf One) singles-printed)
+    (ap emitting.told (y .0) ∙ ap yields size, y .1 ∙ ap (λ n. importedSheet net ++ drop n own.room) size ∙ append-nil (importedSheet net) ∙ ap (sheetOf One) singles-printed)
 
 pub own-example : OwnExample
 unfolding figured entered withVoyage
@@ -451,7 +449,7 @@ own-example =
       isDead = λ o a. ap one.told a ∙ rw (dead-accepted, read-back .same, alive);
       firstDead = λ o a. ap first.told a ∙ rw (read-back .accepted, read-back .same, none-dead);
       size = λ o a. ap sizing.told a ∙ rw (read-back .accepted, read-back .same);
-      complement = λ o a. ap complementing.told (a .0) ∙ rw (complement-accepted, read-back .version, read-back .same, complement-length);
+      complement = λ o a. ap emitting.told (a .0) ∙ rw (complement-accepted, read-back .version, read-back .same, complement-length);
       exportPnml = export-allows;
       importPnml = import-allows;
       audit = λ o a. ap auditing.told a ∙ told-found _ audit-accepted ∙ rw (read-back .same) (ap yields left-aboard);

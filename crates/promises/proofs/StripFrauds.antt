@@ -20,7 +20,8 @@ use Rattle.sheets.proofs.written.NetStands.{transitions-of}
 use Rattle.sheets.proofs.written.RoundTrip.{written-then-read}
 use Rattle.bare.specs.Strip.{boundOf}
 use Rattle.bare.proofs.Arcs.{transitions-many}
-use Rattle.convert.specs.strip.Stripped.{strippedNet, strippedSheet, strippingRefusal, stripped, told, strippedOf, outputOf}
+use Rattle.convert.specs.strip.Stripped.{strippedNet, strippedSheet, strippingRefusal, strippedOf, outputOf}
+use Rattle.sheets.specs.Emitted.{emitted, told}
 use Rattle.convert.proofs.strip.Promises.{has-sheet}
 use Rattle.promises.specs.Frauds.{StripFrauds}
 use Rattle.promises.proofs.Accepting.{unrefused}
@@ -56,7 +57,7 @@ strip-frauds =
     record {
       copied = λ net p out o allows accepted q.
           let l = length (strippedSheet net p) in
-          let e = unrefused (λ o. told (stripped o l)) l refl (λ r. refl) (strippingRefusal net p (length out)) (sym (ap (λ c. told c .carried .number) (allows .0)) ∙ accepted) in
-          not-copied net p out l (ap (λ o. told (stripped o l)) e) (ap (take (length net)) (sym (allows .1)) ∙ q);
+          let e = unrefused (λ o. told (emitted o l)) l refl (λ r. refl) (strippingRefusal net p (length out)) (sym (ap (λ c. told c .carried .number) (allows .0)) ∙ accepted) in
+          not-copied net p out l (ap (λ o. told (emitted o l)) e) (ap (take (length net)) (sym (allows .1)) ∙ q);
       sameNet = λ net p out o n allows e q. another-net net p out n (sym (ap told (allows .0)) ∙ e) (ap (λ left. netOf (take n left)) (sym (allows .1)) ∙ q);
     }

@@ -11,7 +11,8 @@ use Rattle.model.proofs.First.{left-none, right-none}
 use Rattle.sheets.specs.Whole.{wholeNet}
 use Rattle.sheets.specs.Decoded.{netOf}
 use Rattle.bare.specs.Strip.{stripRefusal}
-use Rattle.convert.specs.strip.Stripped.{strippedSheet, roomRefusal, strippingRefusal, stripped, told, output, strippedOf, outputOf}
+use Rattle.convert.specs.strip.Stripped.{strippedSheet, roomRefusal, strippingRefusal, strippedOf, outputOf}
+use Rattle.sheets.specs.Emitted.{emitted, told, output}
 use Rattle.convert.specs.strip.Promises.{StripReads}
 use Rattle.convert.proofs.strip.Promises.{stripped-reads}
 use Rattle.promises.proofs.Accepting.{yielded}
@@ -21,7 +22,7 @@ module _ (net : List ℕ) (p : Pair) (out : List ℕ) (n : ℕ) (e : told (strip
   sheet = strippedSheet net p
 
   told-length : (strippingRefusal net p (length out) ≡ none) × (n ≡ length sheet)
-  told-length = yielded (λ o. told (stripped o (length sheet))) (length sheet) refl (λ r. refl) (strippingRefusal net p (length out)) e
+  told-length = yielded (λ o. told (emitted o (length sheet))) (length sheet) refl (λ r. refl) (strippingRefusal net p (length out)) e
 
   none-refused : strippingRefusal net p (length out) ≡ none
   none-refused = told-length .0

@@ -51,7 +51,8 @@ use Rattle.bare.specs.Promises.{Old, OldModesStay, StripsBare}
 use Rattle.bare.proofs.Arcs.{modes-many}
 use Rattle.bare.proofs.OldModes.{each-old, old-modes, no-new-dead}
 use Rattle.bare.proofs.Bare.{bare-after}
-use Rattle.convert.specs.strip.Stripped.{strippedSheet, told as answered}
+use Rattle.convert.specs.strip.Stripped.{strippedSheet}
+use Rattle.sheets.specs.Emitted.{told as answered}
 use Rattle.convert.proofs.strip.Promises.{has-sheet}
 use Rattle.promises.specs.EqualNets.{Bytes}
 use Rattle.promises.specs.Stripping.{BareCalls, OldCalls, Stripping}

@@ -20,15 +20,16 @@ use Rattle.sheets.specs.Whole.{wholeNet, wholeMovements}
 use Rattle.sheets.specs.Decoded.{netOf, movementsOf}
 use Rattle.fire.specs.Calls.{beginRefusal, begun}
 use Rattle.run.specs.Calls.{runOf, beforeRun}
-use Rattle.complement.specs.Complemented.{told, complemented, complementingRefusal, complementOf}
+use Rattle.complement.specs.Complemented.{complementingRefusal, complementOf}
+use Rattle.sheets.specs.Emitted.{emitted, told}
 use Rattle.promises.specs.DemandThree.{asWritten, WrittenComplement}
 use Rattle.promises.specs.TwoRuns.{RunsAgree, TwoRuns}
 use Rattle.promises.proofs.Accepting.{yielded}
 use Rattle.promises.proofs.DemandThree.{complementable, over-bytes}
 
 -- a call that answers a length was accepted
-pub length-accepted : (o : Option Refusal) (l : ℕ) {n : ℕ} → told (complemented o l) ≡ yields n → o ≡ none
-length-accepted o l e = yielded (λ o. told (complemented o l)) l refl (λ r. refl) o e .0
+pub length-accepted : (o : Option Refusal) (l : ℕ) {n : ℕ} → told (emitted o l) ≡ yields n → o ≡ none
+length-accepted o l e = yielded (λ o. told (emitted o l)) l refl (λ r. refl) o e .0
 
 -- two answers of one length
 pub length-is : {l n : ℕ} → yields l ≡ yields n → l ≡ n

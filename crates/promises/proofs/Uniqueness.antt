@@ -2,7 +2,7 @@
 use Prim.Native.Nat.{ℕ}
 use mathlib.Core.Path.{_≡_, refl, sym, _∙_, ap, ap₂}
 use mathlib.Core.List.{List}
-use Rattle.import.specs.Imports.{told}
+use Rattle.sheets.specs.Emitted.{told}
 use Rattle.import.proofs.Promises.{import-once}
 use Rattle.answers.specs.Told.{counted}
 use Rattle.abi.specs.Contracts as c

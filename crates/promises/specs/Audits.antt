@@ -18,6 +18,7 @@ use Rattle.run.specs.Calls.{runOf}
 use Rattle.complement.specs.Complemented as complementing
 use Rattle.complement.specs.audit.Audits.{told, auditedOf}
 use Rattle.promises.specs.DemandThree.{asWritten}
+use Rattle.sheets.specs.Emitted as emitting
 
 module _ (net complement marking marking′ : List ℕ) where
   pub record AuditsOf : Type 0 where
@@ -29,5 +30,5 @@ module _ (net complement marking marking′ : List ℕ) where
         ≡ yields (lowest (pairs (netOf net)) (λ p. ltb 0 (takes (netOf net) t p)) (λ p. record { pair = pairNo p; excess = pos (takes (netOf net) t p) }))
 
 abbrev pub Audits : Type 0
-Audits = (net out : List ℕ) (n : ℕ) → complementing.told (complementing.complementOf net out) ≡ yields n → (marking marking′ : List ℕ)
+Audits = (net out : List ℕ) (n : ℕ) → emitting.told (complementing.complementOf net out) ≡ yields n → (marking marking′ : List ℕ)
     → markingRefusal (netOf net) marking ≡ none → Corresponds (netOf net) marking marking′ → AuditsOf net (asWritten net out n) marking marking′

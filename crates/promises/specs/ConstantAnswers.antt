@@ -24,15 +24,10 @@ use Rattle.opened.specs.dead.FirstDead as first
 use Rattle.opened.specs.dead.Contracts.{IsDeadAllows, FirstDeadAllows}
 use Rattle.opened.specs.size.Sizes as sizing
 use Rattle.opened.specs.size.Contracts.{SizeAllows}
-use Rattle.complement.specs.Complemented as complementing
 use Rattle.complement.specs.Contracts.{ComplementAllows}
-use Rattle.convert.specs.Converted as converting
 use Rattle.convert.specs.Contracts.{ToVersion1Allows, ToVersion2Allows}
-use Rattle.convert.specs.strip.Stripped as stripping
 use Rattle.convert.specs.strip.Contracts.{StripAllows}
-use Rattle.export.specs.Exports as exporting
 use Rattle.export.specs.Contracts.{ExportPnmlAllows}
-use Rattle.import.specs.Imports as importing
 use Rattle.import.specs.Contracts.{ImportPnmlAllows}
 use Rattle.complement.specs.audit.Audits as auditing
 use Rattle.complement.specs.audit.Contracts.{AuditAllows}
@@ -43,6 +38,7 @@ use Rattle.text.specs.declared.Put.the-variants.{To, Full}
 use Rattle.text.specs.Contracts.{PutBytesAllows, PutDecimalAllows, PutSignedAllows}
 use Rattle.statement.specs.Contracts.{StatementAllows}
 use Rattle.answers.specs.Told.{textTold}
+use Rattle.sheets.specs.Emitted as emitting
 
 -- what a call is given, the outcomes that its contract then allows, and the number of an outcome's answer
 module _ {I O : Type 0} (Allows : I → O → Type 0) (number : O → ℕ) where
@@ -96,12 +92,12 @@ pub record ConstantAnswers : Type 0 where
   pub isDead : Varies (λ (i : List ℕ × Mode). IsDeadAllows (i .0) (i .1)) (λ o. one.told o .carried .number)
   pub firstDead : Varies FirstDeadAllows (λ o. first.told o .carried .number)
   pub size : Varies SizeAllows (λ o. sizing.told o .carried .number)
-  pub complement : Varies (λ (i : List ℕ × List ℕ). ComplementAllows (i .0) (i .1)) (λ o. complementing.told (o .0) .carried .number)
-  pub toVersion2 : Varies (λ (i : List ℕ × List ℕ). ToVersion2Allows (i .0) (i .1)) (λ o. converting.told (o .0) .carried .number)
-  pub toVersion1 : Varies (λ (i : List ℕ × List ℕ). ToVersion1Allows (i .0) (i .1)) (λ o. converting.told (o .0) .carried .number)
-  pub strip : Varies (λ (i : List ℕ × Pair × List ℕ). StripAllows (i .0) (i .1) (i .2)) (λ o. stripping.told (o .0) .carried .number)
-  pub exportPnml : Varies (λ (i : List ℕ × List ℕ). ExportPnmlAllows (i .0) (i .1)) (λ o. exporting.told (o .0) .carried .number)
-  pub importPnml : Varies (λ (i : List ℕ × List ℕ). ImportPnmlAllows (i .0) (i .1)) (λ o. importing.told (o .0) .carried .number)
+  pub complement : Varies (λ (i : List ℕ × List ℕ). ComplementAllows (i .0) (i .1)) (λ o. emitting.told (o .0) .carried .number)
+  pub toVersion2 : Varies (λ (i : List ℕ × List ℕ). ToVersion2Allows (i .0) (i .1)) (λ o. emitting.told (o .0) .carried .number)
+  pub toVersion1 : Varies (λ (i : List ℕ × List ℕ). ToVersion1Allows (i .0) (i .1)) (λ o. emitting.told (o .0) .carried .number)
+  pub strip : Varies (λ (i : List ℕ × Pair × List ℕ). StripAllows (i .0) (i .1) (i .2)) (λ o. emitting.told (o .0) .carried .number)
+  pub exportPnml : Varies (λ (i : List ℕ × List ℕ). ExportPnmlAllows (i .0) (i .1)) (λ o. emitting.told (o .0) .carried .number)
+  pub importPnml : Varies (λ (i : List ℕ × List ℕ). ImportPnmlAllows (i .0) (i .1)) (λ o. emitting.told (o .0) .carried .number)
   pub audit : Varies (λ (i : List ℕ × List ℕ × List ℕ). AuditAllows (i .0) (i .1) (i .2)) (λ o. auditing.told o .carried .number)
   pub salvage : Varies (λ (i : List ℕ × List ℕ × List ℕ). SalvageAllows (i .0) (i .1) (i .2)) (λ o. salvaging.told (o .0) .carried .number)
   pub putBytes : Varies (λ (i : List ℕ × ℕ × List ℕ). PutBytesAllows (i .0) (i .1) (i .2)) (λ o. full (o .0))

@@ -15,7 +15,8 @@ use Rattle.opened.specs.dead.IsDead.{deadnessOf}
 use Rattle.opened.specs.dead.IsDead as one
 use Rattle.opened.specs.dead.FirstDead.{firstDeadOf}
 use Rattle.opened.specs.dead.FirstDead as first
-use Rattle.complement.specs.Complemented.{told, complementOf}
+use Rattle.complement.specs.Complemented.{complementOf}
+use Rattle.sheets.specs.Emitted.{told}
 use Rattle.promises.specs.DemandThree.{asWritten}
 
 pub record DeadBeside (net complement : List ℕ) : Type 0 where

@@ -17,20 +17,12 @@ use Rattle.run.specs.Contracts.{RunAllows}
 use Rattle.fire.specs.step.Contracts.{FireStepAllows}
 use Rattle.ships.specs.declared.Fleet.{Fleet}
 use Rattle.statement.specs.fleet.Contracts.{AddShipAllows}
-use Rattle.complement.specs.declared.Complemented.{Complemented}
-use Rattle.complement.specs.Complemented.{told}
+use Rattle.sheets.specs.declared.Emitted.{Emitted}
+use Rattle.sheets.specs.Emitted.{told}
 use Rattle.complement.specs.Contracts.{ComplementAllows}
-use Rattle.convert.specs.declared.Converted.{Converted}
-use Rattle.convert.specs.Converted as converting
 use Rattle.convert.specs.Contracts.{ToVersion1Allows, ToVersion2Allows}
-use Rattle.convert.specs.declared.strip.Stripped.{Stripped}
-use Rattle.convert.specs.strip.Stripped as stripping
 use Rattle.convert.specs.strip.Contracts.{StripAllows}
-use Rattle.export.specs.declared.Exported.{Exported}
-use Rattle.export.specs.Exports as exporting
 use Rattle.export.specs.Contracts.{ExportPnmlAllows}
-use Rattle.import.specs.declared.Imported.{Imported}
-use Rattle.import.specs.Imports as importing
 use Rattle.import.specs.Contracts.{ImportPnmlAllows}
 use Rattle.run.specs.declared.salvage.Salvaged.{Salvaged}
 use Rattle.run.specs.salvage.Salvaged as salvaging
@@ -46,6 +38,7 @@ use Rattle.answers.specs.declared.Counted.{Counted}
 use Rattle.answers.specs.declared.Reported.{Reported}
 use Rattle.answers.specs.declared.Tallied.{Tallied}
 use Rattle.abi.specs.Contracts as forC
+use Rattle.sheets.specs.Emitted as emitting
 
 -- refused: any number but 0
 abbrev pub Refused : Answer → Type 0
@@ -57,12 +50,12 @@ pub record DemandOne : Type 0 where
   pub fireStep : (net marking modes : List ℕ) (o : Answer × List ℕ) → FireStepAllows net marking modes o → Refused (o .0) → o .1 ≡ marking
   -- of a ship the lent record
   pub addShip : (found : Fleet) (net weights movements : List ℕ) (o : Answer × Fleet) → AddShipAllows found net weights movements o → Refused (o .0) → o .1 ≡ found
-  pub complement : (net out : List ℕ) (o : Complemented × List ℕ) → ComplementAllows net out o → told (o .0) .carried .number ≢ 0 → o .1 ≡ out
-  pub toVersion2 : (net out : List ℕ) (o : Converted × List ℕ) → ToVersion2Allows net out o → converting.told (o .0) .carried .number ≢ 0 → o .1 ≡ out
-  pub toVersion1 : (net out : List ℕ) (o : Converted × List ℕ) → ToVersion1Allows net out o → converting.told (o .0) .carried .number ≢ 0 → o .1 ≡ out
-  pub strip : (net : List ℕ) (p : Pair) (out : List ℕ) (o : Stripped × List ℕ) → StripAllows net p out o → stripping.told (o .0) .carried .number ≢ 0 → o .1 ≡ out
-  pub exportPnml : (net out : List ℕ) (o : Exported × List ℕ) → ExportPnmlAllows net out o → exporting.told (o .0) .carried .number ≢ 0 → o .1 ≡ out
-  pub importPnml : (text out : List ℕ) (o : Imported × List ℕ) → ImportPnmlAllows text out o → importing.told (o .0) .carried .number ≢ 0 → o .1 ≡ out
+  pub complement : (net out : List ℕ) (o : Emitted × List ℕ) → ComplementAllows net out o → told (o .0) .carried .number ≢ 0 → o .1 ≡ out
+  pub toVersion2 : (net out : List ℕ) (o : Emitted × List ℕ) → ToVersion2Allows net out o → emitting.told (o .0) .carried .number ≢ 0 → o .1 ≡ out
+  pub toVersion1 : (net out : List ℕ) (o : Emitted × List ℕ) → ToVersion1Allows net out o → emitting.told (o .0) .carried .number ≢ 0 → o .1 ≡ out
+  pub strip : (net : List ℕ) (p : Pair) (out : List ℕ) (o : Emitted × List ℕ) → StripAllows net p out o → emitting.told (o .0) .carried .number ≢ 0 → o .1 ≡ out
+  pub exportPnml : (net out : List ℕ) (o : Emitted × List ℕ) → ExportPnmlAllows net out o → emitting.told (o .0) .carried .number ≢ 0 → o .1 ≡ out
+  pub importPnml : (text out : List ℕ) (o : Emitted × List ℕ) → ImportPnmlAllows text out o → emitting.told (o .0) .carried .number ≢ 0 → o .1 ≡ out
   pub salvage : (net damaged out : List ℕ) (o : Salvaged × List ℕ) → SalvageAllows net damaged out o → salvaging.told (o .0) .carried .number ≢ 0 → o .1 ≡ out
   -- the exception; with none accepted the marking is as it was
   pub run : (net movements marking : List ℕ) (o : Ran × List ℕ) → RunAllows net movements marking o → Refused (o .0 .answer)

@@ -24,20 +24,18 @@ use Rattle.statement.specs.fleet.Contracts.{AddShipAllows}
 use Rattle.statement.specs.exclude.Contracts.{ExcludeAllows}
 use Rattle.opened.specs.dead.Contracts.{IsDeadAllows, FirstDeadAllows}
 use Rattle.opened.specs.size.Contracts.{SizeAllows}
-use Rattle.complement.specs.declared.Complemented.{Complemented}
+use Rattle.sheets.specs.declared.Emitted.{Emitted}
 use Rattle.complement.specs.Complemented as complementing
 use Rattle.complement.specs.Contracts.{ComplementAllows}
-use Rattle.convert.specs.declared.strip.Stripped.{Stripped}
 use Rattle.convert.specs.strip.Stripped as stripping
 use Rattle.convert.specs.strip.Contracts.{StripAllows}
-use Rattle.export.specs.declared.Exported.{Exported}
-use Rattle.export.specs.Exports as exporting
 use Rattle.export.specs.Contracts.{ExportPnmlAllows}
 use Rattle.complement.specs.declared.audit.Found.{Found}
 use Rattle.complement.specs.audit.Audits as auditing
 use Rattle.complement.specs.audit.Contracts.{AuditAllows}
 use Rattle.run.specs.salvage.Contracts.{SalvageAllows}
 use Rattle.statement.specs.Contracts.{StatementAllows}
+use Rattle.sheets.specs.Emitted as emitting
 
 -- two net sheets that are accepted and mean one net
 pub record OneNet (a b : List ℕ) : Type 0 where
@@ -61,17 +59,17 @@ abbrev pub Fits : List ℕ → List ℕ → Type 0
 Fits net out = length (complementing.complementSheet net) ≤ length out
 
 -- "the sheets written and their lengths": where both calls write, they write one net again
-pub record ComplementsAlike (o o′ : Complemented × List ℕ) : Type 0 where
-  pub carried : OffsetAside (complementing.told (o .0) .carried) (complementing.told (o′ .0) .carried)
-  pub written : (n n′ : ℕ) → complementing.told (o .0) ≡ yields n → complementing.told (o′ .0) ≡ yields n′ → OneNet (take n (o .1)) (take n′ (o′ .1))
+pub record ComplementsAlike (o o′ : Emitted × List ℕ) : Type 0 where
+  pub carried : OffsetAside (emitting.told (o .0) .carried) (emitting.told (o′ .0) .carried)
+  pub written : (n n′ : ℕ) → emitting.told (o .0) ≡ yields n → emitting.told (o′ .0) ≡ yields n′ → OneNet (take n (o .1)) (take n′ (o′ .1))
 
 -- stripping names no offset; where both calls write, they write one net again
 abbrev pub StripFits : List ℕ → Pair → List ℕ → Type 0
 StripFits net p out = length (stripping.strippedSheet net p) ≤ length out
 
-pub record StripsAlike (o o′ : Stripped × List ℕ) : Type 0 where
-  pub carried : stripping.told (o .0) .carried ≡ stripping.told (o′ .0) .carried
-  pub written : (n n′ : ℕ) → stripping.told (o .0) ≡ yields n → stripping.told (o′ .0) ≡ yields n′ → OneNet (take n (o .1)) (take n′ (o′ .1))
+pub record StripsAlike (o o′ : Emitted × List ℕ) : Type 0 where
+  pub carried : emitting.told (o .0) .carried ≡ emitting.told (o′ .0) .carried
+  pub written : (n n′ : ℕ) → emitting.told (o .0) ≡ yields n → emitting.told (o′ .0) ≡ yields n′ → OneNet (take n (o .1)) (take n′ (o′ .1))
 
 -- such an offset aside the same is told: an audit passes on what complementing refuses, and finds the same; an export has the same length
 pub record RepliesAlike {A : Type 0} (r r′ : Reply A) : Type 0 where
@@ -108,11 +106,11 @@ pub record Alike (a b : List ℕ) : Type 0 where
   -- the sheet written is a movement sheet, the same to the byte
   pub salvage : (damaged out : List ℕ) → Within (SalvageAllows a damaged out) (SalvageAllows b damaged out)
   -- a text in PNML says neither version nor rule: it is the same to the byte
-  pub exportPnml : (out : List ℕ) (o o′ : Exported × List ℕ) → ExportPnmlAllows a out o → ExportPnmlAllows b out o′
-      → RepliesAlike (exporting.told (o .0)) (exporting.told (o′ .0)) × (o .1 ≡ o′ .1)
-  pub complement : (out out′ : List ℕ) (o o′ : Complemented × List ℕ) → Fits a out → Fits b out′
+  pub exportPnml : (out : List ℕ) (o o′ : Emitted × List ℕ) → ExportPnmlAllows a out o → ExportPnmlAllows b out o′
+      → RepliesAlike (emitting.told (o .0)) (emitting.told (o′ .0)) × (o .1 ≡ o′ .1)
+  pub complement : (out out′ : List ℕ) (o o′ : Emitted × List ℕ) → Fits a out → Fits b out′
       → ComplementAllows a out o → ComplementAllows b out′ o′ → ComplementsAlike o o′
-  pub strip : (p : Pair) (out out′ : List ℕ) (o o′ : Stripped × List ℕ) → StripFits a p out → StripFits b p out′
+  pub strip : (p : Pair) (out out′ : List ℕ) (o o′ : Emitted × List ℕ) → StripFits a p out → StripFits b p out′
       → StripAllows a p out o → StripAllows b p out′ o′ → StripsAlike o o′
   pub audit : (marking beside : List ℕ) (o o′ : Found) → AuditAllows a marking beside o → AuditAllows b marking beside o′
       → RepliesAlike (auditing.told o) (auditing.told o′)

@@ -33,21 +33,13 @@ use Rattle.ships.specs.Ships.{Ship, accepted}
 use Rattle.statement.specs.fleet.Contracts.{AddShipAllows}
 use Rattle.statement.specs.exclude.Promises.{Excluded}
 use Rattle.statement.specs.exclude.Contracts.{ExcludeAllows}
-use Rattle.complement.specs.declared.Complemented.{Complemented}
-use Rattle.complement.specs.Complemented.{told}
+use Rattle.sheets.specs.declared.Emitted.{Emitted}
+use Rattle.sheets.specs.Emitted.{told}
 use Rattle.complement.specs.Contracts.{ComplementAllows}
-use Rattle.convert.specs.declared.Converted.{Converted}
-use Rattle.convert.specs.Converted as converting
 use Rattle.convert.specs.Contracts.{ToVersion1Allows, ToVersion2Allows}
-use Rattle.convert.specs.declared.strip.Stripped.{Stripped}
-use Rattle.convert.specs.strip.Stripped as stripping
 use Rattle.convert.specs.strip.Contracts.{StripAllows}
 use Rattle.pnml.specs.Pnml.{opening, closing}
-use Rattle.export.specs.declared.Exported.{Exported}
-use Rattle.export.specs.Exports as exporting
 use Rattle.export.specs.Contracts.{ExportPnmlAllows}
-use Rattle.import.specs.declared.Imported.{Imported}
-use Rattle.import.specs.Imports as importing
 use Rattle.import.specs.Contracts.{ImportPnmlAllows}
 use Rattle.complement.specs.declared.audit.Found.{Found}
 use Rattle.complement.specs.declared.audit.Found.the-variants.{Nothing}
@@ -63,6 +55,7 @@ use Rattle.abi.specs.Contracts as c
 use Rattle.promises.specs.ConstantAnswers.{NotConstant, ConstantAnswers}
 use Rattle.promises.specs.ConstantAnswersForC.{ConstantAnswersForC}
 use Rattle.promises.specs.ConstantAmounts.{ConstantAmounts}
+use Rattle.sheets.specs.Emitted as emitting
 
 -- "A firing that writes nothing breaks demand 2's rule": an accepted firing of a mode that takes from some pair another number than it gives leaves another marking
 abbrev pub WritesNothing : Type 0
@@ -73,31 +66,31 @@ WritesNothing = (net marking : List ℕ) (t : Mode) (p : ℕ) → p < pairs (net
 pub record CopiesNet : Type 0 where
   -- where complementing accepts, the net's own sheet is no output
   pub excluded : (net out : List ℕ) (p k : ℕ) → p < pairs (netOf net) → K (netOf net) p ≡ fin k
-      → (o : Complemented × List ℕ) → ComplementAllows net out o → told (o .0) .carried .number ≡ 0 → take (length net) (o .1) ≢ net
+      → (o : Emitted × List ℕ) → ComplementAllows net out o → told (o .0) .carried .number ≡ 0 → take (length net) (o .1) ≢ net
   -- no marking of the copy corresponds to one of the net: it has no pair that holds the rest of the capacity
   pub noSum : (net : PNet) (m m′ : List ℕ) → length m′ ≡ pairs net → (p k : ℕ) → p < pairs net → K net p ≡ fin k → ¬ Corresponds net m m′
 
 -- a conversion that copies the sheet: where one accepts, the sheet that it was given is no output
 pub record CopiesSheet : Type 0 where
-  pub toVersion2 : (net out : List ℕ) (o : Converted × List ℕ) → ToVersion2Allows net out o → converting.told (o .0) .carried .number ≡ 0
+  pub toVersion2 : (net out : List ℕ) (o : Emitted × List ℕ) → ToVersion2Allows net out o → emitting.told (o .0) .carried .number ≡ 0
       → take (length net) (o .1) ≢ net
-  pub toVersion1 : (net out : List ℕ) (o : Converted × List ℕ) → ToVersion1Allows net out o → converting.told (o .0) .carried .number ≡ 0
+  pub toVersion1 : (net out : List ℕ) (o : Emitted × List ℕ) → ToVersion1Allows net out o → emitting.told (o .0) .carried .number ≡ 0
       → take (length net) (o .1) ≢ net
 
 -- A strip that appends nothing: where one accepts, the sheet that it was given is no output, and no sheet of the same net is one.
 pub record StripFrauds : Type 0 where
-  pub copied : (net : List ℕ) (p : Pair) (out : List ℕ) (o : Stripped × List ℕ) → StripAllows net p out o → stripping.told (o .0) .carried .number ≡ 0
+  pub copied : (net : List ℕ) (p : Pair) (out : List ℕ) (o : Emitted × List ℕ) → StripAllows net p out o → emitting.told (o .0) .carried .number ≡ 0
       → take (length net) (o .1) ≢ net
-  pub sameNet : (net : List ℕ) (p : Pair) (out : List ℕ) (o : Stripped × List ℕ) (n : ℕ) → StripAllows net p out o → stripping.told (o .0) ≡ yields n
+  pub sameNet : (net : List ℕ) (p : Pair) (out : List ℕ) (o : Emitted × List ℕ) (n : ℕ) → StripAllows net p out o → emitting.told (o .0) ≡ yields n
       → netOf (take n (o .1)) ≢ netOf net
 
 -- An export of the opening and the closing text alone; an import that answers 20 to all, though export wrote the text, or that names one position always (document 02, P5).
 pub record ExchangeFrauds : Type 0 where
-  pub emptyPage : (net out : List ℕ) (o : Exported × List ℕ) (n : ℕ) → ExportPnmlAllows net out o → exporting.told (o .0) ≡ yields n
+  pub emptyPage : (net out : List ℕ) (o : Emitted × List ℕ) (n : ℕ) → ExportPnmlAllows net out o → emitting.told (o .0) ≡ yields n
       → take n (o .1) ≢ opening ++ closing
-  pub noneRead : (net out : List ℕ) (o : Exported × List ℕ) (n : ℕ) → ExportPnmlAllows net out o → exporting.told (o .0) ≡ yields n
-      → (out′ : List ℕ) (o′ : Imported × List ℕ) → ImportPnmlAllows (take n (o .1)) out′ o′ → importing.told (o′ .0) .carried .number ≢ 20
-  pub onePosition : NotConstant (λ (i : List ℕ × List ℕ). ImportPnmlAllows (i .0) (i .1)) (λ o. importing.told (o .0) .carried .position)
+  pub noneRead : (net out : List ℕ) (o : Emitted × List ℕ) (n : ℕ) → ExportPnmlAllows net out o → emitting.told (o .0) ≡ yields n
+      → (out′ : List ℕ) (o′ : Emitted × List ℕ) → ImportPnmlAllows (take n (o .1)) out′ o′ → emitting.told (o′ .0) .carried .number ≢ 20
+  pub onePosition : NotConstant (λ (i : List ℕ × List ℕ). ImportPnmlAllows (i .0) (i .1)) (λ o. emitting.told (o .0) .carried .position)
   pub onePositionForC : NotConstant (λ (i : List ℕ × List ℕ). c.ImportPnmlAllows (i .0) (i .1)) (λ o. o .0 .answer .position)
 
 -- what the modes of a list take from pair p in all, and what they give

@@ -32,15 +32,10 @@ use Rattle.opened.specs.dead.Contracts.{IsDeadAllows, FirstDeadAllows}
 use Rattle.opened.specs.declared.size.Measured.{Measured}
 use Rattle.opened.specs.size.Sizes as sizing
 use Rattle.opened.specs.size.Contracts.{SizeAllows}
-use Rattle.complement.specs.declared.Complemented.{Complemented}
-use Rattle.complement.specs.Complemented as complementing
+use Rattle.sheets.specs.declared.Emitted.{Emitted}
 use Rattle.complement.specs.Contracts.{ComplementAllows}
 use Rattle.pnml.specs.Pnml.{opening, closing}
-use Rattle.export.specs.declared.Exported.{Exported}
-use Rattle.export.specs.Exports as exporting
 use Rattle.export.specs.Contracts.{ExportPnmlAllows}
-use Rattle.import.specs.declared.Imported.{Imported}
-use Rattle.import.specs.Imports as importing
 use Rattle.import.specs.Contracts.{ImportPnmlAllows}
 use Rattle.complement.specs.declared.audit.Found.{Found}
 use Rattle.complement.specs.audit.Audits as auditing
@@ -51,6 +46,7 @@ use Rattle.run.specs.salvage.Salvaged as salvaging
 use Rattle.run.specs.salvage.Contracts.{SalvageAllows}
 use Rattle.statement.specs.Example.{weights, movements}
 use Rattle.text.specs.Ascii.{ascii}
+use Rattle.sheets.specs.Emitted as emitting
 
 -- "two places, aboard (one colour, K 5, first 3) and ashore (one colour, unbounded, first 0); one transition of one mode; arcs 0,0 with Pre 1, Post 0, I 4
 -- and 0,1 with Pre 0, Post 1, I unbounded"
@@ -137,9 +133,9 @@ pub record OwnExample : Type 0 where
   pub firstDead : (o : FirstDead) → FirstDeadAllows net o → first.told o ≡ yields none
   -- two places of one colour, one mode, two arcs
   pub size : (o : Measured) → SizeAllows net o → sizing.told o ≡ yields (record { pairs = 2; modes = 1; arcs = 2 })
-  pub complement : (o : Complemented × List ℕ) → ComplementAllows net room o → complementing.told (o .0) ≡ yields 91
+  pub complement : (o : Emitted × List ℕ) → ComplementAllows net room o → emitting.told (o .0) ≡ yields 91
   -- its complement to the byte in PNML, and back
-  pub exportPnml : (o : Exported × List ℕ) → ExportPnmlAllows complementNet (replicate 887 0) o → (exporting.told (o .0) ≡ yields 887) × (o .1 ≡ text)
-  pub importPnml : (o : Imported × List ℕ) → ImportPnmlAllows text room o → (importing.told (o .0) ≡ yields 91) × (o .1 ≡ complementNet)
+  pub exportPnml : (o : Emitted × List ℕ) → ExportPnmlAllows complementNet (replicate 887 0) o → (emitting.told (o .0) ≡ yields 887) × (o .1 ≡ text)
+  pub importPnml : (o : Emitted × List ℕ) → ImportPnmlAllows text room o → (emitting.told (o .0) ≡ yields 91) × (o .1 ≡ complementNet)
   -- one landed, and left aboard in the net's marking: pair 0, one token too many
   pub audit : (o : Found) → AuditAllows net (3 ∷ 1 ∷ []) (2 ∷ 1 ∷ 3 ∷ []) o → auditing.told o ≡ yields (some (record { pair = pairNo 0; excess = pos 1 }))

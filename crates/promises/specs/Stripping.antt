@@ -29,8 +29,9 @@ use Rattle.opened.specs.dead.Contracts.{IsDeadAllows, FirstDeadAllows}
 use Rattle.statement.specs.Contracts.{StatementAllows}
 use Rattle.bare.specs.Strip.{newMode, boundOf}
 use Rattle.bare.specs.Promises.{Old}
-use Rattle.convert.specs.declared.strip.Stripped.{Stripped}
-use Rattle.convert.specs.strip.Stripped.{strippedNet, told}
+use Rattle.sheets.specs.declared.Emitted.{Emitted}
+use Rattle.convert.specs.strip.Stripped.{strippedNet}
+use Rattle.sheets.specs.Emitted.{told}
 use Rattle.convert.specs.strip.Contracts.{StripAllows}
 use Rattle.promises.specs.EqualNets.{Within, Bytes}
 
@@ -78,5 +79,5 @@ pub record StripWritten (net : List ℕ) (p : Pair) (out left : List ℕ) (n : �
   pub oldCalls : OldCalls net (take n left)
 
 abbrev pub Stripping : Type 0
-Stripping = (net : List ℕ) (p : Pair) (out : List ℕ) (o : Stripped × List ℕ) (n : ℕ) → StripAllows net p out o → told (o .0) ≡ yields n
+Stripping = (net : List ℕ) (p : Pair) (out : List ℕ) (o : Emitted × List ℕ) (n : ℕ) → StripAllows net p out o → told (o .0) ≡ yields n
     → StripWritten net p out (o .1) n

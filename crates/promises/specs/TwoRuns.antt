@@ -18,7 +18,8 @@ use Rattle.sheets.specs.Whole.{wholeMovements}
 use Rattle.sheets.specs.Decoded.{netOf, movementsOf}
 use Rattle.fire.specs.Calls.{beginRefusal, begun}
 use Rattle.run.specs.Calls.{runOf}
-use Rattle.complement.specs.Complemented.{told, complementOf}
+use Rattle.complement.specs.Complemented.{complementOf}
+use Rattle.sheets.specs.Emitted.{told}
 use Rattle.promises.specs.DemandThree.{asWritten}
 
 module _ (net complement movements marking marking′ : List ℕ) where

@@ -13,7 +13,8 @@ use Rattle.model.specs.Markings.{markingRefusal}
 use Rattle.second_form.specs.Complement.{Corresponds}
 use Rattle.sheets.specs.Decoded.{netOf}
 use Rattle.fire.specs.step.Calls.{testStepRefusal, steppedBy}
-use Rattle.complement.specs.Complemented.{told, complementOf}
+use Rattle.complement.specs.Complemented.{complementOf}
+use Rattle.sheets.specs.Emitted.{told}
 use Rattle.promises.specs.DemandThree.{asWritten}
 
 abbrev pub NoFiniteInhibitor : PNet → Type 0

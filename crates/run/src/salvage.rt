@@ -21,7 +21,8 @@ ghost use Rattle.model.specs.First.{_▸_};
 ghost use Rattle.opened.specs.Shape.{Open};
 ghost use Rattle.damaged.specs.Damaged.{damagedRefusal, considered};
 ghost use Rattle.damaged.specs.Parts.{Legible};
-ghost use Rattle.run.specs.salvage.Salvaged.{sheetOfFirst, reportOf, tooShort, salvaged, output, kept as keptBy, report, freshSheet};
+ghost use Rattle.sheets.specs.Emitted.{output};
+ghost use Rattle.run.specs.salvage.Salvaged.{sheetOfFirst, reportOf, tooShort, salvaged, kept as keptBy, report, freshSheet};
 ghost use Rattle.run.specs.salvage.Contracts.{SalvageAllows};
 
 // How long the fresh sheet is, how many movements it keeps, how many more were considered, and the first refusal among these.

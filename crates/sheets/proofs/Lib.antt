@@ -3,3 +3,4 @@ pub mod GroupArcs
 pub mod Accepted
 pub mod Listed
 pub mod RefusalTables
+pub mod Emits

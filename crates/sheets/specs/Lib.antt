@@ -4,5 +4,6 @@ pub mod Accepted
 pub mod RefusalTables
 pub mod Listed
 pub mod Contracts
+pub mod Emitted
 pub mod nets
 pub mod written

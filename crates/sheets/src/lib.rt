@@ -2,3 +2,11 @@
 pub mod nets;
 pub mod whole;
 pub mod written;
+
+use model::Refusal;
+
+// What a call that writes a sheet or a text answers: how many bytes were written, or why none.
+pub enum Emitted {
+    Length(usize),
+    Refused(Refusal),
+}

@@ -5,7 +5,8 @@ use Rattle.model.proofs.First.{none-then, some-then, left-none}
 use Rattle.sheets.specs.Whole.{wholeNet}
 use Rattle.opened.proofs.Opening.{opened-refused, opened-shape}
 use Rattle.convert.specs.Converted.{convertRefusal}
-use Rattle.convert.proofs.Answers.{read-whole, refused}
+use Rattle.sheets.proofs.Emits.{refused}
+use Rattle.convert.proofs.Answers.{read-whole}
 use Rattle.convert.proofs.convert.Statement.{statement}
 use Rattle.convert.proofs.convert.Tie as tie
 

@@ -7,7 +7,8 @@ use Rattle.model.proofs.Refusals.{answer-none, answer-refused}
 use Rattle.opened.proofs.Shapes.{shaped, sizes}
 use Rattle.convert.specs.Converted.{lostRule, convertedSheet, openRefusal}
 use Rattle.convert.proofs.Parts.{size-is}
-use Rattle.convert.proofs.Answers.{short, roomy, refused, written}
+use Rattle.sheets.proofs.Emits.{refused, written}
+use Rattle.convert.proofs.Answers.{short, roomy}
 use Rattle.convert.proofs.convert_open.Statement.{statement}
 use Rattle.convert.proofs.convert_open.Tie as tie
 

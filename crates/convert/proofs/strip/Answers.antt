@@ -3,7 +3,7 @@ use Prim.Native.Nat.{ℕ, _+_, _≤_, _<_}
 use mathlib.Core.Path.{_≡_, refl, sym, _∙_, ap}
 use mathlib.Core.Bool.{Bool, true, false, cond, not, _&&_, false≢true}
 use mathlib.Core.List.{List}
-use mathlib.Core.Option.{Option, none, some}
+use mathlib.Core.Option.{Option, none}
 use lib.Dec.{eqb, leb, ltb}
 use lib.ListN.{length}
 use native.Mathlib.Omega.{arith}
@@ -26,12 +26,10 @@ use Rattle.sheets.specs.Decoded.{netOf}
 use Rattle.opened.specs.declared.shape.NetShape.{NetShape}
 use Rattle.opened.specs.Shape.{Open}
 use Rattle.opened.proofs.Shapes.{sizes}
-use Rattle.sheets.specs.written.Puts.{Puts}
-use Rattle.sheets.proofs.written.Puts.{from-start}
 use Rattle.bare.specs.Strip.{stripLimits, stripRefusal}
 use Rattle.bare.proofs.StripWellFormed.{few, well-formed-strip}
-use Rattle.convert.specs.declared.strip.Stripped.the-variants.{Length, Refused}
-use Rattle.convert.specs.strip.Stripped.{strippedSheet, tooShort, roomRefusal, stripped, output}
+use Rattle.sheets.specs.declared.Emitted.the-variants.{Refused}
+use Rattle.convert.specs.strip.Stripped.{strippedSheet, tooShort, roomRefusal}
 use Rattle.convert.specs.strip.Parts.{inLimits, Numbers, newSize, sizesRefusal, Strips}
 use Rattle.convert.proofs.strip.Parts.{transitions-are, modes-are, arcs-are, size-is, sheet-is}
 
@@ -115,11 +113,3 @@ module _ {s : List ℕ} {net : NetShape} (o : Open s net) (p : Pair) where
     pub room-enough : length (strippedSheet s p) ≤ room
     unfolding roomRefusal
     room-enough = ltb-false _ _ (only-if-none _ _ (right-none _ _ e))
-
--- a refusal, with nothing written, and a sheet from the first byte on
-pub refused : {o : Option Refusal} {r : Refusal} (n : ℕ) (sheet found : List ℕ) → o ≡ some r → (Refused r ≡ stripped o n) × (found ≡ output o sheet found)
-refused n sheet found e = rw e (refl, refl)
-
-pub written : {o : Option Refusal} {found now : List ℕ} {after : ℕ} (sheet : List ℕ) → o ≡ none → length sheet ≤ length found → Puts found 0 sheet now after
-    → (Length after ≡ stripped o (length sheet)) × (now ≡ output o sheet found)
-written {after = after} sheet e h p = let n : after ≡ length sheet = omega (arith, p .next) in rw e (ap Length n, from-start (p .written) h)

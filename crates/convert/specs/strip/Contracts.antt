@@ -3,8 +3,8 @@ use Prim.Native.Nat.{ℕ}
 use mathlib.Core.Path.{_≡_}
 use mathlib.Core.List.{List}
 use Rattle.model.specs.declared.Pair.{Pair}
-use Rattle.convert.specs.declared.strip.Stripped.{Stripped}
+use Rattle.sheets.specs.declared.Emitted.{Emitted}
 use Rattle.convert.specs.strip.Stripped.{strippedOf, outputOf}
 
-abbrev pub StripAllows : List ℕ → Pair → List ℕ → Stripped × List ℕ → Type 0
+abbrev pub StripAllows : List ℕ → Pair → List ℕ → Emitted × List ℕ → Type 0
 StripAllows net p out o = (o .0 ≡ strippedOf net p out) × (o .1 ≡ outputOf net p out)

@@ -4,7 +4,7 @@ use mathlib.Core.Path.{refl}
 use Rattle.model.proofs.First.{none-then, some-then}
 use Rattle.opened.proofs.Opening.{opened-refused, opened-shape, opens}
 use Rattle.export.specs.Exports.{exportRefusal}
-use Rattle.export.proofs.Answers.{refused}
+use Rattle.sheets.proofs.Emits.{refused}
 use Rattle.export.proofs.export_pnml.Statement.{statement}
 use Rattle.export.proofs.export_pnml.Tie as tie
 

@@ -13,7 +13,7 @@ use Rattle.sheets.specs.Whole.{wholeNet}
 use Rattle.sheets.specs.Decoded.{netOf}
 use Rattle.pnml.specs.Pnml.{Exportable}
 use Rattle.export.specs.Exports.{exportRefusal}
-use Rattle.import.specs.Imports.{told}
+use Rattle.sheets.specs.Emitted.{told}
 use Rattle.import.specs.Contracts.{ImportPnmlAllows}
 use Rattle.import.specs.Promises.{SameNumbers}
 use Rattle.promises.specs.Exchange.{singleBytes, ComesBack, ImportAnswers}

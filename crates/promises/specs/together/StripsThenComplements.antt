@@ -13,8 +13,8 @@ use Rattle.second_form.specs.Complement.{complementPair}
 use Rattle.sheets.specs.Decoded.{netOf}
 use Rattle.fire.specs.Contracts.{TestAllows, FireAllows}
 use Rattle.bare.specs.Strip.{newMode}
-use Rattle.convert.specs.declared.strip.Stripped.{Stripped}
-use Rattle.convert.specs.strip.Stripped.{told}
+use Rattle.sheets.specs.declared.Emitted.{Emitted}
+use Rattle.sheets.specs.Emitted.{told}
 use Rattle.convert.specs.strip.Contracts.{StripAllows}
 use Rattle.promises.specs.TwoRuns.{RunAlike}
 use Rattle.promises.specs.together.Wrote.{ComplementWrote, StripWrote}
@@ -52,5 +52,5 @@ StripsThenComplements = (net : List ℕ) (p : Pair) (bare sheet : List ℕ) → 
 
 -- The other way round there is nothing to strip: every K of a complement is unbounded, and the answer is 15.
 abbrev pub NoStripAfter : Type 0
-NoStripAfter = (net sheet : List ℕ) → ComplementWrote net sheet → (p : Pair) → p .0 < pairs (netOf sheet) → (out : List ℕ) (o : Stripped × List ℕ) → StripAllows sheet p out o
+NoStripAfter = (net sheet : List ℕ) → ComplementWrote net sheet → (p : Pair) → p .0 < pairs (netOf sheet) → (out : List ℕ) (o : Emitted × List ℕ) → StripAllows sheet p out o
     → told (o .0) .carried ≡ carries 15 0 0

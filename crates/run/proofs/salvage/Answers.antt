@@ -29,7 +29,8 @@ use Rattle.run.proofs.salvage.Considered.{modes-are, modes-length, firs
 use Rattle.run.specs.declared.salvage.Report.{Report}
 use Rattle.run.specs.declared.salvage.Salvaged.{Salvaged}
 use Rattle.run.specs.declared.salvage.Salvaged.the-variants.{Written, Refused}
-use Rattle.run.specs.salvage.Salvaged.{sheetOfFirst, reportOf, tooShort, salvaged, output, trial, kept, report, freshSheet}
+use Rattle.sheets.specs.Emitted.{output}
+use Rattle.run.specs.salvage.Salvaged.{sheetOfFirst, reportOf, tooShort, salvaged, trial, kept, report, freshSheet}
 use Rattle.run.specs.salvage.Parts.{ranOn}
 use Rattle.run.proofs.salvage.MovementSheets.{sheet-length}
 

@@ -36,7 +36,8 @@ use Rattle.run.proofs.salvage.Considered.{modes-are, modes-length, firs
 use Rattle.run.specs.declared.salvage.Report.{Report}
 use Rattle.run.specs.declared.salvage.Salvaged.the-variants.{Written}
 use Rattle.run.specs.salvage.MovementSheet.{movementSheet}
-use Rattle.run.specs.salvage.Salvaged.{salvaged, output, trial, kept, report, freshSheet, salvageRefusal}
+use Rattle.sheets.specs.Emitted.{output}
+use Rattle.run.specs.salvage.Salvaged.{salvaged, trial, kept, report, freshSheet, salvageRefusal}
 use Rattle.run.specs.salvage.Promises.{AllBytes, ListBack, RunStops, Salvages, SalvagedRuns, WholeComesBack}
 use Rattle.run.proofs.salvage.MovementSheets.{list-written-then-read, list-read-then-written, Listed, listed}
 use Rattle.run.proofs.salvage.Answers.{kept-part, first-length, roomy}

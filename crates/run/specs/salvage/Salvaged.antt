@@ -1,10 +1,10 @@
 -- Salvage of a cut movement sheet (document 02, P11): what the call answers, and what it leaves in the output slice.
 -- "Refusals: net, 1 for fewer than 5 bytes, 3 for L = 0, 2, 10 for a short output."
 use Prim.Native.Nat.{ℕ, _-_}
-use mathlib.Core.List.{List, _++_}
+use mathlib.Core.List.{List}
 use mathlib.Core.Option.{Option, none, some}
 use lib.Dec.{ltb}
-use lib.ListN.{length, take, drop}
+use lib.ListN.{length, take}
 use Rattle.model.specs.declared.Thing.the-variants.{Net}
 use Rattle.model.specs.declared.Fault.the-variants.{NoRoom}
 use Rattle.model.specs.declared.Refusal.{Refusal}
@@ -15,6 +15,7 @@ use Rattle.model.specs.Replies.{Reply, yields, refuses}
 use Rattle.movement.specs.Runs.{Outcome, run}
 use Rattle.sheets.specs.Whole.{wholeNet}
 use Rattle.sheets.specs.Decoded.{netOf}
+use Rattle.sheets.specs.Emitted.{output}
 use Rattle.damaged.specs.Damaged.{damagedRefusal, considered, modesIn}
 use Rattle.run.specs.declared.salvage.Report.{Report}
 use Rattle.run.specs.declared.salvage.Salvaged.{Salvaged}
@@ -42,11 +43,6 @@ salvaged (some r) report = Refused r
 abbrev pub told : Salvaged → Reply Report
 told (Written report) = yields report
 told (Refused r) = refuses r
-
--- the sheet from the first byte on and no byte after it touched; "Other refused calls write nothing."
-abbrev pub output : Option Refusal → List ℕ → List ℕ → List ℕ
-output none sheet found = sheet ++ drop (length sheet) found
-output (some r) sheet found = found
 
 module _ (net damaged : List ℕ) where
   -- "the longest run of leading modes that the net accepts from its first marking"

@@ -7,7 +7,8 @@ use Rattle.model.proofs.Refusals.{answer-none, answer-refused}
 use Rattle.sheets.proofs.written.Puts.{room-as, puts-as}
 use Rattle.convert.specs.strip.Stripped.{strippedSheet, roomRefusal}
 use Rattle.convert.proofs.strip.Parts.{sheet-is}
-use Rattle.convert.proofs.strip.Answers.{pair-there, strips, room-enough, refused, written}
+use Rattle.sheets.proofs.Emits.{refused, written}
+use Rattle.convert.proofs.strip.Answers.{pair-there, strips, room-enough}
 use Rattle.convert.proofs.strip.strip_open.Statement.{statement}
 use Rattle.convert.proofs.strip.strip_open.Tie as tie
 
