@@ -7,8 +7,8 @@ use Rattle.model.specs.declared.Mode.{Mode}
 use Rattle.model.specs.declared.Version.the-variants.{One, Two}
 use Rattle.model.specs.Refusals.{answer}
 use Rattle.sheets.specs.nets.Nets.{netRefusal}
-use Rattle.lists.specs.Weights.{weightsRefusal}
-use Rattle.lists.specs.Movements.{movementsRefusal}
+use Rattle.sheets.specs.lists.Weights.{weightsRefusal}
+use Rattle.sheets.specs.lists.Movements.{movementsRefusal}
 use Rattle.fire.specs.Calls.{beginRefusal, begun, testRefusal, firedBy}
 use Rattle.run.specs.Calls.{ranOf, runOf, visitedBy, certifyRefusal}
 use Rattle.fire.specs.step.Calls.{testStepRefusal, steppedBy}

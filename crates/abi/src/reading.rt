@@ -2,8 +2,8 @@
 use answers::Counted;
 use answers::tell;
 use heads::head::sheet_end;
-use lists::movements::read_movements;
-use lists::weights::read_weights;
+use sheets::lists::movements::read_movements;
+use sheets::lists::weights::read_weights;
 use model::Answer;
 use sheets::nets::net::read_net;
 ghost use mathlib.Core.Path.{_≡_};

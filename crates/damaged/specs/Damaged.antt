@@ -15,7 +15,7 @@ use Rattle.model.specs.Nets.{modeNo}
 use Rattle.model.specs.Refusals.{wrong}
 use Rattle.heads.specs.Bytes.{u16At}
 use Rattle.heads.specs.Layout.{bodyLength, sheetEnd, version, movementsAt, movementAt}
-use Rattle.lists.specs.Movements.{mostMovements}
+use Rattle.sheets.specs.lists.Movements.{mostMovements}
 
 -- "1 for fewer than 5 bytes, 3 for L = 0, 2"
 unfoldable pub damagedRefusal : List ℕ → Option Refusal

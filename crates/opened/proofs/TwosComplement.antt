@@ -7,7 +7,7 @@ use mir.Val.{toZ, Fits, SFits}
 use mir.Facts.{sfits-toZ, sfits-widen}
 use native.Mathlib.Omega.{arith}
 use borrow.Author.Tests.{lt-ltb, le-ltb}
-use Rattle.lists.specs.Weights.{signed}
+use Rattle.sheets.specs.lists.Weights.{signed}
 
 module _ (x : ℕ) (set : 2147483648 ≤ x) (fits : Fits w32 x) where
   pub less : toZ w64 x -ℤ pos 4294967296 ≡ signed x

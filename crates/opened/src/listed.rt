@@ -12,8 +12,8 @@ ghost use Rattle.model.specs.Numbers.{limit};
 ghost use Rattle.model.specs.Nets.{modeNo};
 ghost use Rattle.movement.specs.Figures.{weight as weightOf};
 ghost use Rattle.heads.specs.Layout.{movementsAt};
-ghost use Rattle.lists.specs.Movements.{movementsRefusal};
-ghost use Rattle.lists.specs.Weights.{signed, weightsRefusal};
+ghost use Rattle.sheets.specs.lists.Movements.{movementsRefusal};
+ghost use Rattle.sheets.specs.lists.Weights.{signed, weightsRefusal};
 ghost use Rattle.sheets.specs.Decoded.{movementsOf, weightsOf};
 ghost use Rattle.sheets.specs.Listed.{modeAt, ModesStand};
 

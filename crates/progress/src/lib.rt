@@ -6,7 +6,7 @@ use opened::shape::NetShape;
 ghost use Prim.Native.Nat.{_≤_};
 ghost use Rattle.model.specs.Markings.{Marking};
 ghost use Rattle.sheets.specs.Decoded.{netOf};
-ghost use Rattle.lists.specs.Movements.{mostMovements};
+ghost use Rattle.sheets.specs.lists.Movements.{mostMovements};
 ghost use Rattle.sheets.specs.Listed.{modesFrom, ModesStand};
 ghost use Rattle.progress.specs.Progress.{Tables, Accepts};
 

@@ -23,8 +23,8 @@ use Rattle.model.specs.Nets.{pairNo, modeNo}
 use Rattle.model.proofs.First.{left-none, none-then, some-then}
 use Rattle.heads.specs.Checks.{headRefusal}
 use Rattle.sheets.specs.nets.Nets.{netRefusal}
-use Rattle.lists.specs.Weights.{weightsRefusal}
-use Rattle.lists.specs.Movements.{movementsRefusal}
+use Rattle.sheets.specs.lists.Weights.{weightsRefusal}
+use Rattle.sheets.specs.lists.Movements.{movementsRefusal}
 use Rattle.sheets.specs.Whole.{wholeNet, wholeWeights, wholeMovements, rest}
 use Rattle.sheets.specs.Decoded.{netOf}
 use Rattle.heads.specs.Bytes.{u16At, u32At}

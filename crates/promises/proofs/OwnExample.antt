@@ -41,8 +41,8 @@ use Rattle.second_form.proofs.Demand3.{demand3}
 use Rattle.movement.proofs.Each.{each-at, sorted-rising}
 use Rattle.heads.specs.Bytes.{u16At, u32At}
 use Rattle.heads.specs.Checks.{known, headRefusal}
-use Rattle.lists.specs.Weights.{signed, weightRefusal, weightFields, weightsRefusal}
-use Rattle.lists.specs.Movements.{movementFields, movementsRefusal}
+use Rattle.sheets.specs.lists.Weights.{signed, weightRefusal, weightFields, weightsRefusal}
+use Rattle.sheets.specs.lists.Movements.{movementFields, movementsRefusal}
 use Rattle.sheets.specs.Whole.{bytesAfter, wholeWeights, wholeMovements}
 use Rattle.sheets.specs.Decoded.{weightsOf, movementsOf}
 use Rattle.opened.specs.Shape.{arcOffset}

@@ -23,7 +23,7 @@ use Rattle.both_forms.proofs.OutOfStep.{audit-finds, audit-examples}
 use Rattle.both_forms.proofs.OutOfStepMoves.{audit-along, mark-shows}
 use Rattle.sheets.proofs.Accepted.{well-formed}
 use Rattle.sheets.proofs.Listed.{movements-within, weights-within}
-use Rattle.lists.proofs.Signs.{signed-weights}
+use Rattle.sheets.proofs.lists.Signs.{signed-weights}
 use Rattle.sheets.proofs.written.RoundTrip.{written-then-read, read-then-written}
 use Rattle.run.proofs.salvage.MovementSheets.{list-written-then-read, list-read-then-written}
 use Rattle.run.proofs.salvage.Promises.{salvaged-runs, whole-comes-back}

@@ -40,8 +40,8 @@ use Rattle.fields.proofs.RunningTotals.{total-snoc}
 use Rattle.sheets.specs.nets.Tails.{tailBlank, tailNumbers}
 use Rattle.sheets.specs.nets.Groups.{pairNotRising, pairNameRefusal, groupArcRefusal, groupRefusal, groupFields}
 use Rattle.sheets.specs.nets.Nets.{notRising, arcNamesRefusal, arcRefusal, arcFields, arcSection, pairAndArcFields, ruleField, netFields, netRefusal}
-use Rattle.lists.specs.Weights.{signed, weightRefusal, weightFields, weightsRefusal}
-use Rattle.lists.specs.Movements.{mostMovements, movementFields, movementsRefusal}
+use Rattle.sheets.specs.lists.Weights.{signed, weightRefusal, weightFields, weightsRefusal}
+use Rattle.sheets.specs.lists.Movements.{mostMovements, movementFields, movementsRefusal}
 use Rattle.sheets.specs.Whole.{bytesAfter, wholeMovements}
 
 abbrev pub most : ℕ

@@ -28,7 +28,7 @@ use Rattle.model.proofs.Firing.{mode-there}
 use Rattle.movement.proofs.Markings.{marking-test}
 use Rattle.heads.specs.Version.{versionOf}
 use Rattle.sheets.specs.nets.Nets.{netRefusal}
-use Rattle.lists.specs.Weights.{weightsRefusal}
+use Rattle.sheets.specs.lists.Weights.{weightsRefusal}
 use Rattle.sheets.specs.Whole.{wholeNet, rest}
 use Rattle.sheets.specs.Decoded.{netOf, movementsOf, weightsOf}
 use Rattle.sheets.proofs.Accepted.{well-formed}

@@ -28,7 +28,7 @@ use Rattle.movement.proofs.Markings.{marking-kept}
 use Rattle.heads.specs.Bytes.{byteAt, u16At}
 use Rattle.heads.specs.Layout.{sheetEnd, movementAt, movementCount}
 use Rattle.sheets.specs.nets.Nets.{netRefusal}
-use Rattle.lists.specs.Weights.{weightsRefusal}
+use Rattle.sheets.specs.lists.Weights.{weightsRefusal}
 use Rattle.sheets.specs.Whole.{wholeMovements, rest}
 use Rattle.sheets.specs.Decoded.{netOf, weightsOf, movementsOf}
 use Rattle.sheets.proofs.Listed.{movements-within}

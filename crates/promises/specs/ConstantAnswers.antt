@@ -8,7 +8,7 @@ use lib.ListN.{length}
 use Rattle.model.specs.declared.Pair.{Pair}
 use Rattle.model.specs.declared.Mode.{Mode}
 use Rattle.model.specs.Refusals.{number}
-use Rattle.lists.specs.Contracts.{ReadWeightsAllows, ReadMovementsAllows}
+use Rattle.sheets.specs.lists.Contracts.{ReadWeightsAllows, ReadMovementsAllows}
 use Rattle.sheets.specs.Contracts.{AfterNetAllows, AfterWeightsAllows, AfterMovementsAllows, WholeNetAllows, WholeWeightsAllows, WholeMovementsAllows}
 use Rattle.sheets.specs.nets.Contracts.{ReadNetAllows}
 use Rattle.fire.specs.Contracts.{BeginAllows, TestAllows, FireAllows}

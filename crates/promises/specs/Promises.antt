@@ -14,7 +14,7 @@ use Rattle.both_forms.specs.Visits as visits
 use Rattle.both_forms.specs.Audit as audit
 use Rattle.movement.specs.Exclusion as claim
 use Rattle.sheets.specs.Accepted.{AcceptedNet, AcceptedMovements, AcceptedWeights}
-use Rattle.lists.specs.Promises.{SignedWeights}
+use Rattle.sheets.specs.lists.Promises.{SignedWeights}
 use Rattle.sheets.specs.written.Promises.{WrittenThenRead, ReadThenWritten, LargestSheet, ExampleLengths}
 use Rattle.convert.specs.Promises.{SourceOnly, ConvertedReads, ThereAndBack}
 use Rattle.bare.specs.Promises.{BareAfter, OldModes, NoNewDead}

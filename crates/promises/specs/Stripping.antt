@@ -13,7 +13,7 @@ use Rattle.model.specs.Replies.{yields}
 use Rattle.model.specs.Nets.{pairs, modes, K, count}
 use Rattle.model.specs.Markings.{markingRefusal}
 use Rattle.heads.specs.Version.{versionOf}
-use Rattle.lists.specs.Weights.{weightsRefusal}
+use Rattle.sheets.specs.lists.Weights.{weightsRefusal}
 use Rattle.sheets.specs.Whole.{wholeNet, rest}
 use Rattle.sheets.specs.Decoded.{netOf, movementsOf}
 use Rattle.fire.specs.Contracts.{BeginAllows, TestAllows, FireAllows}

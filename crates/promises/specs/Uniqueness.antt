@@ -5,7 +5,7 @@ use mathlib.Core.List.{List}
 use lib.IntN.{ℤ}
 use Rattle.model.specs.declared.Pair.{Pair}
 use Rattle.model.specs.declared.Mode.{Mode}
-use Rattle.lists.specs.Contracts.{ReadWeightsAllows, ReadMovementsAllows}
+use Rattle.sheets.specs.lists.Contracts.{ReadWeightsAllows, ReadMovementsAllows}
 use Rattle.sheets.specs.Contracts.{AfterNetAllows, AfterWeightsAllows, AfterMovementsAllows, WholeNetAllows, WholeWeightsAllows, WholeMovementsAllows}
 use Rattle.sheets.specs.nets.Contracts.{ReadNetAllows}
 use Rattle.fire.specs.Contracts.{BeginAllows, TestAllows, FireAllows}

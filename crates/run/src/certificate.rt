@@ -15,7 +15,7 @@ ghost use lib.ListN.{length};
 ghost use Rattle.model.specs.First.{first};
 ghost use Rattle.model.specs.Refusals.{answer};
 ghost use Rattle.movement.specs.Runs.{certificateRefusal};
-ghost use Rattle.lists.specs.Movements.{movementsRefusal};
+ghost use Rattle.sheets.specs.lists.Movements.{movementsRefusal};
 ghost use Rattle.sheets.specs.Decoded.{netOf, movementsOf};
 ghost use Rattle.opened.specs.Shape.{Open};
 ghost use Rattle.movement.specs.Runs.{elsewhere, endsAt};

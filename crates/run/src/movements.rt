@@ -2,7 +2,7 @@
 use crate::Ran;
 use fire::advance::mode_answer;
 use fire::firing::mode::find_refusal;
-use lists::movements::movement_count;
+use sheets::lists::movements::movement_count;
 use model::Answer;
 use model::Mode;
 use model::Thing;
@@ -23,7 +23,7 @@ ghost use Rattle.model.specs.Firing.{modeRefusal};
 ghost use Rattle.movement.specs.Runs.{run};
 ghost use Rattle.both_forms.specs.Visits.{visited};
 ghost use Rattle.sheets.specs.Decoded.{netOf, movementsOf};
-ghost use Rattle.lists.specs.Movements.{mostMovements, movementsRefusal};
+ghost use Rattle.sheets.specs.lists.Movements.{mostMovements, movementsRefusal};
 ghost use Rattle.opened.specs.Shape.{Open};
 ghost use Rattle.opened.specs.Starts.{StartsAre};
 ghost use Rattle.sheets.specs.Listed.{modesFrom, ModesStand};

@@ -18,8 +18,8 @@ use Rattle.heads.specs.Bytes.{u32At}
 use Rattle.heads.specs.Layout.{sheetEnd, movementsAt, movementCount, weightCount, weightCountAt, weightAt}
 use Rattle.heads.specs.Checks.{headRefusal, missing}
 use Rattle.heads.specs.Held.{Headed}
-use Rattle.lists.specs.Movements.{movementFields, movementsRefusal}
-use Rattle.lists.specs.Weights.{signed, weightRefusal, weightFields, weightsRefusal}
+use Rattle.sheets.specs.lists.Movements.{movementFields, movementsRefusal}
+use Rattle.sheets.specs.lists.Weights.{signed, weightRefusal, weightFields, weightsRefusal}
 use Rattle.sheets.specs.Decoded.{movementsOf, weightsOf}
 use Rattle.sheets.specs.Listed.{modeAt, modesFrom, ModesStand}
 use Rattle.sheets.specs.Accepted.{AcceptedMovements, AcceptedWeights}

@@ -28,8 +28,8 @@ use Rattle.heads.specs.Layout.{bodyLength, sheetEnd, weightCountAt, version, co
 use Rattle.heads.specs.Version.{versionOf}
 use Rattle.heads.specs.Checks.{known, headRefusal, missing, leftOver, countRefusal}
 use Rattle.model.specs.Refusals.{wrong, thingNumber, carries}
-use Rattle.lists.specs.Movements.{mostMovements, movementFields, movementsRefusal}
-use Rattle.lists.specs.Weights.{signed, weightRefusal, weightFields, weightsRefusal}
+use Rattle.sheets.specs.lists.Movements.{mostMovements, movementFields, movementsRefusal}
+use Rattle.sheets.specs.lists.Weights.{signed, weightRefusal, weightFields, weightsRefusal}
 use Rattle.fields.specs.Numbers.{unbounded, bound, outside}
 use Rattle.fields.specs.Fields.{runningRefusal, capacityRefusal, startRefusal, pairRefusal, eachCount, countFields}
 use Rattle.sheets.specs.nets.Tails.{tailBlank, tailNumbers}

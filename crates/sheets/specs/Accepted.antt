@@ -8,8 +8,8 @@ use lib.ListN.{length}
 use Rattle.model.specs.Numbers.{limit}
 use Rattle.movement.specs.Figures.{weight}
 use Rattle.model.specs.WellFormed.{WellFormed}
-use Rattle.lists.specs.Movements.{mostMovements, movementsRefusal}
-use Rattle.lists.specs.Weights.{weightsRefusal}
+use Rattle.sheets.specs.lists.Movements.{mostMovements, movementsRefusal}
+use Rattle.sheets.specs.lists.Weights.{weightsRefusal}
 use Rattle.sheets.specs.nets.Nets.{netRefusal}
 use Rattle.sheets.specs.Decoded.{netOf, movementsOf, weightsOf}
 

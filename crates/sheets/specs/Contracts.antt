@@ -5,8 +5,8 @@ use mathlib.Core.List.{List}
 use Rattle.model.specs.declared.Answer.{Answer}
 use Rattle.model.specs.Refusals.{answer}
 use Rattle.sheets.specs.nets.Nets.{netRefusal}
-use Rattle.lists.specs.Weights.{weightsRefusal}
-use Rattle.lists.specs.Movements.{movementsRefusal}
+use Rattle.sheets.specs.lists.Weights.{weightsRefusal}
+use Rattle.sheets.specs.lists.Movements.{movementsRefusal}
 use Rattle.sheets.specs.Whole.{wholeNet, wholeWeights, wholeMovements, rest}
 
 module _ (s : List ℕ) where

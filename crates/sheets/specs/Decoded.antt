@@ -11,7 +11,7 @@ use Rattle.heads.specs.Bytes.{u16At, u32At}
 use Rattle.heads.specs.Layout.{counts, coloursAt, placeCount, transitionCount, modesAt, pairCount, modeCount, pairsAt, pairAt, arcCountAt, arcCount, arcsAfter, arcsAt, arcAt, groupAt, groupCount, groupArcAt, capacityAt, startAt, arcModeAt, arcTailAt, tailPairAt, tailPreAt, tailPostAt, tailInhibitorAt, movementAt, movementCount, weightCount, weightAt}
 use Rattle.heads.specs.Version.{versionOf}
 use Rattle.heads.specs.Rule.{ruleOf}
-use Rattle.lists.specs.Weights.{signed}
+use Rattle.sheets.specs.lists.Weights.{signed}
 use Rattle.fields.specs.Numbers.{bound}
 pub use Rattle.fields.specs.Arcs.{netArc}
 

@@ -5,5 +5,6 @@ pub mod RefusalTables
 pub mod Listed
 pub mod Contracts
 pub mod Emitted
+pub mod lists
 pub mod nets
 pub mod written

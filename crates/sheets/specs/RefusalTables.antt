@@ -14,8 +14,8 @@ use Rattle.model.specs.RefusalTables.{Table, row, _then_, each, Reads}
 use Rattle.heads.specs.Bytes.{byteAt, u16At, u32At}
 use Rattle.heads.specs.Layout.{bodyLength, sheetEnd, version, countAt, totalOf, pairAt, capacityAt, startAt, tailSize, tailPairAt, tailPreAt, tailPostAt, tailInhibitorAt, arcAt, arcSize, arcModeAt, arcTailAt, arcPairAt, groupArcAt, ruleAt, placesAt, transitionsAt, coloursAt, arcsAfter, placeCount, transitionCount, modesAt, pairCount, modeCount, pairsAt, arcCountAt, arcsBefore, groupAt, groupCount, movementCount, weightCountAt, weightCount, weightAt}
 use Rattle.heads.specs.Version.{versionOf}
-use Rattle.lists.specs.Movements.{mostMovements, movementsRefusal}
-use Rattle.lists.specs.Weights.{signed, weightsRefusal}
+use Rattle.sheets.specs.lists.Movements.{mostMovements, movementsRefusal}
+use Rattle.sheets.specs.lists.Weights.{signed, weightsRefusal}
 use Rattle.fields.specs.Numbers.{unbounded, bound}
 use Rattle.sheets.specs.nets.Nets.{netRefusal}
 

@@ -14,8 +14,8 @@ use Rattle.model.specs.First.{_▸_, onlyIf}
 use Rattle.heads.specs.Layout.{sheetEnd}
 use Rattle.model.specs.Refusals.{wrong}
 use Rattle.sheets.specs.nets.Nets.{netRefusal}
-use Rattle.lists.specs.Weights.{weightsRefusal}
-use Rattle.lists.specs.Movements.{movementsRefusal}
+use Rattle.sheets.specs.lists.Weights.{weightsRefusal}
+use Rattle.sheets.specs.lists.Movements.{movementsRefusal}
 
 -- "A call that takes one sheet as an argument refuses left-over bytes by 3."
 unfoldable pub bytesAfter : Thing → List ℕ → Option Refusal

@@ -1,4 +1,5 @@
 // The part of the caller's bytes after each sheet, and a sheet as an argument of a call.
+pub mod lists;
 pub mod nets;
 pub mod whole;
 pub mod written;

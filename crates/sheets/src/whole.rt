@@ -2,8 +2,8 @@
 use crate::nets::net::read_net;
 use heads::head::refused;
 use heads::head::sheet_end;
-use lists::movements::read_movements;
-use lists::weights::read_weights;
+use crate::lists::movements::read_movements;
+use crate::lists::weights::read_weights;
 use model::Answer;
 use model::Fault;
 use model::Thing;

@@ -14,8 +14,8 @@ use Rattle.fields.specs.Numbers.{bound}
 use Rattle.fields.specs.Fields.{runningRefusal, capacityRefusal, startRefusal, pairRefusal, eachCount, countFields}
 use Rattle.sheets.specs.nets.Tails.{tailBlank, tailNumbers}
 use Rattle.sheets.specs.nets.Nets.{risesTo, notRising, arcNamesRefusal, arcRefusal, arcFields, arcSection, pairAndArcFields, ruleField, netFields, netRefusal}
-use Rattle.lists.specs.Weights.{signed, weightRefusal, weightFields, weightsRefusal}
-use Rattle.lists.specs.Movements.{movementFields, movementsRefusal}
+use Rattle.sheets.specs.lists.Weights.{signed, weightRefusal, weightFields, weightsRefusal}
+use Rattle.sheets.specs.lists.Movements.{movementFields, movementsRefusal}
 use Rattle.sheets.specs.Whole.{bytesAfter, wholeMovements, rest}
 use Rattle.sheets.specs.Decoded.{netArcIn, netArcs, netOf, weightsOf, movementsOf}
 use Rattle.text.specs.Decimals.{decimalWithin, decimal, signedDecimal}

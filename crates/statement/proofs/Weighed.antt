@@ -10,7 +10,7 @@ use Rattle.model.specs.Markings.{Marking}
 use Rattle.movement.specs.Figures.{weight, figure}
 use Rattle.movement.proofs.Figures.{size-sum}
 use Rattle.opened.specs.declared.shape.NetShape.{NetShape}
-use Rattle.lists.specs.Weights.{weightsRefusal}
+use Rattle.sheets.specs.lists.Weights.{weightsRefusal}
 use Rattle.sheets.specs.Decoded.{netOf, weightsOf}
 use Rattle.opened.specs.Shape.{Open}
 use Rattle.opened.proofs.Shapes.{sizes}

@@ -14,7 +14,7 @@ use Rattle.model.specs.Nets.{PNet, pairs}
 use Rattle.model.specs.Firing.{modeRefusal, fired}
 use Rattle.movement.specs.Figures.{figure}
 use Rattle.sheets.specs.nets.Nets.{netRefusal}
-use Rattle.lists.specs.Weights.{weightsRefusal}
+use Rattle.sheets.specs.lists.Weights.{weightsRefusal}
 use Rattle.sheets.specs.Whole.{wholeMovements, rest}
 use Rattle.sheets.specs.Decoded.{netOf, weightsOf, movementsOf}
 use Rattle.statement.specs.declared.Stated.{Stated}

@@ -20,7 +20,7 @@ ghost use Rattle.model.specs.Nets.{modeNo};
 ghost use Rattle.model.specs.Markings.{Marking};
 ghost use Rattle.movement.specs.Figures.{figure as figureAt};
 ghost use Rattle.movement.specs.Runs.{run};
-ghost use Rattle.lists.specs.Movements.{movementsRefusal};
+ghost use Rattle.sheets.specs.lists.Movements.{movementsRefusal};
 ghost use Rattle.sheets.specs.Decoded.{netOf, weightsOf, movementsOf};
 ghost use Rattle.opened.specs.Shape.{Open};
 ghost use Rattle.opened.specs.Starts.{StartsAre};

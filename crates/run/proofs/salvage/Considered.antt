@@ -9,7 +9,7 @@ use Rattle.model.specs.Nets.{modeNo}
 use Rattle.model.specs.Lists.{table}
 use Rattle.model.proofs.Tables.{table-length, table-at}
 use Rattle.heads.specs.Layout.{movementsAt}
-use Rattle.lists.specs.Movements.{mostMovements}
+use Rattle.sheets.specs.lists.Movements.{mostMovements}
 use Rattle.sheets.specs.Listed.{modeAt, modesFrom, ModesStand}
 use Rattle.sheets.proofs.Listed.{modes-from-length}
 use Rattle.damaged.specs.Damaged.{considered, modesIn}

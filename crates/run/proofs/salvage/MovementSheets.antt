@@ -15,7 +15,7 @@ use Rattle.heads.specs.Bytes.{byteAt}
 use Rattle.heads.specs.Layout.{bodyLength, sheetEnd, version, movementsAt, movementAt, movementCount}
 use Rattle.heads.specs.Checks.{known, headRefusal}
 use Rattle.heads.proofs.Heads.{head-holds, first-known}
-use Rattle.lists.specs.Movements.{mostMovements, movementFields, movementsRefusal}
+use Rattle.sheets.specs.lists.Movements.{mostMovements, movementFields, movementsRefusal}
 use Rattle.sheets.specs.Whole.{bytesAfter, wholeMovements}
 use Rattle.sheets.specs.Decoded.{movementsOf}
 use Rattle.sheets.specs.Listed.{modeAt, modesFrom}

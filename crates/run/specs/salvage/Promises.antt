@@ -10,7 +10,7 @@ use Rattle.model.specs.declared.Refusal.{Refusal}
 use Rattle.model.specs.declared.Answer.the-variants as answers
 use Rattle.model.specs.Nets.{modeNo}
 use Rattle.heads.specs.Bytes.{byteAt}
-use Rattle.lists.specs.Movements.{mostMovements}
+use Rattle.sheets.specs.lists.Movements.{mostMovements}
 use Rattle.sheets.specs.Whole.{wholeMovements}
 use Rattle.sheets.specs.Decoded.{netOf, movementsOf}
 use Rattle.run.specs.Calls.{runOf}

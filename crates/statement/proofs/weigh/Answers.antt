@@ -17,7 +17,7 @@ use Rattle.model.specs.Nets.{pairs}
 use Rattle.model.proofs.First.{left-none, none-then, some-then}
 use Rattle.model.proofs.Refusals.{answer-none, answer-refused}
 use Rattle.opened.specs.declared.shape.NetShape.{NetShape}
-use Rattle.lists.specs.Weights.{weightsRefusal}
+use Rattle.sheets.specs.lists.Weights.{weightsRefusal}
 use Rattle.sheets.specs.Whole.{wholeWeights}
 use Rattle.sheets.specs.Decoded.{netOf}
 use Rattle.opened.specs.Shape.{Open}

@@ -17,7 +17,7 @@ use Rattle.second_form.proofs.ComplementNet.{row-small}
 use Rattle.movement.proofs.Integers.{size-add}
 use Rattle.movement.proofs.Figures.{sum-more, size-sum, gain, change-by-arcs}
 use Rattle.opened.specs.declared.shape.NetShape.{NetShape}
-use Rattle.lists.specs.Weights.{weightsRefusal}
+use Rattle.sheets.specs.lists.Weights.{weightsRefusal}
 use Rattle.sheets.specs.Decoded.{netOf, weightsOf}
 use Rattle.opened.specs.Shape.{Open}
 use Rattle.opened.specs.Starts.{ModeArcs}

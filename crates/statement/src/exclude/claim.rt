@@ -18,7 +18,7 @@ ghost use Rattle.model.specs.Refusals.{answer};
 ghost use Rattle.model.specs.Nets.{modes as modesOf};
 ghost use Rattle.model.specs.Markings.{Marking};
 ghost use Rattle.movement.specs.Exclusion.{unbalancedAt, sameFigure, claimRefusal};
-ghost use Rattle.lists.specs.Weights.{weightsRefusal};
+ghost use Rattle.sheets.specs.lists.Weights.{weightsRefusal};
 ghost use Rattle.sheets.specs.Decoded.{netOf, weightsOf};
 ghost use Rattle.opened.specs.Shape.{Open};
 ghost use Rattle.opened.specs.Starts.{StartsAre};

@@ -17,7 +17,7 @@ ghost use lib.ListN.{length};
 ghost use Rattle.model.specs.Markings.{Marking};
 ghost use Rattle.movement.specs.Runs.{run};
 ghost use Rattle.sheets.specs.Decoded.{netOf, movementsOf};
-ghost use Rattle.lists.specs.Movements.{movementsRefusal};
+ghost use Rattle.sheets.specs.lists.Movements.{movementsRefusal};
 ghost use Rattle.opened.specs.Read.{Read};
 ghost use Rattle.opened.specs.Shape.{Open};
 ghost use Rattle.opened.specs.Starts.{StartsAre};

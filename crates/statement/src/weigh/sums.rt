@@ -14,7 +14,7 @@ ghost use Rattle.model.specs.Nets.{arcNo};
 ghost use Rattle.model.specs.Markings.{Marking};
 ghost use Rattle.movement.specs.Figures.{sum as sumTo, weight as weightOf, figure, change};
 ghost use Rattle.movement.proofs.Figures.{gain as arcGain};
-ghost use Rattle.lists.specs.Weights.{weightsRefusal};
+ghost use Rattle.sheets.specs.lists.Weights.{weightsRefusal};
 ghost use Rattle.sheets.specs.Decoded.{netOf, weightsOf};
 ghost use Rattle.opened.specs.Shape.{Open};
 ghost use Rattle.opened.specs.Starts.{StartsAre, ModeArcs, OwnArc};

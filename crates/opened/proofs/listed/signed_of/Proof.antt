@@ -2,7 +2,7 @@
 use mathlib.Core.Path.{refl}
 use mir.Facts.{toZ-ofZ}
 use native.Mathlib.Omega.{arith}
-use Rattle.lists.specs.Weights.{signed}
+use Rattle.sheets.specs.lists.Weights.{signed}
 use Rattle.opened.proofs.TwosComplement.{less, less-fits32, less-fits64}
 use Rattle.opened.proofs.listed.signed_of.Statement.{statement}
 use Rattle.opened.proofs.listed.signed_of.Tie as tie

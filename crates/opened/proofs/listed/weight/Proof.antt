@@ -6,7 +6,7 @@ use mir.Val.{toZ, ofZ}
 use mir.Facts.{toZ-ofZ}
 use Rattle.heads.specs.Bytes.{u32At}
 use Rattle.heads.specs.Layout.{weightAt}
-use Rattle.lists.specs.Weights.{signed}
+use Rattle.sheets.specs.lists.Weights.{signed}
 use Rattle.sheets.proofs.Listed.{weight-there, weight-is, weight-within}
 use Rattle.opened.proofs.listed.weight.Statement.{statement}
 use Rattle.opened.proofs.listed.weight.Tie as tie

@@ -1,10 +1,10 @@
 -- The head, then the fields.
 use native.Mathlib.Omega.{arith}
 use Rattle.model.proofs.Refusals.{answer-none, answer-stops, answer-goes-on}
-use Rattle.lists.specs.Weights.{weightsRefusal}
+use Rattle.sheets.specs.lists.Weights.{weightsRefusal}
 use Rattle.heads.proofs.Heads.{head-holds}
-use Rattle.lists.proofs.weights.read_weights.Statement.{statement}
-use Rattle.lists.proofs.weights.read_weights.Tie as tie
+use Rattle.sheets.proofs.lists.weights.read_weights.Statement.{statement}
+use Rattle.sheets.proofs.lists.weights.read_weights.Tie as tie
 
 returns : tie.Need-returns
 unfolding weightsRefusal

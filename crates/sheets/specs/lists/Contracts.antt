@@ -4,8 +4,8 @@ use mathlib.Core.Path.{_≡_}
 use mathlib.Core.List.{List}
 use Rattle.model.specs.declared.Answer.{Answer}
 use Rattle.model.specs.Refusals.{answer}
-use Rattle.lists.specs.Weights.{weightsRefusal}
-use Rattle.lists.specs.Movements.{movementsRefusal}
+use Rattle.sheets.specs.lists.Weights.{weightsRefusal}
+use Rattle.sheets.specs.lists.Movements.{movementsRefusal}
 
 module _ (s : List ℕ) where
   abbrev pub ReadMovementsAllows : Answer → Type 0

@@ -6,8 +6,8 @@ use lib.Dec.{ltb}
 use lib.IntN.{natAbs}
 use native.Mathlib.Omega.{arith}
 use borrow.Author.Tests.{ltb-true, lt-ltb, le-ltb}
-use Rattle.lists.specs.Weights.{signed}
-use Rattle.lists.specs.Promises.{SignedWeights}
+use Rattle.sheets.specs.lists.Weights.{signed}
+use Rattle.sheets.specs.lists.Promises.{SignedWeights}
 
 pub signed-weights : SignedWeights
 unfolding signed

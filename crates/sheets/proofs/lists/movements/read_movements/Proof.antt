@@ -1,10 +1,10 @@
 -- The head, then the fields.
 use native.Mathlib.Omega.{arith}
 use Rattle.model.proofs.Refusals.{answer-none, answer-stops, answer-goes-on}
-use Rattle.lists.specs.Movements.{movementsRefusal}
+use Rattle.sheets.specs.lists.Movements.{movementsRefusal}
 use Rattle.heads.proofs.Heads.{head-holds}
-use Rattle.lists.proofs.movements.read_movements.Statement.{statement}
-use Rattle.lists.proofs.movements.read_movements.Tie as tie
+use Rattle.sheets.proofs.lists.movements.read_movements.Statement.{statement}
+use Rattle.sheets.proofs.lists.movements.read_movements.Tie as tie
 
 returns : tie.Need-returns
 unfolding movementsRefusal

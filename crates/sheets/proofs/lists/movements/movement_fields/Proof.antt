@@ -3,9 +3,9 @@ use borrow.Author.Tests.{lt-ltb, le-ltb}
 use native.Mathlib.Omega.{arith}
 use Rattle.model.specs.First.{_▸_}
 use Rattle.heads.specs.Layout.{sheetEnd, movementAt, movementCount}
-use Rattle.lists.specs.Movements.{movementFields}
-use Rattle.lists.proofs.movements.movement_fields.Statement.{statement}
-use Rattle.lists.proofs.movements.movement_fields.Tie as tie
+use Rattle.sheets.specs.lists.Movements.{movementFields}
+use Rattle.sheets.proofs.lists.movements.movement_fields.Statement.{statement}
+use Rattle.sheets.proofs.lists.movements.movement_fields.Tie as tie
 
 returns : tie.Need-returns
 unfolding movementFields _▸_

@@ -1,9 +1,9 @@
 -- The test of the bits is the test of the weight's size.
 use Prim.Native.Nat.{_-_}
 use native.Mathlib.Omega.{arith}
-use Rattle.lists.proofs.Signs.{size-below, size-above, same-test}
-use Rattle.lists.proofs.weights.too_heavy.Statement.{statement}
-use Rattle.lists.proofs.weights.too_heavy.Tie as tie
+use Rattle.sheets.proofs.lists.Signs.{size-below, size-above, same-test}
+use Rattle.sheets.proofs.lists.weights.too_heavy.Statement.{statement}
+use Rattle.sheets.proofs.lists.weights.too_heavy.Tie as tie
 
 returns : tie.Need-returns
 returns c = rw (size-below _ (c .if1 .taken))

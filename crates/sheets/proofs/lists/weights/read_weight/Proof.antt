@@ -4,9 +4,9 @@ use native.Mathlib.Omega.{arith}
 use Prim.Native.Nat.{_+_}
 use Rattle.model.specs.First.{_▸_}
 use Rattle.heads.specs.Layout.{sheetEnd}
-use Rattle.lists.specs.Weights.{weightRefusal}
-use Rattle.lists.proofs.weights.read_weight.Statement.{statement}
-use Rattle.lists.proofs.weights.read_weight.Tie as tie
+use Rattle.sheets.specs.lists.Weights.{weightRefusal}
+use Rattle.sheets.proofs.lists.weights.read_weight.Statement.{statement}
+use Rattle.sheets.proofs.lists.weights.read_weight.Tie as tie
 
 returns : tie.Need-returns
 unfolding weightRefusal _▸_

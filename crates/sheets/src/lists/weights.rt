@@ -16,8 +16,8 @@ ghost use Rattle.model.specs.First.{first};
 ghost use Rattle.model.specs.Refusals.{answer};
 ghost use Rattle.heads.specs.Layout.{weightAt};
 ghost use Rattle.heads.specs.Held.{Headed};
-ghost use Rattle.lists.specs.Weights.{signed, weightRefusal, weightFields};
-ghost use Rattle.lists.specs.Contracts.{ReadWeightsAllows};
+ghost use Rattle.sheets.specs.lists.Weights.{signed, weightRefusal, weightFields};
+ghost use Rattle.sheets.specs.lists.Contracts.{ReadWeightsAllows};
 
 // Outside -1,000,000..1,000,000, as two's complement.
 fn too_heavy(x: u32) -> bool

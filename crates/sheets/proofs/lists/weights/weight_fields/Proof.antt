@@ -5,9 +5,9 @@ use mathlib.Core.Bool.{not}
 use native.Mathlib.Omega.{arith}
 use Rattle.model.proofs.Refusals.{answer-passes, answer-fails, answer-stops, answer-goes-on}
 use Rattle.heads.specs.Layout.{sheetEnd, weightCount}
-use Rattle.lists.specs.Weights.{weightFields}
-use Rattle.lists.proofs.weights.weight_fields.Statement.{statement}
-use Rattle.lists.proofs.weights.weight_fields.Tie as tie
+use Rattle.sheets.specs.lists.Weights.{weightFields}
+use Rattle.sheets.proofs.lists.weights.weight_fields.Statement.{statement}
+use Rattle.sheets.proofs.lists.weights.weight_fields.Tie as tie
 
 returns : tie.Need-returns
 unfolding weightFields

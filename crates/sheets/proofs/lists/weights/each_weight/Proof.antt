@@ -7,9 +7,9 @@ use native.Mathlib.Omega.{arith}
 use Rattle.model.specs.First.{first}
 use Rattle.model.proofs.Refusals.{answer-first-at, answer-first-end, answer-first-more}
 use Rattle.heads.specs.Layout.{weightAt}
-use Rattle.lists.specs.Weights.{weightRefusal}
-use Rattle.lists.proofs.weights.each_weight.Statement.{statement}
-use Rattle.lists.proofs.weights.each_weight.Tie as tie
+use Rattle.sheets.specs.lists.Weights.{weightRefusal}
+use Rattle.sheets.proofs.lists.weights.each_weight.Statement.{statement}
+use Rattle.sheets.proofs.lists.weights.each_weight.Tie as tie
 
 abbrev Inv-loop : tie.InvT-loop
 Inv-loop s count p₀ p = (p ≤ count) × (first p (λ p. weightRefusal s (weightAt p)) ≡ none)

@@ -9,8 +9,8 @@ ghost use mathlib.Core.Path.{_≡_};
 ghost use Rattle.model.specs.Refusals.{answer};
 ghost use Rattle.heads.specs.Layout.{movementCount};
 ghost use Rattle.heads.specs.Held.{Headed};
-ghost use Rattle.lists.specs.Movements.{movementFields};
-ghost use Rattle.lists.specs.Contracts.{ReadMovementsAllows};
+ghost use Rattle.sheets.specs.lists.Movements.{movementFields};
+ghost use Rattle.sheets.specs.lists.Contracts.{ReadMovementsAllows};
 
 // How many whole mode numbers stand in the sheet.
 pub fn movement_count(s: &[u8]) -> usize
