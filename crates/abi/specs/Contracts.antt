@@ -9,6 +9,8 @@ use Rattle.model.specs.Refusals.{answer}
 use Rattle.sheets.specs.nets.Nets.{netRefusal}
 use Rattle.sheets.specs.lists.Weights.{weightsRefusal}
 use Rattle.sheets.specs.lists.Movements.{movementsRefusal}
+use Rattle.sheets.specs.declared.Emitted.{Emitted}
+use Rattle.sheets.specs.Emitted as emitting
 use Rattle.fire.specs.Calls.{beginRefusal, begun, testRefusal, firedBy}
 use Rattle.run.specs.Calls.{ranOf, runOf, visitedBy, certifyRefusal}
 use Rattle.fire.specs.step.Calls.{testStepRefusal, steppedBy}
@@ -21,7 +23,6 @@ use Rattle.complement.specs.Complemented as complement
 use Rattle.convert.specs.Converted as convert
 use Rattle.convert.specs.strip.Stripped as strip
 use Rattle.export.specs.Exports as export
-use Rattle.sheets.specs.declared.Emitted.{Emitted}
 use Rattle.import.specs.Contracts as importing
 use Rattle.complement.specs.audit.Audits as audit
 use Rattle.run.specs.salvage.Salvaged as salvage
@@ -40,7 +41,6 @@ use Rattle.answers.specs.declared.Audited.{Audited}
 use Rattle.answers.specs.declared.Reported.{Reported}
 use Rattle.answers.specs.Told.{answered, counted, weighed, decided, named, sized, audited, reported, textTold}
 use Rattle.abi.specs.Told.{ran, taken}
-use Rattle.sheets.specs.Emitted as emitting
 
 -- the readers, on a run of bytes
 module _ (s : List ℕ) where

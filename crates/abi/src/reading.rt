@@ -2,9 +2,9 @@
 use answers::Counted;
 use answers::tell;
 use heads::head::sheet_end;
+use model::Answer;
 use sheets::lists::movements::read_movements;
 use sheets::lists::weights::read_weights;
-use model::Answer;
 use sheets::nets::net::read_net;
 ghost use mathlib.Core.Path.{_≡_};
 ghost use Rattle.heads.specs.Held.{Headed};

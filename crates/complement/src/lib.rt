@@ -20,9 +20,9 @@ use opened::starts::starts;
 use sheets::Emitted;
 ghost use mathlib.Core.Path.{_≡_};
 ghost use lib.ListN.{length};
+ghost use Rattle.sheets.specs.Emitted.{emitted, output};
 ghost use Rattle.opened.specs.Shape.{Open};
 ghost use Rattle.complement.specs.Complemented.{complementSheet, roomRefusal};
-ghost use Rattle.sheets.specs.Emitted.{emitted, output};
 ghost use Rattle.complement.specs.Contracts.{ComplementAllows};
 
 fn complement_open(s: &[u8], net: NetShape, out: &mut [u8]) -> Emitted

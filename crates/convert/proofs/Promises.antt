@@ -19,8 +19,8 @@ use Rattle.sheets.specs.written.Promises.{ReadBack}
 use Rattle.sheets.proofs.written.Versions.{number-is, version-is}
 use Rattle.sheets.proofs.written.RoundTrip.{known-holds, read-then-written, written-then-read}
 use Rattle.sheets.specs.declared.Emitted.the-variants.{Length}
-use Rattle.convert.specs.Converted.{ofVersion, lostRule, convertedSheet, openRefusal, convertRefusal, conversionOf, outputOf}
 use Rattle.sheets.specs.Emitted.{emitted, output}
+use Rattle.convert.specs.Converted.{ofVersion, lostRule, convertedSheet, openRefusal, convertRefusal, conversionOf, outputOf}
 use Rattle.convert.specs.Promises.{SourceOnly, ConvertedReads, Returned, ThereAndBack}
 use Rattle.convert.proofs.Answers.{read-on, stops, read-whole, read-version, kept, own-rule, roomy}
 

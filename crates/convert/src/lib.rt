@@ -23,8 +23,8 @@ ghost use Rattle.model.specs.Refusals.{answer};
 ghost use Rattle.opened.specs.Shape.{shapeOf, Open};
 ghost use Rattle.opened.specs.Opened.{opened};
 ghost use Rattle.sheets.specs.written.Written.{versionNumber};
-ghost use Rattle.convert.specs.Converted.{ofVersion, lostRule, convertedSheet, openRefusal, conversionOf, outputOf};
 ghost use Rattle.sheets.specs.Emitted.{emitted, output};
+ghost use Rattle.convert.specs.Converted.{ofVersion, lostRule, convertedSheet, openRefusal, conversionOf, outputOf};
 ghost use Rattle.convert.specs.Contracts.{ToVersion1Allows, ToVersion2Allows};
 
 fn version_byte(version: Version) -> u8

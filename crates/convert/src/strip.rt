@@ -15,9 +15,9 @@ use opened::shape::capacity;
 use sheets::Emitted;
 ghost use mathlib.Core.Path.{_≡_};
 ghost use lib.ListN.{length};
+ghost use Rattle.sheets.specs.Emitted.{emitted, output};
 ghost use Rattle.opened.specs.Shape.{Open};
 ghost use Rattle.convert.specs.strip.Stripped.{strippedSheet, roomRefusal};
-ghost use Rattle.sheets.specs.Emitted.{emitted, output};
 ghost use Rattle.convert.specs.strip.Contracts.{StripAllows};
 
 fn strip_open(s: &[u8], net: NetShape, pair: Pair, out: &mut [u8]) -> Emitted

@@ -15,10 +15,10 @@ use Rattle.model.specs.Refusals.{wrong}
 use Rattle.heads.specs.Layout.{pairsAt, pairAt, capacityAt}
 use Rattle.sheets.specs.Whole.{wholeNet}
 use Rattle.sheets.specs.Decoded.{netOf}
-use Rattle.opened.specs.Shape.{inhibitorOffset}
-use Rattle.pnml.specs.Pnml.{pnml}
 use Rattle.sheets.specs.declared.Emitted.{Emitted}
 use Rattle.sheets.specs.Emitted.{emitted, output}
+use Rattle.opened.specs.Shape.{inhibitorOffset}
+use Rattle.pnml.specs.Pnml.{pnml}
 
 -- "19 at the first finite K or I": of all K, and then of the arcs' I as they stand. `capacity p` and `inhibitor k` are where these fields stand in the sheet.
 unfoldable pub boundedCapacity : (ℕ → ℕ) → PNet → Option Refusal

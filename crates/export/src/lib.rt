@@ -19,10 +19,10 @@ ghost use mathlib.Core.Path.{_≡_};
 ghost use lib.ListN.{length};
 ghost use Rattle.model.specs.Refusals.{answer};
 ghost use Rattle.sheets.specs.Decoded.{netOf};
+ghost use Rattle.sheets.specs.Emitted.{emitted, output};
 ghost use Rattle.opened.specs.Shape.{Open};
 ghost use Rattle.opened.specs.Starts.{StartsAre};
 ghost use Rattle.export.specs.Exports.{exportText, roomRefusal};
-ghost use Rattle.sheets.specs.Emitted.{emitted, output};
 ghost use Rattle.export.specs.Contracts.{ExportPnmlAllows};
 
 // 19, then 10.

@@ -14,15 +14,15 @@ use Rattle.model.specs.Nets.{PNet}
 use Rattle.model.specs.Refusals.{wrong}
 use Rattle.sheets.specs.written.Puts.{sheetSize}
 use Rattle.sheets.proofs.written.Puts.{from-start}
+use Rattle.sheets.specs.declared.Emitted.{Emitted}
+use Rattle.sheets.specs.declared.Emitted.the-variants.{Length, Refused}
+use Rattle.sheets.specs.Emitted.{emitted, output}
 use Rattle.pnml.specs.Pnml.{pnml, Exportable}
 use Rattle.pnml.specs.Singles.{importedSheet}
 use Rattle.pnml.proofs.ImportRefusal.{too-many, short, roomy}
 use Rattle.grammar.specs.declared.State.{State}
 use Rattle.import.specs.declared.scan.Checked.{Checked}
 use Rattle.import.specs.scan.Kinds.{ExportOf, CheckAllows, CheckedAs}
-use Rattle.sheets.specs.declared.Emitted.{Emitted}
-use Rattle.sheets.specs.declared.Emitted.the-variants.{Length, Refused}
-use Rattle.sheets.specs.Emitted.{emitted, output}
 use Rattle.import.specs.Parts.{SheetPut, ImportedAs}
 use Rattle.import.proofs.Singles.{size-is}
 

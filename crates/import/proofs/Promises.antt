@@ -15,16 +15,16 @@ use Rattle.model.specs.Nets.{PNet, pairs, modes, count}
 use Rattle.model.specs.Refusals.{wrong}
 use Rattle.model.proofs.First.{below-or}
 use Rattle.sheets.proofs.written.RoundTrip.{written-then-read}
+use Rattle.sheets.specs.declared.Emitted.{Emitted}
+use Rattle.sheets.specs.declared.Emitted.the-variants.{Length, Refused}
+use Rattle.sheets.specs.Emitted.{emitted, told, output}
 use Rattle.pnml.specs.Agrees.{FirstNone}
 use Rattle.pnml.specs.Pnml.{opening, closing, placeText, modeText, body, pnml, Exportable, Refused20}
 use Rattle.pnml.specs.Singles.{singles, importedSheet, importRefusal}
 use Rattle.pnml.proofs.ImportRefusal.{roomy, Way, many, full, whole, way}
 use Rattle.grammar.proofs.parts.Steps.{agrees-fewer}
 use Rattle.grammar.proofs.Generated.{total-some}
-use Rattle.sheets.specs.declared.Emitted.{Emitted}
-use Rattle.sheets.specs.declared.Emitted.the-variants.{Length, Refused}
 use Rattle.import.specs.Imports.{importOf, outputOf}
-use Rattle.sheets.specs.Emitted.{emitted, told, output}
 use Rattle.import.specs.Contracts.{ImportPnmlAllows}
 use Rattle.import.specs.Promises.{RefusedExactly, Small, ImportsExactly, ImportedReads}
 use Rattle.import.proofs.Singles.{pairs-same, modes-same, singles-well, no-bound}

@@ -12,11 +12,11 @@ use Rattle.model.specs.declared.Refusal.{Refusal}
 use Rattle.model.specs.Nets.{PNet, pairs, modes}
 use Rattle.model.specs.Refusals.{answer, wrong, Carried, carries, carried}
 use Rattle.model.specs.RefusalTables.{Table, row, _then_, each, Silent, Gives, Reads}
+use Rattle.sheets.specs.declared.Emitted.{Emitted}
+use Rattle.sheets.specs.Emitted.{emitted, refusalOf}
 use Rattle.pnml.specs.Pnml.{pnml, Exportable, Refused20}
 use Rattle.pnml.specs.Singles.{importedSheet, importRefusal}
 use Rattle.pnml.proofs.ImportRefusal.{too-many, Way, many, full, whole, way}
-use Rattle.sheets.specs.declared.Emitted.{Emitted}
-use Rattle.sheets.specs.Emitted.{emitted, refusalOf}
 use Rattle.import.specs.Contracts.{OfExport, OfNone}
 use Rattle.import.specs.RefusalTable.{ExportOfSome, importTable, ImportTable}
 use Rattle.import.proofs.Promises.{once, answered}

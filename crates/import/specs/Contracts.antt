@@ -7,9 +7,9 @@ use Rattle.model.specs.declared.Thing.the-variants.{Net}
 use Rattle.model.specs.declared.Fault.the-variants.{NotAnExport}
 use Rattle.model.specs.Nets.{PNet}
 use Rattle.model.specs.Refusals.{wrong}
-use Rattle.pnml.specs.Pnml.{pnml, Exportable, Refused20}
 use Rattle.sheets.specs.declared.Emitted.{Emitted}
 use Rattle.sheets.specs.declared.Emitted.the-variants.{Refused}
+use Rattle.pnml.specs.Pnml.{pnml, Exportable, Refused20}
 use Rattle.import.specs.Imports.{importOf, outputOf}
 
 -- the text is an export, and whatever net's it is, the answer and the output are of that net

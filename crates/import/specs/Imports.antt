@@ -4,9 +4,9 @@ use Prim.Native.Nat.{ℕ}
 use mathlib.Core.List.{List}
 use lib.ListN.{length}
 use Rattle.model.specs.Nets.{PNet}
-use Rattle.pnml.specs.Singles.{importedSheet, importRefusal}
 use Rattle.sheets.specs.declared.Emitted.{Emitted}
 use Rattle.sheets.specs.Emitted.{emitted, output}
+use Rattle.pnml.specs.Singles.{importedSheet, importRefusal}
 
 -- of the export of a net
 abbrev pub importOf : PNet → List ℕ → Emitted

@@ -13,6 +13,7 @@ use Rattle.model.specs.Numbers.{∞}
 use Rattle.model.specs.Nets.{NetArc, PNet}
 use Rattle.sheets.specs.written.Written.{bytes16, bytes32, pairBytes, arcBytes}
 use Rattle.sheets.specs.written.Puts.{Written, Put, Puts}
+use Rattle.sheets.specs.declared.Emitted.{Emitted}
 use Rattle.pnml.specs.Agrees.{Agrees}
 use Rattle.pnml.specs.Pnml.{pnml, Exportable}
 use Rattle.pnml.specs.Singles.{importedSheet}
@@ -23,7 +24,6 @@ use Rattle.grammar.specs.Gathered.{Gathered, arc, gather, finish, Tells}
 use Rattle.grammar.proofs.Made.{Made}
 use Rattle.import.specs.scan.Kinds.{Sound}
 use Rattle.import.specs.Imports.{importOf, outputOf}
-use Rattle.sheets.specs.declared.Emitted.{Emitted}
 use Rattle.import.specs.declared.Wrote.{Wrote}
 use Rattle.import.specs.declared.Wrote.the-variants.{On, End}
 

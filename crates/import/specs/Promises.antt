@@ -9,10 +9,10 @@ use Rattle.model.specs.declared.Version.the-variants.{One}
 use Rattle.model.specs.Nets.{PNet, pairs, modes, K}
 use Rattle.model.specs.Refusals.{wrong}
 use Rattle.sheets.specs.written.Promises.{ReadBack}
-use Rattle.pnml.specs.Pnml.{pnml, Exportable, Refused20}
-use Rattle.pnml.specs.Singles.{singles, importedSheet}
 use Rattle.sheets.specs.declared.Emitted.{Emitted}
 use Rattle.sheets.specs.declared.Emitted.the-variants.{Length, Refused}
+use Rattle.pnml.specs.Pnml.{pnml, Exportable, Refused20}
+use Rattle.pnml.specs.Singles.{singles, importedSheet}
 use Rattle.import.specs.Contracts.{ImportPnmlAllows}
 
 -- "20 at the first byte (or the end) from which no export agrees with the text": there, and nowhere else

@@ -8,10 +8,10 @@ use lib.ListN.{length}
 use Rattle.model.specs.Nets.{PNet, pairs, modes}
 use Rattle.model.specs.Refusals.{carries}
 use Rattle.model.specs.RefusalTables.{Table, row, _then_, each, Reads}
-use Rattle.pnml.specs.Pnml.{pnml, Exportable, Refused20}
-use Rattle.pnml.specs.Singles.{importedSheet}
 use Rattle.sheets.specs.declared.Emitted.{Emitted}
 use Rattle.sheets.specs.Emitted.{refusalOf}
+use Rattle.pnml.specs.Pnml.{pnml, Exportable, Refused20}
+use Rattle.pnml.specs.Singles.{importedSheet}
 use Rattle.import.specs.Contracts.{ImportPnmlAllows}
 
 -- the text is the export of such a net

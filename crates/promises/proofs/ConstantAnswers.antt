@@ -29,6 +29,7 @@ use Rattle.sheets.specs.Whole.{wholeNet, wholeWeights, wholeMovements, rest}
 use Rattle.sheets.specs.Decoded.{netOf}
 use Rattle.heads.specs.Bytes.{u16At, u32At}
 use Rattle.sheets.proofs.written.SheetLength.{sheet-least}
+use Rattle.sheets.specs.Emitted as emitting
 use Rattle.fire.specs.Calls.{beginRefusal, testRefusal}
 use Rattle.run.specs.Calls.{beforeRun, runOf, certifyRefusal}
 use Rattle.fire.specs.step.Calls.{testStepRefusal}
@@ -68,7 +69,6 @@ use Rattle.promises.specs.OwnExample as own
 use Rattle.statement.specs.Example as sheets
 use Rattle.promises.specs.ConstantAnswers.{Only, Never, NotConstant, Varies, PartVaries, full, ConstantAnswers}
 use Rattle.promises.proofs.OwnExample.{read-back, weights-read, movements-read, tests, steps, runs-whole, own-example}
-use Rattle.sheets.specs.Emitted as emitting
 
 module _ {I O : Type 0} (Allows : I → O → Type 0) (number : O → ℕ) where
   not-constant : (i j : I) → Only Allows number 0 i → Never Allows number 0 j → NotConstant Allows number

@@ -22,8 +22,8 @@ use Rattle.sheets.specs.Decoded.{netOf}
 use Rattle.sheets.proofs.Meaning.{counts-length, colours-are}
 use Rattle.sheets.proofs.nets.Valid.{counts-hold}
 use Rattle.sheets.proofs.written.RoundTrip.{written-then-read}
-use Rattle.complement.specs.Complemented.{complementSheet, complementingRefusal, outputOf}
 use Rattle.sheets.specs.Emitted.{emitted, told}
+use Rattle.complement.specs.Complemented.{complementSheet, complementingRefusal, outputOf}
 use Rattle.promises.specs.Frauds.{CopiesNet}
 use Rattle.promises.proofs.Accepting.{unrefused}
 use Rattle.promises.proofs.DemandThree.{complementable, complement-sheet}

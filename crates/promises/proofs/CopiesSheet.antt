@@ -15,8 +15,8 @@ use Rattle.heads.specs.Version.{versionOf}
 use Rattle.heads.proofs.Heads.{head-holds}
 use Rattle.sheets.specs.Decoded.{netOf}
 use Rattle.sheets.proofs.written.SheetLength.{sheet-least}
-use Rattle.convert.specs.Converted.{ofVersion, lostRule, convertedSheet, openRefusal, convertRefusal, conversionOf, outputOf}
 use Rattle.sheets.specs.Emitted.{emitted, told, output}
+use Rattle.convert.specs.Converted.{ofVersion, lostRule, convertedSheet, openRefusal, convertRefusal, conversionOf, outputOf}
 use Rattle.convert.proofs.Answers.{read-version}
 use Rattle.convert.proofs.Promises.{converted-reads}
 use Rattle.promises.specs.Frauds.{CopiesSheet}

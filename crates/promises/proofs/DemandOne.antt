@@ -8,9 +8,7 @@ use mathlib.Core.Option.{Option}
 use lib.Dec.{leb, ltb}
 use lib.ListN.{length, take, drop}
 use native.Mathlib.Omega.{arith}
-use Rattle.model.specs.declared.Pair.{Pair}
 use Rattle.model.specs.declared.Refusal.{Refusal}
-use Rattle.model.specs.declared.Version.{Version}
 use Rattle.model.specs.declared.Version.the-variants.{One, Two}
 use Rattle.model.specs.Refusals.{answer, number}
 use Rattle.model.specs.Nets.{PNet}
@@ -18,6 +16,7 @@ use Rattle.movement.specs.Promises.{Leads, stays}
 use Rattle.model.specs.Firing.{fired}
 use Rattle.both_forms.specs.Steps.{firedTogether}
 use Rattle.sheets.specs.Decoded.{netOf, movementsOf}
+use Rattle.sheets.specs.Emitted.{emitted, told, output}
 use Rattle.leaving.specs.Leaving.{written}
 use Rattle.fire.specs.Calls.{beginRefusal, testRefusal}
 use Rattle.run.specs.Calls.{runOf}
@@ -26,14 +25,10 @@ use Rattle.fire.specs.step.Calls.{stepModes, testStepRefusal}
 use Rattle.ships.specs.declared.Fleet.{Fleet}
 use Rattle.ships.specs.Ships.{Ship, ship, voyageOf, withVoyage}
 use Rattle.ships.specs.Entered.{shipRefusal, left, entered}
-use Rattle.complement.specs.Complemented.{complementSheet, complementingRefusal, complementOf}
-use Rattle.sheets.specs.Emitted.{emitted, told, output}
-use Rattle.complement.specs.Complemented as complementing
-use Rattle.convert.specs.Converted.{convertedSheet, convertRefusal, conversionOf, outputOf}
-use Rattle.convert.specs.strip.Stripped.{strippedSheet, strippingRefusal, strippedOf}
-use Rattle.convert.specs.strip.Stripped as stripping
-use Rattle.export.specs.Exports.{exportText, exportRefusal, exportOf}
-use Rattle.export.specs.Exports as exporting
+use Rattle.complement.specs.Complemented.{complementSheet, complementingRefusal}
+use Rattle.convert.specs.Converted.{convertedSheet, convertRefusal, outputOf}
+use Rattle.convert.specs.strip.Stripped.{strippedSheet, strippingRefusal}
+use Rattle.export.specs.Exports.{exportText, exportRefusal}
 use Rattle.import.proofs.Promises.{import-kept}
 use Rattle.run.specs.salvage.Salvaged as salvaging
 use Rattle.text.specs.declared.Put.the-variants.{To, Full}
@@ -44,7 +39,6 @@ use Rattle.statement.specs.Replay.{room, replayText, stated, statedIn}
 use Rattle.answers.specs.Told.{counted, textTold}
 use Rattle.promises.specs.DemandOne.{Refused, DemandOne, DemandOneForC}
 use Rattle.promises.proofs.Accepting.{left-alone}
-use Rattle.sheets.specs.Emitted as emitting
 
 kept : (o : Option Refusal) (new found : List ℕ) → Refused (answer o) → written o new found ≡ found
 kept o new found = left-alone (λ o. number (answer o)) (λ o. written o new found) refl (λ r. refl) o
@@ -53,33 +47,12 @@ ship-kept : (f : Fleet) (s : Ship) → Refused (entered f s .answer) → entered
 unfolding entered
 ship-kept f s = left-alone (λ o. number (answer o)) (λ o. left o f (withVoyage f (voyageOf s))) refl (λ r. refl) (shipRefusal f s)
 
-complement-kept : (net out : List ℕ) → told (complementOf net out) .carried .number ≢ 0 → complementing.outputOf net out ≡ out
-complement-kept net out =
-    let sheet = complementSheet net in
-    left-alone (λ o. told (emitted o (length sheet)) .carried .number) (λ o. output o sheet out) refl (λ r. refl) (complementingRefusal net (length out))
-
-converted-kept : (source target : Version) (net out : List ℕ) → emitting.told (conversionOf source target net out) .carried .number ≢ 0
-    → outputOf source target net out ≡ out
-converted-kept source target net out =
-    let sheet = convertedSheet target net in
-    left-alone (λ o. emitting.told (emitted o (length sheet)) .carried .number) (λ o. emitting.output o sheet out) refl (λ r. refl)
-    (convertRefusal source target net (length out))
-
-stripped-kept : (net : List ℕ) (p : Pair) (out : List ℕ) → emitting.told (strippedOf net p out) .carried .number ≢ 0 → stripping.outputOf net p out ≡ out
-stripped-kept net p out =
-    let sheet = strippedSheet net p in
-    left-alone (λ o. emitting.told (emitted o (length sheet)) .carried .number) (λ o. emitting.output o sheet out) refl (λ r. refl)
-    (strippingRefusal net p (length out))
-
-exported-kept : (net out : List ℕ) → emitting.told (exportOf net out) .carried .number ≢ 0 → exporting.outputOf net out ≡ out
-exported-kept net out =
-    let text = exportText net in
-    left-alone (λ o. emitting.told (emitted o (length text)) .carried .number) (λ o. emitting.output o text out) refl (λ r. refl)
-    (exportRefusal net (length out))
+emitted-kept : (o : Option Refusal) (bytes out : List ℕ) → told (emitted o (length bytes)) .carried .number ≢ 0 → output o bytes out ≡ out
+emitted-kept o bytes out = left-alone (λ o. told (emitted o (length bytes)) .carried .number) (λ o. output o bytes out) refl (λ r. refl) o
 
 salvaged-kept : (net damaged out : List ℕ) → salvaging.told (salvaging.salvageOf net damaged out) .carried .number ≢ 0 → salvaging.outputOf net damaged out ≡ out
 salvaged-kept net damaged out =
-    left-alone (λ o. salvaging.told (salvaging.salvaged o (salvaging.report net damaged)) .carried .number) (λ o. emitting.output o (salvaging.freshSheet net damaged) out)
+    left-alone (λ o. salvaging.told (salvaging.salvaged o (salvaging.report net damaged)) .carried .number) (λ o. output o (salvaging.freshSheet net damaged) out)
     refl (λ r. refl) (salvaging.salvageRefusal net damaged (length out))
 
 put-kept : (out : List ℕ) (at : ℕ) (bytes : List ℕ) → putTo out at bytes ≡ Full → putInto out at bytes ≡ out
@@ -117,13 +90,13 @@ demand-one =
           allows .1 ∙ kept (testStepRefusal net marking modes) (firedTogether (netOf net) (stepModes modes) marking) marking (subst Refused (allows .0) refused);
       addShip = λ found net weights movements o allows refused. allows .1 ∙ ship-kept found (ship net weights movements) (subst Refused (allows .0) refused);
       complement = λ net out o allows refused.
-          allows .1 ∙ complement-kept net out (subst (λ c. told c .carried .number ≢ 0) (allows .0) refused);
+          allows .1 ∙ emitted-kept (complementingRefusal net (length out)) (complementSheet net) out (subst (λ c. told c .carried .number ≢ 0) (allows .0) refused);
       toVersion2 = λ net out o allows refused.
-          allows .1 ∙ converted-kept One Two net out (subst (λ c. emitting.told c .carried .number ≢ 0) (allows .0) refused);
+          allows .1 ∙ emitted-kept (convertRefusal One Two net (length out)) (convertedSheet Two net) out (subst (λ c. told c .carried .number ≢ 0) (allows .0) refused);
       toVersion1 = λ net out o allows refused.
-          allows .1 ∙ converted-kept Two One net out (subst (λ c. emitting.told c .carried .number ≢ 0) (allows .0) refused);
-      strip = λ net p out o allows refused. allows .1 ∙ stripped-kept net p out (subst (λ c. emitting.told c .carried .number ≢ 0) (allows .0) refused);
-      exportPnml = λ net out o allows refused. allows .1 ∙ exported-kept net out (subst (λ c. emitting.told c .carried .number ≢ 0) (allows .0) refused);
+          allows .1 ∙ emitted-kept (convertRefusal Two One net (length out)) (convertedSheet One net) out (subst (λ c. told c .carried .number ≢ 0) (allows .0) refused);
+      strip = λ net p out o allows refused. allows .1 ∙ emitted-kept (strippingRefusal net p (length out)) (strippedSheet net p) out (subst (λ c. told c .carried .number ≢ 0) (allows .0) refused);
+      exportPnml = λ net out o allows refused. allows .1 ∙ emitted-kept (exportRefusal net (length out)) (exportText net) out (subst (λ c. told c .carried .number ≢ 0) (allows .0) refused);
       importPnml = import-kept;
       salvage = λ net damaged out o allows refused.
           allows .1 ∙ salvaged-kept net damaged out (subst (λ c. salvaging.told c .carried .number ≢ 0) (allows .0) refused);
@@ -146,11 +119,11 @@ demand-one-for-c =
           allows .1 ∙ kept (testStepRefusal net marking modes) (firedTogether (netOf net) (stepModes modes) marking) marking (subst (λ a. a .number ≢ 0) (allows .0) refused);
       fleetAdd = λ found net weights movements o allows refused.
           allows .1 ∙ ship-kept found (ship net weights movements) (subst (λ a. a .number ≢ 0) (allows .0) refused);
-      complement = λ net out o allows refused. allows .1 ∙ complement-kept net out (subst (λ c. c .answer .number ≢ 0) (allows .0) refused);
-      toVersion2 = λ net out o allows refused. allows .1 ∙ converted-kept One Two net out (subst (λ c. c .answer .number ≢ 0) (allows .0) refused);
-      toVersion1 = λ net out o allows refused. allows .1 ∙ converted-kept Two One net out (subst (λ c. c .answer .number ≢ 0) (allows .0) refused);
-      strip = λ net p out o allows refused. allows .1 ∙ stripped-kept net p out (subst (λ c. c .answer .number ≢ 0) (allows .0) refused);
-      exportPnml = λ net out o allows refused. allows .1 ∙ exported-kept net out (subst (λ c. c .answer .number ≢ 0) (allows .0) refused);
+      complement = λ net out o allows refused. allows .1 ∙ emitted-kept (complementingRefusal net (length out)) (complementSheet net) out (subst (λ c. c .answer .number ≢ 0) (allows .0) refused);
+      toVersion2 = λ net out o allows refused. allows .1 ∙ emitted-kept (convertRefusal One Two net (length out)) (convertedSheet Two net) out (subst (λ c. c .answer .number ≢ 0) (allows .0) refused);
+      toVersion1 = λ net out o allows refused. allows .1 ∙ emitted-kept (convertRefusal Two One net (length out)) (convertedSheet One net) out (subst (λ c. c .answer .number ≢ 0) (allows .0) refused);
+      strip = λ net p out o allows refused. allows .1 ∙ emitted-kept (strippingRefusal net p (length out)) (strippedSheet net p) out (subst (λ c. c .answer .number ≢ 0) (allows .0) refused);
+      exportPnml = λ net out o allows refused. allows .1 ∙ emitted-kept (exportRefusal net (length out)) (exportText net) out (subst (λ c. c .answer .number ≢ 0) (allows .0) refused);
       importPnml = λ text out o allows refused. import-kept text out (allows .0, o .1) (allows .1) (subst (λ c. c .answer .number ≢ 0) (allows .2) refused);
       salvage = λ net damaged out o allows refused. allows .1 ∙ salvaged-kept net damaged out (subst (λ c. c .answer .number ≢ 0) (allows .0) refused);
       statement = λ input out o allows refused. allows .1 ∙ text-kept input out (subst (λ c. c .answer .number ≢ 0) (allows .0) refused);

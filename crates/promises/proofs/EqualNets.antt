@@ -29,6 +29,8 @@ use Rattle.heads.specs.Version.{versionOf}
 use Rattle.sheets.specs.written.Written.{sheetOf}
 use Rattle.sheets.specs.written.Promises.{HasSheet, ReadBack}
 use Rattle.sheets.proofs.written.RoundTrip.{written-then-read, read-then-written, own-sheet}
+use Rattle.sheets.specs.Emitted.{output}
+use Rattle.sheets.specs.Emitted as emitting
 use Rattle.fire.specs.Calls.{beginRefusal, testRefusal}
 use Rattle.run.specs.Calls.{beforeRun, runOf, visitedBy, certifyRefusal}
 use Rattle.fire.specs.step.Calls.{testStepRefusal}
@@ -45,14 +47,12 @@ use Rattle.export.specs.Exports.{boundedCapacity, boundedInhibitor}
 use Rattle.export.specs.Exports as exporting
 use Rattle.complement.specs.audit.Audits as auditing
 use Rattle.damaged.specs.Damaged.{damagedRefusal, modesIn}
-use Rattle.sheets.specs.Emitted.{output}
 use Rattle.run.specs.salvage.Salvaged.{sheetOfFirst, reportOf, tooShort, salvaged, trial, salvageRefusal, salvageOf, outputOf}
 use Rattle.statement.specs.Replay.{unlessRefused, weightsText, sheetsText, replayText, stated, statedIn}
 use Rattle.promises.specs.DemandThree.{asWritten}
 use Rattle.promises.specs.EqualNets.{OneNet, OffsetAside, RepliesAlike, Fits, StripFits, Bytes, AlikeBefore, Alike, EqualNets}
 use Rattle.promises.proofs.TwoRuns.{length-accepted, written}
 use Rattle.promises.proofs.StripWritten.{sheet-there, sheet-reads}
-use Rattle.sheets.specs.Emitted as emitting
 
 -- the refusals that name an offset: 15 and 19
 data Naming : Type 0 where
@@ -106,19 +106,15 @@ aside-told : {A : Type 0} {o p : Option Refusal} (tell : Option Refusal → Repl
 aside-told tell there (same o) = record { carried = equal-aside _; value = refl }
 aside-told tell there (offsets f i j) = rw (there (naming f i), there (naming f j)) (record { carried = aside-carried (offsets f i j); value = refl })
 
-complement-carried : (o : Option Refusal) (l : ℕ) → emitting.told (emitting.emitted o l) .carried ≡ carried (answer o)
-complement-carried none l = refl
-complement-carried (some r) l = refl
+emitted-carried : (o : Option Refusal) (l : ℕ) → emitting.told (emitting.emitted o l) .carried ≡ carried (answer o)
+emitted-carried none l = refl
+emitted-carried (some r) l = refl
 
 -- an output slice that is long enough: 15, and 10 for the limits
 complement-fits : (net out : List ℕ) → wholeNet net ≡ none → Fits net out
     → complementing.complementingRefusal net (length out) ≡ complementRefusal (arcOffset net) (netOf net)
 unfolding complementing.complementingRefusal complementing.roomRefusal
 complement-fits net out w fits = none-then w (rw (le-ltb (length out) (length (complementing.complementSheet net)) fits) (then-none _))
-
-strip-carried : (o : Option Refusal) (l : ℕ) → emitting.told (emitting.emitted o l) .carried ≡ carried (answer o)
-strip-carried none l = refl
-strip-carried (some r) l = refl
 
 strip-fits : (net : List ℕ) (p : Pair) (out : List ℕ) → wholeNet net ≡ none → StripFits net p out
     → stripping.strippingRefusal net p (length out) ≡ stripRefusal (netOf net) p
@@ -177,7 +173,7 @@ module _ (a b : List ℕ) (one : OneNet a b) where
   pub complements : (out out′ : List ℕ) → Fits a out → Fits b out′
       → OffsetAside (emitting.told (complementing.complementOf a out) .carried) (emitting.told (complementing.complementOf b out′) .carried)
   complements out out′ f f′ =
-      rw (complement-carried (complementing.complementingRefusal a (length out)), complement-carried, complement-fits a out (one .first) f, complement-fits b out′ (one .second) f′, one .net)
+      rw (emitted-carried (complementing.complementingRefusal a (length out)), emitted-carried, complement-fits a out (one .first) f, complement-fits b out′ (one .second) f′, one .net)
       (aside-carried (aside-complement (netOf b) (arcOffset a) (arcOffset b)))
 
   audit-refusals : (m m′ : List ℕ) → Aside (auditing.auditingRefusal a m m′) (auditing.auditingRefusal b m m′)
@@ -227,7 +223,7 @@ module _ (a b : List ℕ) (one : OneNet a b) where
   pub strips : (p : Pair) (out out′ : List ℕ) → StripFits a p out → StripFits b p out′
       → emitting.told (stripping.strippedOf a p out) .carried ≡ emitting.told (stripping.strippedOf b p out′) .carried
   strips p out out′ f f′ =
-      rw (strip-carried (stripping.strippingRefusal a p (length out)), strip-carried, strip-fits a p out (one .first) f, strip-fits b p out′ (one .second) f′, one .net)
+      rw (emitted-carried (stripping.strippingRefusal a p (length out)), emitted-carried, strip-fits a p out (one .first) f, strip-fits b p out′ (one .second) f′, one .net)
 
   stripped-again : (p : Pair) (out out′ : List ℕ) (n n′ : ℕ) → emitting.told (stripping.strippedOf a p out) ≡ yields n
       → emitting.told (stripping.strippedOf b p out′) ≡ yields n′ → OneNet (take n (stripping.outputOf a p out)) (take n′ (stripping.outputOf b p out′))

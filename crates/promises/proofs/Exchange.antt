@@ -18,16 +18,16 @@ use Rattle.model.proofs.First.{left-none, right-none, none-then}
 use Rattle.second_form.proofs.Demand3.{demand3}
 use Rattle.sheets.specs.Whole.{wholeNet}
 use Rattle.sheets.specs.Decoded.{netOf}
+use Rattle.sheets.specs.declared.Emitted.{Emitted}
+use Rattle.sheets.specs.declared.Emitted.the-variants.{Length, Refused}
+use Rattle.sheets.specs.Emitted as emitting
 use Rattle.complement.specs.Complemented as complementing
 use Rattle.pnml.specs.Pnml.{body, pnml, Exportable}
 use Rattle.pnml.specs.Singles.{singles, importedSheet}
 use Rattle.pnml.proofs.ImportRefusal.{too-many, short}
-use Rattle.sheets.specs.declared.Emitted.{Emitted}
 use Rattle.export.specs.Exports.{exportText, roomRefusal, exportRefusal}
-use Rattle.sheets.specs.Emitted.{emitted, output}
 use Rattle.export.specs.Contracts.{ExportPnmlAllows}
 use Rattle.export.proofs.Promises.{exports-exactly, complements-exportable}
-use Rattle.sheets.specs.declared.Emitted.the-variants.{Length, Refused}
 use Rattle.import.specs.Imports as importing
 use Rattle.import.specs.Promises.{Small}
 use Rattle.import.specs.Contracts.{ImportPnmlAllows}
@@ -37,7 +37,6 @@ use Rattle.promises.specs.Exchange.{singleBytes, ComesBack, ImportAnswer
 use Rattle.promises.proofs.Accepting.{yielded}
 use Rattle.promises.proofs.DemandThree.{complementable}
 use Rattle.promises.proofs.TwoRuns.{length-accepted, written}
-use Rattle.sheets.specs.Emitted as emitting
 
 -- an export that answers a length leaves the text of an exportable net
 module _ (net out : List ℕ) (o : Emitted × List ℕ) (n : ℕ) (allows : ExportPnmlAllows net out o) (e : emitting.told (o .0) ≡ yields n) where
@@ -46,14 +45,14 @@ module _ (net out : List ℕ) (o : Emitted × List ℕ) (n : ℕ) (allows : Expo
 
   pub told-length : (exportRefusal net (length out) ≡ none) × (n ≡ length text)
   told-length =
-      yielded (λ r. emitting.told (emitted r (length text))) (length text) refl (λ r. refl) (exportRefusal net (length out)) (sym (ap emitting.told (allows .0)) ∙ e)
+      yielded (λ r. emitting.told (emitting.emitted r (length text))) (length text) refl (λ r. refl) (exportRefusal net (length out)) (sym (ap emitting.told (allows .0)) ∙ e)
 
   pub exportable : Exportable (netOf net)
   unfolding exportRefusal roomRefusal
   exportable = exports-exactly .only net (left-none _ _ (told-length .0)) (left-none _ _ (right-none (wholeNet net) _ (told-length .0)))
 
   pub text-there : take n (o .1) ≡ text
-  text-there = ap (take n) (allows .1 ∙ ap (λ r. output r text out) (told-length .0)) ∙ take-at text (drop (length text) out) n (sym (told-length .1))
+  text-there = ap (take n) (allows .1 ∙ ap (λ r. emitting.output r text out) (told-length .0)) ∙ take-at text (drop (length text) out) n (sym (told-length .1))
 
 -- the sheet of an exportable net is refused for want of room alone
 module _ (net out : List ℕ) (o : Emitted × List ℕ) (allows : ExportPnmlAllows net out o) (whole : wholeNet net ≡ none) (x : Exportable (netOf net)) where
@@ -69,8 +68,8 @@ module _ (net out : List ℕ) (o : Emitted × List ℕ) (allows : ExportPnmlAllo
   exports =
       let text = exportText net in
       record {
-        written = λ h. (ap emitting.told (allows .0 ∙ ap (λ r. emitted r (length text)) (fits h)), allows .1 ∙ ap (λ r. output r text out) (fits h));
-        tooShort = λ h. ap (λ a. emitting.told a .carried) (allows .0 ∙ ap (λ r. emitted r (length text)) (full h));
+        written = λ h. (ap emitting.told (allows .0 ∙ ap (λ r. emitting.emitted r (length text)) (fits h)), allows .1 ∙ ap (λ r. emitting.output r text out) (fits h));
+        tooShort = λ h. ap (λ a. emitting.told a .carried) (allows .0 ∙ ap (λ r. emitting.emitted r (length text)) (full h));
       }
 
 -- what import answers to the export of a net
@@ -100,10 +99,10 @@ module _ (net : PNet) (x : Exportable net) (out : List ℕ) (o : Emitted × List
     too-short : length out < singleBytes net → emitting.told (o .0) .carried ≡ carries 10 0 0
     too-short h =
         ap (λ a. emitting.told a .carried)
-        (answer-is ∙ ap (λ r. emitted r (length (importedSheet net))) (short net (length out) few some-modes (omega (arith, size))))
+        (answer-is ∙ ap (λ r. emitting.emitted r (length (importedSheet net))) (short net (length out) few some-modes (omega (arith, size))))
 
   too-many-told : (64 < pairs net) ⊎ (64 < modes net) → emitting.told (o .0) .carried ≡ carries 4 3 0
-  too-many-told h = ap (λ a. emitting.told a .carried) (answer-is ∙ ap (λ r. emitted r (length (importedSheet net))) (too-many net (length out) h))
+  too-many-told h = ap (λ a. emitting.told a .carried) (answer-is ∙ ap (λ r. emitting.emitted r (length (importedSheet net))) (too-many net (length out) h))
 
   pub imports : ImportAnswers net out o
   imports = record { comesBack = comes-back; tooMany = too-many-told; tooShort = too-short }

@@ -8,10 +8,11 @@ use native.Mathlib.Omega.{arith}
 use Rattle.model.specs.Nets.{PNet}
 use Rattle.both_forms.specs.WorkedExamples.{ownExample}
 use Rattle.sheets.specs.Decoded.{netOf}
+use Rattle.sheets.specs.declared.Emitted.{Emitted}
+use Rattle.sheets.specs.Emitted as emitting
 use Rattle.pnml.specs.Agrees.{Agrees}
 use Rattle.pnml.specs.Pnml.{opening, closing, pnml}
 use Rattle.pnml.proofs.ImportRefusal.{Way, many, full, whole, way}
-use Rattle.sheets.specs.declared.Emitted.{Emitted}
 use Rattle.import.specs.Imports as importing
 use Rattle.import.specs.Contracts.{ImportPnmlAllows}
 use Rattle.import.proofs.Promises.{of-net, answered, between}
@@ -22,7 +23,6 @@ use Rattle.promises.proofs.ConstantAnswers.{accepts-and-refuses}
 use Rattle.promises.proofs.ConstantAnswersForC.{tells}
 use Rattle.promises.proofs.Exchange.{exportable, text-there}
 use Rattle.promises.proofs.OwnExample.{printed-exportable}
-use Rattle.sheets.specs.Emitted as emitting
 
 -- to an export the answer is 4, 10 or a length
 never-20 : (net : PNet) (out : List ℕ) {a : Emitted} → a ≡ importing.importOf net out → Way net (length out) → emitting.told a .carried .number ≢ 20

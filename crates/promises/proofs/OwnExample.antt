@@ -50,6 +50,9 @@ use Rattle.sheets.specs.written.Promises.{ReadBack}
 use Rattle.sheets.specs.written.Written.{bytes16, bytes32, versionBytes, ofMode, sheetOf}
 use Rattle.sheets.proofs.written.RoundTrip.{written-then-read}
 use Rattle.sheets.proofs.written.SheetLength.{section-one, fields-length, sheet-length}
+use Rattle.sheets.specs.declared.Emitted.{Emitted}
+use Rattle.sheets.specs.Emitted.{output}
+use Rattle.sheets.specs.Emitted as emitting
 use Rattle.fire.specs.Calls.{beginRefusal, testRefusal}
 use Rattle.run.specs.declared.Ran.{Ran}
 use Rattle.run.specs.Contracts.{RunAllows}
@@ -69,7 +72,6 @@ use Rattle.complement.specs.Complemented.{roomRefusal, complementingRefusal}
 use Rattle.text.specs.Decimals.{decimalWithin, decimal}
 use Rattle.pnml.specs.Pnml.{opening, closing, three, placeText, transitionText, weightText, preText, postText, arcText, modeText, body, pnml, Exportable}
 use Rattle.pnml.specs.Singles.{singles, importedSheet}
-use Rattle.sheets.specs.declared.Emitted.{Emitted}
 use Rattle.export.specs.Contracts.{ExportPnmlAllows}
 use Rattle.export.proofs.Promises.{complements-exportable}
 use Rattle.import.specs.Promises.{Small}
@@ -83,7 +85,6 @@ use Rattle.damaged.specs.Damaged.{considered}
 use Rattle.run.specs.declared.salvage.Salvaged.{Salvaged}
 use Rattle.run.specs.declared.salvage.Salvaged.the-variants.{Written}
 use Rattle.run.specs.salvage.MovementSheet.{movementSheet}
-use Rattle.sheets.specs.Emitted.{output}
 use Rattle.run.specs.salvage.Salvaged.{sheetOfFirst, reportOf, salvaged, trial, kept, report, freshSheet, salvageRefusal, salvageOf}
 use Rattle.run.specs.salvage.Salvaged as salvaging
 use Rattle.run.specs.salvage.Contracts.{SalvageAllows}
@@ -94,7 +95,6 @@ use Rattle.promises.specs.OwnExample as own
 use Rattle.promises.specs.Exchange.{ExportAnswers}
 use Rattle.statement.specs.Example as sheets
 use Rattle.promises.proofs.Exchange.{exports}
-use Rattle.sheets.specs.Emitted as emitting
 
 start-accepted : markingRefusal example (3 ∷ 0 ∷ []) ≡ none
 unfolding markingRefusal first _▸_

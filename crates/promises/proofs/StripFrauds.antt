@@ -18,10 +18,10 @@ use Rattle.sheets.specs.Decoded.{netOf}
 use Rattle.sheets.proofs.Accepted.{well-formed}
 use Rattle.sheets.proofs.written.NetStands.{transitions-of}
 use Rattle.sheets.proofs.written.RoundTrip.{written-then-read}
+use Rattle.sheets.specs.Emitted.{emitted, told}
 use Rattle.bare.specs.Strip.{boundOf}
 use Rattle.bare.proofs.Arcs.{transitions-many}
 use Rattle.convert.specs.strip.Stripped.{strippedNet, strippedSheet, strippingRefusal, strippedOf, outputOf}
-use Rattle.sheets.specs.Emitted.{emitted, told}
 use Rattle.convert.proofs.strip.Promises.{has-sheet}
 use Rattle.promises.specs.Frauds.{StripFrauds}
 use Rattle.promises.proofs.Accepting.{unrefused}

@@ -10,9 +10,9 @@ use Rattle.model.specs.Replies.{yields}
 use Rattle.model.proofs.First.{left-none, right-none}
 use Rattle.sheets.specs.Whole.{wholeNet}
 use Rattle.sheets.specs.Decoded.{netOf}
+use Rattle.sheets.specs.Emitted.{emitted, told, output}
 use Rattle.bare.specs.Strip.{stripRefusal}
 use Rattle.convert.specs.strip.Stripped.{strippedSheet, roomRefusal, strippingRefusal, strippedOf, outputOf}
-use Rattle.sheets.specs.Emitted.{emitted, told, output}
 use Rattle.convert.specs.strip.Promises.{StripReads}
 use Rattle.convert.proofs.strip.Promises.{stripped-reads}
 use Rattle.promises.proofs.Accepting.{yielded}

@@ -34,6 +34,7 @@ use Rattle.sheets.specs.Decoded.{netOf, movementsOf, weightsOf}
 use Rattle.sheets.proofs.Accepted.{well-formed}
 use Rattle.sheets.specs.written.Written.{sheetOf}
 use Rattle.sheets.specs.written.Promises.{HasSheet}
+use Rattle.sheets.specs.Emitted.{told as answered}
 use Rattle.fire.specs.Calls.{beginRefusal, testRefusal}
 use Rattle.fire.specs.Contracts.{FireAllows}
 use Rattle.run.specs.Calls.{beforeRun, runOf, visitedBy, certifyRefusal}
@@ -52,7 +53,6 @@ use Rattle.bare.proofs.Arcs.{modes-many}
 use Rattle.bare.proofs.OldModes.{each-old, old-modes, no-new-dead}
 use Rattle.bare.proofs.Bare.{bare-after}
 use Rattle.convert.specs.strip.Stripped.{strippedSheet}
-use Rattle.sheets.specs.Emitted.{told as answered}
 use Rattle.convert.proofs.strip.Promises.{has-sheet}
 use Rattle.promises.specs.EqualNets.{Bytes}
 use Rattle.promises.specs.Stripping.{BareCalls, OldCalls, Stripping}

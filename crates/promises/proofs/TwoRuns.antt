@@ -18,10 +18,10 @@ use Rattle.second_form.proofs.ComplementWellFormed.{corresponds-marking}
 use Rattle.second_form.proofs.Demand3.{runs-alike, refusals}
 use Rattle.sheets.specs.Whole.{wholeNet, wholeMovements}
 use Rattle.sheets.specs.Decoded.{netOf, movementsOf}
+use Rattle.sheets.specs.Emitted.{emitted, told}
 use Rattle.fire.specs.Calls.{beginRefusal, begun}
 use Rattle.run.specs.Calls.{runOf, beforeRun}
 use Rattle.complement.specs.Complemented.{complementingRefusal, complementOf}
-use Rattle.sheets.specs.Emitted.{emitted, told}
 use Rattle.promises.specs.DemandThree.{asWritten, WrittenComplement}
 use Rattle.promises.specs.TwoRuns.{RunsAgree, TwoRuns}
 use Rattle.promises.proofs.Accepting.{yielded}

@@ -13,12 +13,12 @@ use Rattle.model.specs.Markings.{markingRefusal}
 use Rattle.second_form.specs.Complement.{Corresponds}
 use Rattle.both_forms.specs.Audit.{marked, takes}
 use Rattle.sheets.specs.Decoded.{netOf}
+use Rattle.sheets.specs.Emitted as emitting
 use Rattle.fire.specs.Calls.{testRefusal, firedBy}
 use Rattle.run.specs.Calls.{runOf}
 use Rattle.complement.specs.Complemented as complementing
 use Rattle.complement.specs.audit.Audits.{told, auditedOf}
 use Rattle.promises.specs.DemandThree.{asWritten}
-use Rattle.sheets.specs.Emitted as emitting
 
 module _ (net complement marking marking′ : List ℕ) where
   pub record AuditsOf : Type 0 where

@@ -11,6 +11,7 @@ use Rattle.model.specs.Refusals.{number}
 use Rattle.sheets.specs.lists.Contracts.{ReadWeightsAllows, ReadMovementsAllows}
 use Rattle.sheets.specs.Contracts.{AfterNetAllows, AfterWeightsAllows, AfterMovementsAllows, WholeNetAllows, WholeWeightsAllows, WholeMovementsAllows}
 use Rattle.sheets.specs.nets.Contracts.{ReadNetAllows}
+use Rattle.sheets.specs.Emitted as emitting
 use Rattle.fire.specs.Contracts.{BeginAllows, TestAllows, FireAllows}
 use Rattle.run.specs.Contracts.{RunAllows, CertifyAllows}
 use Rattle.fire.specs.step.Contracts.{TestStepAllows, FireStepAllows}
@@ -38,7 +39,6 @@ use Rattle.text.specs.declared.Put.the-variants.{To, Full}
 use Rattle.text.specs.Contracts.{PutBytesAllows, PutDecimalAllows, PutSignedAllows}
 use Rattle.statement.specs.Contracts.{StatementAllows}
 use Rattle.answers.specs.Told.{textTold}
-use Rattle.sheets.specs.Emitted as emitting
 
 -- what a call is given, the outcomes that its contract then allows, and the number of an outcome's answer
 module _ {I O : Type 0} (Allows : I → O → Type 0) (number : O → ℕ) where

@@ -10,13 +10,13 @@ use Rattle.model.specs.Replies.{yields}
 use Rattle.model.specs.Markings.{markingRefusal}
 use Rattle.second_form.specs.Complement.{Corresponds}
 use Rattle.sheets.specs.Decoded.{netOf}
+use Rattle.sheets.specs.Emitted.{told}
 use Rattle.fire.specs.Calls.{testRefusal}
 use Rattle.opened.specs.dead.IsDead.{deadnessOf}
 use Rattle.opened.specs.dead.IsDead as one
 use Rattle.opened.specs.dead.FirstDead.{firstDeadOf}
 use Rattle.opened.specs.dead.FirstDead as first
 use Rattle.complement.specs.Complemented.{complementOf}
-use Rattle.sheets.specs.Emitted.{told}
 use Rattle.promises.specs.DemandThree.{asWritten}
 
 pub record DeadBeside (net complement : List ℕ) : Type 0 where

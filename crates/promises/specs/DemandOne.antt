@@ -11,14 +11,14 @@ use Rattle.model.specs.declared.Answer.{Answer}
 use Rattle.model.specs.Refusals.{number}
 use Rattle.movement.specs.Promises.{Leads}
 use Rattle.sheets.specs.Decoded.{netOf, movementsOf}
+use Rattle.sheets.specs.declared.Emitted.{Emitted}
+use Rattle.sheets.specs.Emitted.{told}
 use Rattle.fire.specs.Contracts.{BeginAllows, FireAllows}
 use Rattle.run.specs.declared.Ran.{Ran}
 use Rattle.run.specs.Contracts.{RunAllows}
 use Rattle.fire.specs.step.Contracts.{FireStepAllows}
 use Rattle.ships.specs.declared.Fleet.{Fleet}
 use Rattle.statement.specs.fleet.Contracts.{AddShipAllows}
-use Rattle.sheets.specs.declared.Emitted.{Emitted}
-use Rattle.sheets.specs.Emitted.{told}
 use Rattle.complement.specs.Contracts.{ComplementAllows}
 use Rattle.convert.specs.Contracts.{ToVersion1Allows, ToVersion2Allows}
 use Rattle.convert.specs.strip.Contracts.{StripAllows}
@@ -38,7 +38,6 @@ use Rattle.answers.specs.declared.Counted.{Counted}
 use Rattle.answers.specs.declared.Reported.{Reported}
 use Rattle.answers.specs.declared.Tallied.{Tallied}
 use Rattle.abi.specs.Contracts as forC
-use Rattle.sheets.specs.Emitted as emitting
 
 -- refused: any number but 0
 abbrev pub Refused : Answer → Type 0
@@ -51,11 +50,11 @@ pub record DemandOne : Type 0 where
   -- of a ship the lent record
   pub addShip : (found : Fleet) (net weights movements : List ℕ) (o : Answer × Fleet) → AddShipAllows found net weights movements o → Refused (o .0) → o .1 ≡ found
   pub complement : (net out : List ℕ) (o : Emitted × List ℕ) → ComplementAllows net out o → told (o .0) .carried .number ≢ 0 → o .1 ≡ out
-  pub toVersion2 : (net out : List ℕ) (o : Emitted × List ℕ) → ToVersion2Allows net out o → emitting.told (o .0) .carried .number ≢ 0 → o .1 ≡ out
-  pub toVersion1 : (net out : List ℕ) (o : Emitted × List ℕ) → ToVersion1Allows net out o → emitting.told (o .0) .carried .number ≢ 0 → o .1 ≡ out
-  pub strip : (net : List ℕ) (p : Pair) (out : List ℕ) (o : Emitted × List ℕ) → StripAllows net p out o → emitting.told (o .0) .carried .number ≢ 0 → o .1 ≡ out
-  pub exportPnml : (net out : List ℕ) (o : Emitted × List ℕ) → ExportPnmlAllows net out o → emitting.told (o .0) .carried .number ≢ 0 → o .1 ≡ out
-  pub importPnml : (text out : List ℕ) (o : Emitted × List ℕ) → ImportPnmlAllows text out o → emitting.told (o .0) .carried .number ≢ 0 → o .1 ≡ out
+  pub toVersion2 : (net out : List ℕ) (o : Emitted × List ℕ) → ToVersion2Allows net out o → told (o .0) .carried .number ≢ 0 → o .1 ≡ out
+  pub toVersion1 : (net out : List ℕ) (o : Emitted × List ℕ) → ToVersion1Allows net out o → told (o .0) .carried .number ≢ 0 → o .1 ≡ out
+  pub strip : (net : List ℕ) (p : Pair) (out : List ℕ) (o : Emitted × List ℕ) → StripAllows net p out o → told (o .0) .carried .number ≢ 0 → o .1 ≡ out
+  pub exportPnml : (net out : List ℕ) (o : Emitted × List ℕ) → ExportPnmlAllows net out o → told (o .0) .carried .number ≢ 0 → o .1 ≡ out
+  pub importPnml : (text out : List ℕ) (o : Emitted × List ℕ) → ImportPnmlAllows text out o → told (o .0) .carried .number ≢ 0 → o .1 ≡ out
   pub salvage : (net damaged out : List ℕ) (o : Salvaged × List ℕ) → SalvageAllows net damaged out o → salvaging.told (o .0) .carried .number ≢ 0 → o .1 ≡ out
   -- the exception; with none accepted the marking is as it was
   pub run : (net movements marking : List ℕ) (o : Ran × List ℕ) → RunAllows net movements marking o → Refused (o .0 .answer)

@@ -13,8 +13,8 @@ use Rattle.second_form.specs.DemandThree.{Agreement}
 use Rattle.heads.specs.Version.{versionOf}
 use Rattle.sheets.specs.Whole.{wholeNet}
 use Rattle.sheets.specs.Decoded.{netOf}
-use Rattle.complement.specs.Complemented.{complementingRefusal, complementOf, outputOf}
 use Rattle.sheets.specs.Emitted.{told}
+use Rattle.complement.specs.Complemented.{complementingRefusal, complementOf, outputOf}
 
 module _ (net out : List ℕ) (n : ℕ) where
   -- the complement as written: the first n bytes of the output slice

@@ -15,6 +15,8 @@ use Rattle.sheets.specs.nets.Contracts.{ReadNetAllows}
 use Rattle.sheets.specs.Whole.{wholeNet}
 use Rattle.sheets.specs.Decoded.{netOf}
 use Rattle.sheets.specs.Contracts.{AfterNetAllows, WholeNetAllows}
+use Rattle.sheets.specs.declared.Emitted.{Emitted}
+use Rattle.sheets.specs.Emitted as emitting
 use Rattle.fire.specs.Contracts.{BeginAllows, TestAllows, FireAllows}
 use Rattle.run.specs.Contracts.{RunAllows, CertifyAllows}
 use Rattle.fire.specs.step.Contracts.{TestStepAllows, FireStepAllows}
@@ -24,7 +26,6 @@ use Rattle.statement.specs.fleet.Contracts.{AddShipAllows}
 use Rattle.statement.specs.exclude.Contracts.{ExcludeAllows}
 use Rattle.opened.specs.dead.Contracts.{IsDeadAllows, FirstDeadAllows}
 use Rattle.opened.specs.size.Contracts.{SizeAllows}
-use Rattle.sheets.specs.declared.Emitted.{Emitted}
 use Rattle.complement.specs.Complemented as complementing
 use Rattle.complement.specs.Contracts.{ComplementAllows}
 use Rattle.convert.specs.strip.Stripped as stripping
@@ -35,7 +36,6 @@ use Rattle.complement.specs.audit.Audits as auditing
 use Rattle.complement.specs.audit.Contracts.{AuditAllows}
 use Rattle.run.specs.salvage.Contracts.{SalvageAllows}
 use Rattle.statement.specs.Contracts.{StatementAllows}
-use Rattle.sheets.specs.Emitted as emitting
 
 -- two net sheets that are accepted and mean one net
 pub record OneNet (a b : List ℕ) : Type 0 where

@@ -14,12 +14,12 @@ use Rattle.heads.specs.Version.{versionOf}
 use Rattle.sheets.specs.Whole.{wholeNet}
 use Rattle.sheets.specs.Decoded.{netOf}
 use Rattle.sheets.specs.declared.Emitted.{Emitted}
+use Rattle.sheets.specs.Emitted as emitting
 use Rattle.complement.specs.Contracts.{ComplementAllows}
 use Rattle.pnml.specs.Pnml.{pnml}
 use Rattle.export.specs.Contracts.{ExportPnmlAllows}
 use Rattle.import.specs.Promises.{SameNumbers}
 use Rattle.import.specs.Contracts.{ImportPnmlAllows}
-use Rattle.sheets.specs.Emitted as emitting
 
 -- how many bytes the sheet of version 1 takes, with one colour to a place and one mode to a transition
 abbrev pub singleBytes : PNet → ℕ

@@ -22,6 +22,8 @@ use Rattle.movement.specs.Promises.{Leads}
 use Rattle.both_forms.specs.Visits.{modeArcs}
 use Rattle.movement.specs.Figures.{change}
 use Rattle.sheets.specs.Decoded.{netOf, weightsOf, movementsOf}
+use Rattle.sheets.specs.declared.Emitted.{Emitted}
+use Rattle.sheets.specs.Emitted as emitting
 use Rattle.fire.specs.Contracts.{FireAllows}
 use Rattle.run.specs.declared.Ran.{Ran}
 use Rattle.run.specs.Calls.{beforeRun, runOf}
@@ -33,8 +35,6 @@ use Rattle.ships.specs.Ships.{Ship, accepted}
 use Rattle.statement.specs.fleet.Contracts.{AddShipAllows}
 use Rattle.statement.specs.exclude.Promises.{Excluded}
 use Rattle.statement.specs.exclude.Contracts.{ExcludeAllows}
-use Rattle.sheets.specs.declared.Emitted.{Emitted}
-use Rattle.sheets.specs.Emitted.{told}
 use Rattle.complement.specs.Contracts.{ComplementAllows}
 use Rattle.convert.specs.Contracts.{ToVersion1Allows, ToVersion2Allows}
 use Rattle.convert.specs.strip.Contracts.{StripAllows}
@@ -55,7 +55,6 @@ use Rattle.abi.specs.Contracts as c
 use Rattle.promises.specs.ConstantAnswers.{NotConstant, ConstantAnswers}
 use Rattle.promises.specs.ConstantAnswersForC.{ConstantAnswersForC}
 use Rattle.promises.specs.ConstantAmounts.{ConstantAmounts}
-use Rattle.sheets.specs.Emitted as emitting
 
 -- "A firing that writes nothing breaks demand 2's rule": an accepted firing of a mode that takes from some pair another number than it gives leaves another marking
 abbrev pub WritesNothing : Type 0
@@ -66,7 +65,7 @@ WritesNothing = (net marking : List ℕ) (t : Mode) (p : ℕ) → p < pairs (net
 pub record CopiesNet : Type 0 where
   -- where complementing accepts, the net's own sheet is no output
   pub excluded : (net out : List ℕ) (p k : ℕ) → p < pairs (netOf net) → K (netOf net) p ≡ fin k
-      → (o : Emitted × List ℕ) → ComplementAllows net out o → told (o .0) .carried .number ≡ 0 → take (length net) (o .1) ≢ net
+      → (o : Emitted × List ℕ) → ComplementAllows net out o → emitting.told (o .0) .carried .number ≡ 0 → take (length net) (o .1) ≢ net
   -- no marking of the copy corresponds to one of the net: it has no pair that holds the rest of the capacity
   pub noSum : (net : PNet) (m m′ : List ℕ) → length m′ ≡ pairs net → (p k : ℕ) → p < pairs net → K net p ≡ fin k → ¬ Corresponds net m m′
 

@@ -13,6 +13,8 @@ use Rattle.model.specs.Replies.{yields}
 use Rattle.model.specs.Nets.{PNet, pairNo, modeNo}
 use Rattle.both_forms.specs.WorkedExamples.{ownExample}
 use Rattle.sheets.specs.written.Written.{sheetOf}
+use Rattle.sheets.specs.declared.Emitted.{Emitted}
+use Rattle.sheets.specs.Emitted as emitting
 use Rattle.fire.specs.Contracts.{BeginAllows, TestAllows, FireAllows}
 use Rattle.run.specs.declared.Ran.{Ran}
 use Rattle.run.specs.Contracts.{RunAllows, CertifyAllows}
@@ -32,7 +34,6 @@ use Rattle.opened.specs.dead.Contracts.{IsDeadAllows, FirstDeadAllows}
 use Rattle.opened.specs.declared.size.Measured.{Measured}
 use Rattle.opened.specs.size.Sizes as sizing
 use Rattle.opened.specs.size.Contracts.{SizeAllows}
-use Rattle.sheets.specs.declared.Emitted.{Emitted}
 use Rattle.complement.specs.Contracts.{ComplementAllows}
 use Rattle.pnml.specs.Pnml.{opening, closing}
 use Rattle.export.specs.Contracts.{ExportPnmlAllows}
@@ -46,7 +47,6 @@ use Rattle.run.specs.salvage.Salvaged as salvaging
 use Rattle.run.specs.salvage.Contracts.{SalvageAllows}
 use Rattle.statement.specs.Example.{weights, movements}
 use Rattle.text.specs.Ascii.{ascii}
-use Rattle.sheets.specs.Emitted as emitting
 
 -- "two places, aboard (one colour, K 5, first 3) and ashore (one colour, unbounded, first 0); one transition of one mode; arcs 0,0 with Pre 1, Post 0, I 4
 -- and 0,1 with Pre 0, Post 1, I unbounded"

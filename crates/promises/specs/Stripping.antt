@@ -16,6 +16,8 @@ use Rattle.heads.specs.Version.{versionOf}
 use Rattle.sheets.specs.lists.Weights.{weightsRefusal}
 use Rattle.sheets.specs.Whole.{wholeNet, rest}
 use Rattle.sheets.specs.Decoded.{netOf, movementsOf}
+use Rattle.sheets.specs.declared.Emitted.{Emitted}
+use Rattle.sheets.specs.Emitted.{told}
 use Rattle.fire.specs.Contracts.{BeginAllows, TestAllows, FireAllows}
 use Rattle.run.specs.Contracts.{RunAllows, CertifyAllows}
 use Rattle.damaged.specs.Damaged.{modesIn}
@@ -29,9 +31,7 @@ use Rattle.opened.specs.dead.Contracts.{IsDeadAllows, FirstDeadAllows}
 use Rattle.statement.specs.Contracts.{StatementAllows}
 use Rattle.bare.specs.Strip.{newMode, boundOf}
 use Rattle.bare.specs.Promises.{Old}
-use Rattle.sheets.specs.declared.Emitted.{Emitted}
 use Rattle.convert.specs.strip.Stripped.{strippedNet}
-use Rattle.sheets.specs.Emitted.{told}
 use Rattle.convert.specs.strip.Contracts.{StripAllows}
 use Rattle.promises.specs.EqualNets.{Within, Bytes}
 

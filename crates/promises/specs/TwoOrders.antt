@@ -11,9 +11,9 @@ use Rattle.movement.specs.Runs.{Outcome}
 use Rattle.both_forms.specs.Orders.{Apart, AllApart, Interleaved}
 use Rattle.sheets.specs.Whole.{wholeMovements}
 use Rattle.sheets.specs.Decoded.{netOf, movementsOf}
+use Rattle.sheets.specs.Emitted.{told}
 use Rattle.run.specs.Calls.{runOf}
 use Rattle.complement.specs.Complemented.{complementOf}
-use Rattle.sheets.specs.Emitted.{told}
 use Rattle.promises.specs.DemandThree.{asWritten}
 
 module _ (net marking one other : List ℕ) where

@@ -12,9 +12,9 @@ use Rattle.model.specs.Replies.{yields}
 use Rattle.model.specs.Markings.{markingRefusal}
 use Rattle.second_form.specs.Complement.{Corresponds}
 use Rattle.sheets.specs.Decoded.{netOf}
+use Rattle.sheets.specs.Emitted.{told}
 use Rattle.fire.specs.step.Calls.{testStepRefusal, steppedBy}
 use Rattle.complement.specs.Complemented.{complementOf}
-use Rattle.sheets.specs.Emitted.{told}
 use Rattle.promises.specs.DemandThree.{asWritten}
 
 abbrev pub NoFiniteInhibitor : PNet → Type 0

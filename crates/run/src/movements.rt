@@ -2,7 +2,6 @@
 use crate::Ran;
 use fire::advance::mode_answer;
 use fire::firing::mode::find_refusal;
-use sheets::lists::movements::movement_count;
 use model::Answer;
 use model::Mode;
 use model::Thing;
@@ -13,6 +12,7 @@ use opened::shape::NetShape;
 use opened::starts::arcs_of;
 use opened::starts::starts;
 use progress::count_accepted;
+use sheets::lists::movements::movement_count;
 ghost use mathlib.Core.Path.{_≡_};
 ghost use mathlib.Core.Option.{none};
 ghost use Prim.Native.Nat.{_≤_};

@@ -18,10 +18,10 @@ ghost use mathlib.Core.Path.{_≡_};
 ghost use Prim.Native.Nat.{_≤_};
 ghost use lib.ListN.{length};
 ghost use Rattle.model.specs.First.{_▸_};
+ghost use Rattle.sheets.specs.Emitted.{output};
 ghost use Rattle.opened.specs.Shape.{Open};
 ghost use Rattle.damaged.specs.Damaged.{damagedRefusal, considered};
 ghost use Rattle.damaged.specs.Parts.{Legible};
-ghost use Rattle.sheets.specs.Emitted.{output};
 ghost use Rattle.run.specs.salvage.Salvaged.{sheetOfFirst, reportOf, tooShort, salvaged, kept as keptBy, report, freshSheet};
 ghost use Rattle.run.specs.salvage.Contracts.{SalvageAllows};
 

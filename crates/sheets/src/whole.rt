@@ -1,9 +1,9 @@
 // Bytes after a sheet: refused where a call takes one sheet as an argument, handed back where a reader is called on a run of bytes.
+use crate::lists::movements::read_movements;
+use crate::lists::weights::read_weights;
 use crate::nets::net::read_net;
 use heads::head::refused;
 use heads::head::sheet_end;
-use crate::lists::movements::read_movements;
-use crate::lists::weights::read_weights;
 use model::Answer;
 use model::Fault;
 use model::Thing;

@@ -2,9 +2,9 @@
 use borrow.Author.Needs.{needs}
 use mathlib.Core.Path.{refl}
 use Rattle.model.proofs.First.{none-then, some-then}
+use Rattle.sheets.proofs.Emits.{refused}
 use Rattle.opened.proofs.Opening.{opened-refused, opened-shape, opens}
 use Rattle.complement.specs.Complemented.{complementingRefusal}
-use Rattle.sheets.proofs.Emits.{refused}
 use Rattle.complement.proofs.complement.Statement.{statement}
 use Rattle.complement.proofs.complement.Tie as tie
 

@@ -7,8 +7,8 @@ use Rattle.model.proofs.Refusals.{answer-none, answer-refused}
 use Rattle.complement.specs.Complemented.{complementSheet, roomRefusal}
 use Rattle.opened.proofs.Shapes.{sizes}
 use Rattle.sheets.proofs.written.Puts.{room-as, puts-as}
-use Rattle.complement.proofs.SheetParts.{sheet-is}
 use Rattle.sheets.proofs.Emits.{refused, written}
+use Rattle.complement.proofs.SheetParts.{sheet-is}
 use Rattle.complement.proofs.Answers.{room-enough}
 use Rattle.complement.proofs.complement_open.Statement.{statement}
 use Rattle.complement.proofs.complement_open.Tie as tie

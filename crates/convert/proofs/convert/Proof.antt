@@ -3,9 +3,9 @@ use borrow.Author.Needs.{needs}
 use mathlib.Core.Path.{refl}
 use Rattle.model.proofs.First.{none-then, some-then, left-none}
 use Rattle.sheets.specs.Whole.{wholeNet}
+use Rattle.sheets.proofs.Emits.{refused}
 use Rattle.opened.proofs.Opening.{opened-refused, opened-shape}
 use Rattle.convert.specs.Converted.{convertRefusal}
-use Rattle.sheets.proofs.Emits.{refused}
 use Rattle.convert.proofs.Answers.{read-whole}
 use Rattle.convert.proofs.convert.Statement.{statement}
 use Rattle.convert.proofs.convert.Tie as tie

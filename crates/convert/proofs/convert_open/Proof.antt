@@ -4,10 +4,10 @@ use mathlib.Core.Path.{sym, _∙_}
 use native.Mathlib.Omega.{arith}
 use Rattle.model.proofs.First.{some-then}
 use Rattle.model.proofs.Refusals.{answer-none, answer-refused}
+use Rattle.sheets.proofs.Emits.{refused, written}
 use Rattle.opened.proofs.Shapes.{shaped, sizes}
 use Rattle.convert.specs.Converted.{lostRule, convertedSheet, openRefusal}
 use Rattle.convert.proofs.Parts.{size-is}
-use Rattle.sheets.proofs.Emits.{refused, written}
 use Rattle.convert.proofs.Answers.{short, roomy}
 use Rattle.convert.proofs.convert_open.Statement.{statement}
 use Rattle.convert.proofs.convert_open.Tie as tie

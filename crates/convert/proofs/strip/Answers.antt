@@ -23,12 +23,12 @@ use Rattle.model.proofs.Both.{and-both}
 use Rattle.model.proofs.First.{then-under, left-none, right-none, only-if-none, some-then, none-then}
 use Rattle.fields.specs.Numbers.{bound, unbounded}
 use Rattle.sheets.specs.Decoded.{netOf}
+use Rattle.sheets.specs.declared.Emitted.the-variants.{Refused}
 use Rattle.opened.specs.declared.shape.NetShape.{NetShape}
 use Rattle.opened.specs.Shape.{Open}
 use Rattle.opened.proofs.Shapes.{sizes}
 use Rattle.bare.specs.Strip.{stripLimits, stripRefusal}
 use Rattle.bare.proofs.StripWellFormed.{few, well-formed-strip}
-use Rattle.sheets.specs.declared.Emitted.the-variants.{Refused}
 use Rattle.convert.specs.strip.Stripped.{strippedSheet, tooShort, roomRefusal}
 use Rattle.convert.specs.strip.Parts.{inLimits, Numbers, newSize, sizesRefusal, Strips}
 use Rattle.convert.proofs.strip.Parts.{transitions-are, modes-are, arcs-are, size-is, sheet-is}

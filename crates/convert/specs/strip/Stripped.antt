@@ -16,9 +16,9 @@ use Rattle.heads.specs.Version.{versionOf}
 use Rattle.sheets.specs.Whole.{wholeNet}
 use Rattle.sheets.specs.Decoded.{netOf}
 use Rattle.sheets.specs.written.Written.{sheetOf}
-use Rattle.bare.specs.Strip.{strip, boundOf, stripRefusal}
 use Rattle.sheets.specs.declared.Emitted.{Emitted}
 use Rattle.sheets.specs.Emitted.{emitted, output}
+use Rattle.bare.specs.Strip.{strip, boundOf, stripRefusal}
 
 -- the net that is to be written, and its sheet: "Every other call .. writes the version and rule it was given" (document 02, P9)
 abbrev pub strippedNet : List ℕ → Pair → PNet

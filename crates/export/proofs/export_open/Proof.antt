@@ -4,8 +4,8 @@ use mathlib.Core.Path.{sym, _∙_}
 use lib.ListN.{length}
 use native.Mathlib.Omega.{arith}
 use Rattle.model.proofs.Refusals.{answer-none, answer-refused}
-use Rattle.export.specs.Exports.{exportText, roomRefusal}
 use Rattle.sheets.proofs.Emits.{refused, written}
+use Rattle.export.specs.Exports.{exportText, roomRefusal}
 use Rattle.export.proofs.Answers.{room-enough}
 use Rattle.export.proofs.export_open.Statement.{statement}
 use Rattle.export.proofs.export_open.Tie as tie

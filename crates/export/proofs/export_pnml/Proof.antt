@@ -2,9 +2,9 @@
 use borrow.Author.Needs.{needs}
 use mathlib.Core.Path.{refl}
 use Rattle.model.proofs.First.{none-then, some-then}
+use Rattle.sheets.proofs.Emits.{refused}
 use Rattle.opened.proofs.Opening.{opened-refused, opened-shape, opens}
 use Rattle.export.specs.Exports.{exportRefusal}
-use Rattle.sheets.proofs.Emits.{refused}
 use Rattle.export.proofs.export_pnml.Statement.{statement}
 use Rattle.export.proofs.export_pnml.Tie as tie
 

@@ -11,9 +11,9 @@ use Rattle.model.specs.Nets.{PNet, pairs, modes}
 use Rattle.model.proofs.First.{left-none, below-or}
 use Rattle.sheets.specs.Whole.{wholeNet}
 use Rattle.sheets.specs.Decoded.{netOf}
+use Rattle.sheets.specs.Emitted.{told}
 use Rattle.pnml.specs.Pnml.{Exportable}
 use Rattle.export.specs.Exports.{exportRefusal}
-use Rattle.sheets.specs.Emitted.{told}
 use Rattle.import.specs.Contracts.{ImportPnmlAllows}
 use Rattle.import.specs.Promises.{SameNumbers}
 use Rattle.promises.specs.Exchange.{singleBytes, ComesBack, ImportAnswers}

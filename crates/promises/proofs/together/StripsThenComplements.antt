@@ -18,11 +18,11 @@ use Rattle.model.specs.First.{_▸_}
 use Rattle.model.proofs.First.{left-none, only-if-none}
 use Rattle.second_form.proofs.ComplementNet.{capacity-complement}
 use Rattle.sheets.specs.Decoded.{netOf}
+use Rattle.sheets.specs.Emitted.{told}
 use Rattle.fire.specs.Calls.{testRefusal, firedBy}
 use Rattle.bare.specs.Strip.{newMode, strip, boundOf, stripRefusal}
 use Rattle.bare.proofs.OldModes.{old-modes}
 use Rattle.convert.specs.strip.Stripped.{strippedNet, roomRefusal, strippingRefusal}
-use Rattle.sheets.specs.Emitted.{told}
 use Rattle.promises.specs.Stripping.{BareCalls, StripWritten}
 use Rattle.promises.proofs.Accepting.{number-none}
 use Rattle.promises.proofs.StripWritten.{pair-accepted}

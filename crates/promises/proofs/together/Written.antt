@@ -9,8 +9,8 @@ use Rattle.second_form.specs.Complement.{complement}
 use Rattle.second_form.specs.DemandThree.{Complementable}
 use Rattle.sheets.specs.Whole.{wholeNet}
 use Rattle.sheets.specs.Decoded.{netOf}
-use Rattle.complement.specs.Complemented.{complementOf, complementingRefusal}
 use Rattle.sheets.specs.Emitted.{told}
+use Rattle.complement.specs.Complemented.{complementOf, complementingRefusal}
 use Rattle.run.specs.declared.salvage.Report.{Report}
 use Rattle.run.specs.declared.salvage.Salvaged.{Salvaged}
 use Rattle.run.specs.declared.salvage.Salvaged.the-variants.{Written, Refused}

@@ -11,10 +11,10 @@ use Rattle.model.specs.Numbers.{fin}
 use Rattle.model.specs.Nets.{pairs, K, count}
 use Rattle.second_form.specs.Complement.{complementPair}
 use Rattle.sheets.specs.Decoded.{netOf}
-use Rattle.fire.specs.Contracts.{TestAllows, FireAllows}
-use Rattle.bare.specs.Strip.{newMode}
 use Rattle.sheets.specs.declared.Emitted.{Emitted}
 use Rattle.sheets.specs.Emitted.{told}
+use Rattle.fire.specs.Contracts.{TestAllows, FireAllows}
+use Rattle.bare.specs.Strip.{newMode}
 use Rattle.convert.specs.strip.Contracts.{StripAllows}
 use Rattle.promises.specs.TwoRuns.{RunAlike}
 use Rattle.promises.specs.together.Wrote.{ComplementWrote, StripWrote}

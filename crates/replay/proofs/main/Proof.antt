@@ -1,5 +1,7 @@
--- What the call says that it wrote lies within the slice that it was lent. The lengths of whole arrays compute, and each arm is handed its key.
+-- What the call says that it wrote lies within the slice that it was lent. The lengths of whole arrays are a law: to compute them is to walk 262,144 bytes. Each arm is handed its key.
+use Prim.Native.Nat.{ℕ}
 use mathlib.Core.Path.{refl, sym}
+use lib.ListN.{length-replicate}
 use lib.Seq.{length-take-le}
 use Rattle.statement.proofs.Stating.{written-within}
 use Rattle.replay.proofs.main.Statement.{statement}
@@ -16,11 +18,11 @@ pub main-spec : {M : Type 1} → statement M
 main-spec =
     tie.close
     (tie.spec
-    (λ c. refl)
+    (λ c. sym (length-replicate {A = ℕ} 65537 0))
     (λ c κs. tt)
     (λ c. c .before .read-full .ensures .0)
     (λ c. c .before .before .read-full .ensures .1)
-    (λ c. refl)
+    (λ c. sym (length-replicate {A = ℕ} 262144 0))
     (λ c κs. tt)
     (λ c. c .match .keys1)
     array-share-prefix-out

@@ -21,6 +21,7 @@ use Rattle.sheets.specs.Decoded.{netOf}
 use Rattle.sheets.specs.Listed.{modesFrom}
 use Rattle.sheets.specs.written.Puts.{Puts}
 use Rattle.sheets.proofs.written.Puts.{from-start}
+use Rattle.sheets.specs.Emitted.{output}
 use Rattle.run.specs.declared.Ran.{Ran}
 use Rattle.run.specs.Calls.{ranOf}
 use Rattle.run.specs.Parts.{Reports}
@@ -29,7 +30,6 @@ use Rattle.run.proofs.salvage.Considered.{modes-are, modes-length, firs
 use Rattle.run.specs.declared.salvage.Report.{Report}
 use Rattle.run.specs.declared.salvage.Salvaged.{Salvaged}
 use Rattle.run.specs.declared.salvage.Salvaged.the-variants.{Written, Refused}
-use Rattle.sheets.specs.Emitted.{output}
 use Rattle.run.specs.salvage.Salvaged.{sheetOfFirst, reportOf, tooShort, salvaged, trial, kept, report, freshSheet}
 use Rattle.run.specs.salvage.Parts.{ranOn}
 use Rattle.run.proofs.salvage.MovementSheets.{sheet-length}

@@ -28,6 +28,7 @@ use Rattle.sheets.specs.Decoded.{netOf, movementsOf}
 use Rattle.sheets.specs.Listed.{modeAt, modesFrom}
 use Rattle.sheets.proofs.Listed.{modes-from-length, modes-from-at, movements-are}
 use Rattle.sheets.proofs.written.BigEndian.{every-byte}
+use Rattle.sheets.specs.Emitted.{output}
 use Rattle.fire.proofs.Promises.{start-marks}
 use Rattle.run.specs.Calls.{beforeRun, runOf}
 use Rattle.run.proofs.Promises.{runs-leave}
@@ -36,7 +37,6 @@ use Rattle.run.proofs.salvage.Considered.{modes-are, modes-length, firs
 use Rattle.run.specs.declared.salvage.Report.{Report}
 use Rattle.run.specs.declared.salvage.Salvaged.the-variants.{Written}
 use Rattle.run.specs.salvage.MovementSheet.{movementSheet}
-use Rattle.sheets.specs.Emitted.{output}
 use Rattle.run.specs.salvage.Salvaged.{salvaged, trial, kept, report, freshSheet, salvageRefusal}
 use Rattle.run.specs.salvage.Promises.{AllBytes, ListBack, RunStops, Salvages, SalvagedRuns, WholeComesBack}
 use Rattle.run.proofs.salvage.MovementSheets.{list-written-then-read, list-read-then-written, Listed, listed}

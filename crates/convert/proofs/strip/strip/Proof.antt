@@ -2,9 +2,9 @@
 use borrow.Author.Needs.{needs}
 use mathlib.Core.Path.{refl}
 use Rattle.model.proofs.First.{none-then, some-then}
+use Rattle.sheets.proofs.Emits.{refused}
 use Rattle.opened.proofs.Opening.{opened-refused, opened-shape, opens}
 use Rattle.convert.specs.strip.Stripped.{strippingRefusal}
-use Rattle.sheets.proofs.Emits.{refused}
 use Rattle.convert.proofs.strip.strip.Statement.{statement}
 use Rattle.convert.proofs.strip.strip.Tie as tie
 

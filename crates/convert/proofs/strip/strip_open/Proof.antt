@@ -5,9 +5,9 @@ use lib.ListN.{length}
 use native.Mathlib.Omega.{arith}
 use Rattle.model.proofs.Refusals.{answer-none, answer-refused}
 use Rattle.sheets.proofs.written.Puts.{room-as, puts-as}
+use Rattle.sheets.proofs.Emits.{refused, written}
 use Rattle.convert.specs.strip.Stripped.{strippedSheet, roomRefusal}
 use Rattle.convert.proofs.strip.Parts.{sheet-is}
-use Rattle.sheets.proofs.Emits.{refused, written}
 use Rattle.convert.proofs.strip.Answers.{pair-there, strips, room-enough}
 use Rattle.convert.proofs.strip.strip_open.Statement.{statement}
 use Rattle.convert.proofs.strip.strip_open.Tie as tie
