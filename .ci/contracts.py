@@ -190,7 +190,7 @@ def fields(text, record):
 
 
 def has_number(outcome):
-    return outcome.split(' × ')[0] not in ('List ℕ', 'Put', 'Stated')
+    return outcome.split(' × ')[0] not in ('List ℕ', 'Put')
 
 
 def theorem_fields(crate, name, outcome, unique, constant, tables):

@@ -39,7 +39,7 @@ use Rattle.answers.specs.declared.Named.{Named}
 use Rattle.answers.specs.declared.Sized.{Sized}
 use Rattle.answers.specs.declared.Audited.{Audited}
 use Rattle.answers.specs.declared.Reported.{Reported}
-use Rattle.answers.specs.Told.{answered, counted, weighed, decided, named, sized, audited, reported, textTold}
+use Rattle.answers.specs.Told.{answered, counted, weighed, decided, named, sized, audited, reported}
 use Rattle.abi.specs.Told.{ran, taken}
 
 -- the readers, on a run of bytes
@@ -123,4 +123,4 @@ FleetAddAllows found net weights movements o =
     (o .0 ≡ answered (entered found (ship net weights movements) .answer)) × (o .1 ≡ entered found (ship net weights movements) .fleet)
 
 abbrev pub StatementAllows : List ℕ → List ℕ → Counted × List ℕ → Type 0
-StatementAllows input out o = (o .0 ≡ counted (textTold (stated input out))) × (o .1 ≡ statedIn input out)
+StatementAllows input out o = (o .0 ≡ counted (emitting.told (stated input out))) × (o .1 ≡ statedIn input out)

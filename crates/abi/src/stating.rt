@@ -1,6 +1,6 @@
 // The text of `replay`.
 use answers::Counted;
-use answers::tell_text;
+use answers::tell_emitted;
 use statement::statement;
 ghost use Rattle.abi.specs.Contracts.{StatementAllows};
 
@@ -8,5 +8,5 @@ ghost use Rattle.abi.specs.Contracts.{StatementAllows};
 pub extern "C" fn pnet_statement(input: &[u8], out: &mut [u8]) -> Counted
     ensures { λ r. ⌜ StatementAllows (now (input .entry)) (now (out .entry)) (r, now (out .exit)) ⌝ }
 {
-    tell_text(statement(input, out))
+    tell_emitted(statement(input, out))
 }

@@ -4,19 +4,15 @@ use mathlib.Core.Bool.{Bool, true, false}
 use mathlib.Core.Option.{Option, none, some}
 use lib.IntN.{ℤ, pos}
 use lib.ListN.{length}
-use Rattle.model.specs.declared.Thing.the-variants.{Net}
-use Rattle.model.specs.declared.Fault.the-variants.{NoRoom as NoRoomFor}
 use Rattle.model.specs.declared.Answer.{Answer}
 use Rattle.model.specs.declared.Answer.the-variants.{Accepted}
 use Rattle.model.specs.Refusals.{Carried, carried}
-use Rattle.model.specs.Replies.{Reply, yields, refuses}
+use Rattle.model.specs.Replies.{Reply}
 use Rattle.model.specs.Nets.{pairNo, modeNo}
 use Rattle.second_form.specs.Dead.{DeadMode}
 use Rattle.both_forms.specs.Audit.{Finding}
 use Rattle.run.specs.declared.salvage.Report.{Report}
 use Rattle.opened.specs.declared.size.NetSize.{NetSize}
-use Rattle.statement.specs.declared.Stated.{Stated}
-use Rattle.statement.specs.declared.Stated.the-variants.{Written, NoRoom}
 use Rattle.answers.specs.declared.Answered.{Answered}
 use Rattle.answers.specs.declared.Counted.{Counted}
 use Rattle.answers.specs.declared.Weighed.{Weighed}
@@ -75,8 +71,3 @@ reporting a r = record { answer = a; length = r .length; kept = r .kept; dropped
 
 abbrev pub reported : Reply Report → Reported
 reported r = reporting (telling (r .carried)) (valueOr (record { length = 0; kept = 0; dropped = 0; stop = Accepted }) (r .value))
-
--- the text of `replay`; 10: "or the output slice is shorter than it"
-abbrev pub textTold : Stated → Reply ℕ
-textTold (Written length) = yields length
-textTold NoRoom = refuses (record { thing = Net; fault = NoRoomFor })

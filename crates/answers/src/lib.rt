@@ -1,17 +1,14 @@
 // What a call tells C, as structs by value: document 01's number, thing and position, document 02's amount, and the value, 0 where a refused call has none.
 use complement::audit::Found;
 use model::Answer;
-use model::Fault;
 use model::Mode;
 use model::Pair;
 use model::Refusal;
-use model::Thing;
 use opened::dead::Deadness;
 use opened::dead::FirstDead;
 use opened::size::Measured;
 use run::salvage::Salvaged;
 use sheets::Emitted;
-use statement::Stated;
 use statement::told::line_of;
 use statement::told::thing_of;
 use statement::weigh::Figured;
@@ -26,7 +23,7 @@ ghost use Rattle.opened.specs.dead.IsDead.{told as deadnessTold};
 ghost use Rattle.run.specs.salvage.Salvaged.{told as salvageTold};
 ghost use Rattle.opened.specs.size.Sizes.{told as measuredTold};
 ghost use Rattle.statement.specs.weigh.Calls.{told as figuredTold};
-ghost use Rattle.answers.specs.Told.{answered, counted, textTold, weighed, decided, naming, named, sized, finding, audited, reported};
+ghost use Rattle.answers.specs.Told.{answered, counted, weighed, decided, naming, named, sized, finding, audited, reported};
 
 #[repr(C)]
 pub struct Answered {
@@ -160,19 +157,6 @@ pub fn tell_emitted(emitted: Emitted) -> Counted
     match emitted {
         Emitted::Length(length) => wrote(length),
         Emitted::Refused(refusal) => wrote_nothing(refusal),
-    }
-}
-
-// 10: "or the output slice is shorter than it".
-pub fn tell_text(stated: Stated) -> Counted
-    ensures { λ r. ⌜ r ≡ counted (textTold stated) ⌝ }
-{
-    match stated {
-        Stated::Written(length) => wrote(length),
-        Stated::NoRoom => wrote_nothing(Refusal {
-            thing: Thing::Net,
-            fault: Fault::NoRoom,
-        }),
     }
 }
 

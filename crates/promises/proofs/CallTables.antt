@@ -381,4 +381,5 @@ call-tables =
           (reads-then (reads-then (net-reads net) (room-reads net (length (complementSheet net))))
           (reads-then (one-each-reads (netOf net) marking) (one-each-reads (complement (netOf net)) beside)));
       salvage = salvage-reads;
+      statement = λ room. reads-plain _ (by-less room 262144);
     }

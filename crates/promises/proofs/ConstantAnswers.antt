@@ -61,10 +61,9 @@ use Rattle.text.specs.declared.Put.{Put}
 use Rattle.text.specs.Decimals.{digit, decimal, decimalWithin, signedDecimal}
 use Rattle.text.specs.Puts.{endWithin, putTo}
 use Rattle.text.specs.Contracts.{PutBytesAllows}
-use Rattle.statement.specs.declared.Stated.{Stated}
+use Rattle.sheets.specs.declared.Emitted.{Emitted}
 use Rattle.statement.specs.Replay.{room, stated}
 use Rattle.statement.specs.Contracts.{StatementAllows}
-use Rattle.answers.specs.Told.{textTold}
 use Rattle.promises.specs.OwnExample as own
 use Rattle.statement.specs.Example as sheets
 use Rattle.promises.specs.ConstantAnswers.{Only, Never, NotConstant, Varies, PartVaries, full, ConstantAnswers}
@@ -223,14 +222,14 @@ no-room o a = ap full (a .0)
 slice : (n : ℕ) → (out : List ℕ) × (n ≤ length out)
 slice n = (replicate n 0, omega (arith, length-replicate {A = ℕ} n 0))
 
-module _ (input out : List ℕ) (o : Stated × List ℕ) (allowed : StatementAllows input out o) where
-  text-written : room ≤ length out → textTold (o .0) .carried .number ≡ 0
+module _ (input out : List ℕ) (o : Emitted × List ℕ) (allowed : StatementAllows input out o) where
+  text-written : room ≤ length out → emitting.told (o .0) .carried .number ≡ 0
   unfolding stated
-  text-written h = ap (λ s. textTold s .carried .number) (allowed .0) ∙ rw (le-ltb (length out) room h)
+  text-written h = ap (λ s. emitting.told s .carried .number) (allowed .0) ∙ rw (le-ltb (length out) room h)
 
-  text-refused : length out < room → textTold (o .0) .carried .number ≡ 10
+  text-refused : length out < room → emitting.told (o .0) .carried .number ≡ 10
   unfolding stated
-  text-refused h = ap (λ s. textTold s .carried .number) (allowed .0) ∙ rw (lt-ltb (length out) room h)
+  text-refused h = ap (λ s. emitting.told s .carried .number) (allowed .0) ∙ rw (lt-ltb (length out) room h)
 
 -- document 01's example in version 2 and back, each into a slice that is long enough
 own-source : ofVersion One own.net ≡ none

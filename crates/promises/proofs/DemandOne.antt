@@ -5,7 +5,7 @@ use mathlib.Core.Bool.{Bool, true, false, cond}
 use mathlib.Core.List.{List, [], _++_}
 use mathlib.Core.Logic.{_≢_}
 use mathlib.Core.Option.{Option}
-use lib.Dec.{leb, ltb}
+use lib.Dec.{leb}
 use lib.ListN.{length, take, drop}
 use native.Mathlib.Omega.{arith}
 use Rattle.model.specs.declared.Refusal.{Refusal}
@@ -34,9 +34,7 @@ use Rattle.run.specs.salvage.Salvaged as salvaging
 use Rattle.text.specs.declared.Put.the-variants.{To, Full}
 use Rattle.writes.specs.Writes.{putInto}
 use Rattle.text.specs.Puts.{endWithin, putTo}
-use Rattle.statement.specs.declared.Stated.the-variants.{Written, NoRoom}
-use Rattle.statement.specs.Replay.{room, replayText, stated, statedIn}
-use Rattle.answers.specs.Told.{counted, textTold}
+use Rattle.statement.specs.Replay.{replayText, tooShort, stated, statedIn}
 use Rattle.promises.specs.DemandOne.{Refused, DemandOne, DemandOneForC}
 use Rattle.promises.proofs.Accepting.{left-alone}
 
@@ -63,14 +61,9 @@ put-kept out at bytes e = go (leb (at + length bytes) (length out)) e
     go true e = let z : _≡_ {A = ℕ} 0 1 = cc in absurd (omega arith)
     go false e = refl
 
-text-kept : (input out : List ℕ) → counted (textTold (stated input out)) .answer .number ≢ 0 → statedIn input out ≡ out
+text-kept : (input out : List ℕ) → told (stated input out) .carried .number ≢ 0 → statedIn input out ≡ out
 unfolding stated statedIn
-text-kept input out h = go (ltb (length out) room) h
-  where
-    go : (t : Bool) → counted (textTold (cond t NoRoom (Written (length (replayText input))))) .answer .number ≢ 0
-        → cond t out (replayText input ++ drop (length (replayText input)) out) ≡ out
-    go true h = refl
-    go false h = absurd (h refl)
+text-kept input out = emitted-kept (tooShort (length out)) (replayText input) out
 
 pub stays-is : {net : PNet} {m m′ : List ℕ} → Leads net [] m m′ → m′ ≡ m
 stays-is stays = refl
@@ -104,8 +97,7 @@ demand-one =
       runNone = λ net movements marking o allows e.
           stays-is (rw e at (run-leads net movements marking (ap (λ ran. ran .accepted) (allows .0)) (allows .1)));
       putBytes = λ out at bytes o allows full. allows .1 ∙ put-kept out at bytes (sym (allows .0) ∙ full);
-      statement = λ input out o allows full.
-          allows .1 ∙ text-kept input out (subst (λ s. counted (textTold s) .answer .number ≢ 0) (sym full ∙ allows .0) (λ e. let z : _≡_ {A = ℕ} 0 1 = cc in absurd (omega arith)));
+      statement = λ input out o allows refused. allows .1 ∙ text-kept input out (subst (λ c. told c .carried .number ≢ 0) (allows .0) refused);
     }
 
 pub demand-one-for-c : DemandOneForC

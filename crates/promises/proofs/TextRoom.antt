@@ -6,10 +6,14 @@ use mathlib.Core.Logic.{⊎-elim, _≢_}
 use lib.ListN.{length}
 use native.Mathlib.Omega.{arith}
 use borrow.Author.Tests.{lt-ltb, le-ltb}
+use Rattle.model.specs.declared.Thing.the-variants.{Net}
+use Rattle.model.specs.declared.Fault.the-variants.{NoRoom}
+use Rattle.model.specs.Refusals.{wrong}
 use Rattle.model.proofs.First.{below-or}
-use Rattle.statement.specs.declared.Stated.the-variants.{Written, NoRoom}
+use Rattle.sheets.specs.declared.Emitted.the-variants.{Length, Refused}
+use Rattle.sheets.specs.Emitted.{told}
 use Rattle.statement.specs.Replay.{room, replayText, stated}
-use Rattle.answers.specs.Told.{textTold, counted}
+use Rattle.answers.specs.Told.{counted}
 use Rattle.promises.specs.TextRoom.{ByRoom, TextRoom}
 use Rattle.promises.proofs.TextLength.{text-most}
 
@@ -22,11 +26,11 @@ by-room out apart less more =
     }
 
 module _ (input out : List ℕ) where
-  no-room : length out < room → stated input out ≡ NoRoom
+  no-room : length out < room → stated input out ≡ Refused (wrong Net NoRoom)
   unfolding stated
   no-room l = rw (lt-ltb (length out) room l)
 
-  all-written : room ≤ length out → stated input out ≡ Written (length (replayText input))
+  all-written : room ≤ length out → stated input out ≡ Length (length (replayText input))
   unfolding stated
   all-written l = rw (le-ltb (length out) room l)
 
@@ -35,11 +39,11 @@ text-room =
     record {
       statement = λ input out o a.
           by-room out (λ e. let z : _≡_ {A = ℕ} 10 0 = ap (λ c. c .number) e in absurd (omega arith))
-          (λ l. ap (λ s. textTold s .carried) (a .0 ∙ no-room input out l))
-          (λ l. ap (λ s. textTold s .carried) (a .0 ∙ all-written input out l));
+          (λ l. ap (λ s. told s .carried) (a .0 ∙ no-room input out l))
+          (λ l. ap (λ s. told s .carried) (a .0 ∙ all-written input out l));
       statementForC = λ input out o a.
           by-room out (λ e. absurd (omega arith))
-          (λ l. ap (λ t. t .answer .number) (a .0) ∙ ap (λ s. counted (textTold s) .answer .number) (no-room input out l))
-          (λ l. ap (λ t. t .answer .number) (a .0) ∙ ap (λ s. counted (textTold s) .answer .number) (all-written input out l));
+          (λ l. ap (λ t. t .answer .number) (a .0) ∙ ap (λ s. counted (told s) .answer .number) (no-room input out l))
+          (λ l. ap (λ t. t .answer .number) (a .0) ∙ ap (λ s. counted (told s) .answer .number) (all-written input out l));
       longest = text-most;
     }

@@ -38,7 +38,6 @@ use Rattle.text.specs.declared.Put.{Put}
 use Rattle.text.specs.declared.Put.the-variants.{To, Full}
 use Rattle.text.specs.Contracts.{PutBytesAllows, PutDecimalAllows, PutSignedAllows}
 use Rattle.statement.specs.Contracts.{StatementAllows}
-use Rattle.answers.specs.Told.{textTold}
 
 -- what a call is given, the outcomes that its contract then allows, and the number of an outcome's answer
 module _ {I O : Type 0} (Allows : I → O → Type 0) (number : O → ℕ) where
@@ -103,4 +102,4 @@ pub record ConstantAnswers : Type 0 where
   pub putBytes : Varies (λ (i : List ℕ × ℕ × List ℕ). PutBytesAllows (i .0) (i .1) (i .2)) (λ o. full (o .0))
   pub putDecimal : Varies (λ (i : List ℕ × ℕ × ℕ). PutDecimalAllows (i .0) (i .1) (i .2)) (λ o. full (o .0))
   pub putSigned : Varies (λ (i : List ℕ × ℕ × ℤ). PutSignedAllows (i .0) (i .1) (i .2)) (λ o. full (o .0))
-  pub statement : Varies (λ (i : List ℕ × List ℕ). StatementAllows (i .0) (i .1)) (λ o. textTold (o .0) .carried .number)
+  pub statement : Varies (λ (i : List ℕ × List ℕ). StatementAllows (i .0) (i .1)) (λ o. emitting.told (o .0) .carried .number)

@@ -30,8 +30,6 @@ use Rattle.run.specs.salvage.Contracts.{SalvageAllows}
 use Rattle.text.specs.declared.Put.{Put}
 use Rattle.text.specs.declared.Put.the-variants.{Full}
 use Rattle.text.specs.Contracts.{PutBytesAllows}
-use Rattle.statement.specs.declared.Stated.{Stated}
-use Rattle.statement.specs.declared.Stated.the-variants.{NoRoom}
 use Rattle.statement.specs.Contracts.{StatementAllows}
 use Rattle.answers.specs.declared.Answered.{Answered}
 use Rattle.answers.specs.declared.Counted.{Counted}
@@ -62,7 +60,7 @@ pub record DemandOne : Type 0 where
   pub runNone : (net movements marking : List ℕ) (o : Ran × List ℕ) → RunAllows net movements marking o → o .0 .accepted ≡ 0 → o .1 ≡ marking
   -- put_decimal and put_signed put the bytes of a number, by the same contract
   pub putBytes : (out : List ℕ) (at : ℕ) (bytes : List ℕ) (o : Put × List ℕ) → PutBytesAllows out at bytes o → o .0 ≡ Full → o .1 ≡ out
-  pub statement : (input out : List ℕ) (o : Stated × List ℕ) → StatementAllows input out o → o .0 ≡ NoRoom → o .1 ≡ out
+  pub statement : (input out : List ℕ) (o : Emitted × List ℕ) → StatementAllows input out o → told (o .0) .carried .number ≢ 0 → o .1 ≡ out
 
 -- the same of the calls for C: refused where the number told is not 0
 pub record DemandOneForC : Type 0 where

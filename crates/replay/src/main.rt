@@ -2,7 +2,7 @@
 use libc::STDERR_FILENO;
 use libc::STDIN_FILENO;
 use libc::STDOUT_FILENO;
-use statement::Stated;
+use sheets::Emitted;
 use statement::statement;
 
 fn main() {
@@ -11,7 +11,7 @@ fn main() {
     let mut out = [0u8; 262_144];
     let stated = statement(&input[..read], &mut out);
     let mut whole = false;
-    if let Stated::Written(length) = stated {
+    if let Emitted::Length(length) = stated {
         whole = io::write_all(STDOUT_FILENO, &out[..length]);
     }
     if !whole {

@@ -8,27 +8,30 @@ use lib.ListN.{length, length-append}
 use native.Mathlib.Nat.{zero-add}
 use native.Mathlib.Omega.{arith}
 use borrow.Author.Tests.{lt-ltb, le-ltb}
+use Rattle.model.specs.declared.Thing.the-variants.{Net}
+use Rattle.model.specs.declared.Fault.the-variants.{NoRoom}
+use Rattle.model.specs.Refusals.{wrong}
 use Rattle.writes.specs.Writes.{Writes}
 use Rattle.writes.proofs.Into.{into-within}
-use Rattle.statement.specs.declared.Stated.{Stated}
-use Rattle.statement.specs.declared.Stated.the-variants.{Written, NoRoom}
+use Rattle.sheets.specs.declared.Emitted.{Emitted}
+use Rattle.sheets.specs.declared.Emitted.the-variants.{Length, Refused}
 use Rattle.statement.specs.Contracts.{StatementAllows}
 use Rattle.statement.specs.Replay.{replayText, room, stated, statedIn}
 
-pub too-short : (input out : List ℕ) → length out < room → StatementAllows input out (NoRoom, out)
+pub too-short : (input out : List ℕ) → length out < room → StatementAllows input out (Refused (wrong Net NoRoom), out)
 unfolding stated statedIn
 too-short input out h = rw (lt-ltb (length out) room h) (refl, refl)
 
 pub text-stated : (input : List ℕ) {out now : List ℕ} {end : ℕ} → room ≤ length out → Writes room out 0 (replayText input) end now
-    → StatementAllows input out (Written end, now)
+    → StatementAllows input out (Length end, now)
 unfolding stated statedIn
 text-stated input {out} h p =
     let text = replayText input in
     let e : 0 + length text ≡ length text = zero-add (length text) in
-    rw (le-ltb (length out) room h) (ap Written (p .next ∙ e), p .holds ∙ rw (into-within out 0 text (omega (arith, p .next, p .fits)), e))
+    rw (le-ltb (length out) room h) (ap Length (p .next ∙ e), p .holds ∙ rw (into-within out 0 text (omega (arith, p .next, p .fits)), e))
 
 -- what was written lies within the slice
-pub written-within : (input out : List ℕ) {now : List ℕ} {answer : Stated} {end : ℕ} → StatementAllows input out (answer, now) → answer ≡ Written end → end ≤ length now
+pub written-within : (input out : List ℕ) {now : List ℕ} {answer : Emitted} {end : ℕ} → StatementAllows input out (answer, now) → answer ≡ Length end → end ≤ length now
 unfolding stated statedIn
 written-within input out {now} {answer} {end} allowed e = go (ltb (length out) room) refl
   where

@@ -2,8 +2,8 @@
 use Prim.Native.Nat.{ℕ}
 use mathlib.Core.Path.{_≡_}
 use mathlib.Core.List.{List}
-use Rattle.statement.specs.declared.Stated.{Stated}
+use Rattle.sheets.specs.declared.Emitted.{Emitted}
 use Rattle.statement.specs.Replay.{stated, statedIn}
 
-abbrev pub StatementAllows : List ℕ → List ℕ → Stated × List ℕ → Type 0
+abbrev pub StatementAllows : List ℕ → List ℕ → Emitted × List ℕ → Type 0
 StatementAllows input out o = (o .0 ≡ stated input out) × (o .1 ≡ statedIn input out)

@@ -5,11 +5,13 @@ use mathlib.Core.List.{List, [], _∷_, _++_}
 use mathlib.Core.Option.{Option, none, some}
 use lib.Dec.{ltb}
 use lib.IntN.{ℤ}
-use lib.ListN.{length, drop}
+use lib.ListN.{length}
 use Rattle.model.specs.declared.Mode.{Mode}
-use Rattle.model.specs.declared.Thing.the-variants.{Movements}
+use Rattle.model.specs.declared.Thing.the-variants.{Net, Movements}
+use Rattle.model.specs.declared.Fault.the-variants.{NoRoom}
 use Rattle.model.specs.declared.Refusal.{Refusal}
-use Rattle.model.specs.Refusals.{answer}
+use Rattle.model.specs.First.{onlyIf}
+use Rattle.model.specs.Refusals.{answer, wrong}
 use Rattle.model.specs.Nets.{PNet, pairs}
 use Rattle.model.specs.Firing.{modeRefusal, fired}
 use Rattle.movement.specs.Figures.{figure}
@@ -17,8 +19,8 @@ use Rattle.sheets.specs.nets.Nets.{netRefusal}
 use Rattle.sheets.specs.lists.Weights.{weightsRefusal}
 use Rattle.sheets.specs.Whole.{wholeMovements, rest}
 use Rattle.sheets.specs.Decoded.{netOf, weightsOf, movementsOf}
-use Rattle.statement.specs.declared.Stated.{Stated}
-use Rattle.statement.specs.declared.Stated.the-variants.{Written, NoRoom}
+use Rattle.sheets.specs.declared.Emitted.{Emitted}
+use Rattle.sheets.specs.Emitted.{emitted, output}
 use Rattle.statement.specs.lines.Lines.{startLine, acceptedLine, refusedLine, endLine, badLine, longLine}
 
 -- a text, or what is printed of a refusal in its stead: "A bad sheet prints only `bad`, the thing, the number and the position."
@@ -61,9 +63,12 @@ replayText input = cond (ltb 65536 (length input)) longLine (sheetsText input)
 abbrev pub room : ℕ
 room = 262144
 
--- what it answers, and what it leaves in the slice: the text and the rest as found, or all as found
-unfoldable pub stated : List ℕ → List ℕ → Stated
-stated input out = cond (ltb (length out) room) NoRoom (Written (length (replayText input)))
+-- 10, "or the output slice is shorter than it", whatever the text
+abbrev pub tooShort : ℕ → Option Refusal
+tooShort length = onlyIf (ltb length room) (wrong Net NoRoom)
+
+unfoldable pub stated : List ℕ → List ℕ → Emitted
+stated input out = emitted (tooShort (length out)) (length (replayText input))
 
 unfoldable pub statedIn : List ℕ → List ℕ → List ℕ
-statedIn input out = cond (ltb (length out) room) out (replayText input ++ drop (length (replayText input)) out)
+statedIn input out = output (tooShort (length out)) (replayText input) out

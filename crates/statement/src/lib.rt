@@ -9,17 +9,15 @@ pub mod weigh;
 
 use crate::input::put_sheets;
 use crate::lines::put_long;
+use model::Fault;
+use model::Refusal;
+use model::Thing;
+use sheets::Emitted;
 ghost use Prim.Native.Nat.{_≤_};
 ghost use lib.ListN.{length};
 ghost use Rattle.writes.specs.Writes.{Writes};
 ghost use Rattle.statement.specs.Contracts.{StatementAllows};
 ghost use Rattle.statement.specs.Replay.{replayText, room};
-
-// How many bytes were written, or a slice too short for every text: then none was.
-pub enum Stated {
-    Written(usize),
-    NoRoom,
-}
 
 fn put_text(input: &[u8], out: &mut [u8]) -> usize
     requires { ⌜ room ≤ length (now out) ⌝ }
@@ -31,12 +29,15 @@ fn put_text(input: &[u8], out: &mut [u8]) -> usize
     put_sheets(input, out)
 }
 
-// The text that `replay` prints for this input.
-pub fn statement(input: &[u8], out: &mut [u8]) -> Stated
+// The text that `replay` prints for this input, in a slice that is long enough for every text.
+pub fn statement(input: &[u8], out: &mut [u8]) -> Emitted
     ensures { λ r. ⌜ StatementAllows (now (input .entry)) (now (out .entry)) (r, now (out .exit)) ⌝ }
 {
     if out.len() < 262_144 {
-        return Stated::NoRoom;
+        return Emitted::Refused(Refusal {
+            thing: Thing::Net,
+            fault: Fault::NoRoom,
+        });
     }
-    Stated::Written(put_text(input, out))
+    Emitted::Length(put_text(input, out))
 }
