@@ -27,8 +27,9 @@ use Rattle.complement.specs.sections.Arcs.{clearAt, every}
 use Rattle.complement.proofs.sections.Every.{and-left, and-right, every-each}
 use Rattle.complement.specs.declared.sheet.Sizes.{Sizes}
 use Rattle.complement.specs.ArcRefusals.{inhibitedAt}
-use Rattle.complement.specs.Complemented.{complementSheet, tooShort, roomRefusal}
+use Rattle.complement.specs.Complemented.{complementSheet, roomRefusal}
 use Rattle.sheets.specs.written.Puts.{sheetSize}
+use Rattle.sheets.specs.Emitted.{tooShort}
 use Rattle.complement.specs.Sizes.{sizesOf, SizesWith, inLimits, sizesRefusal, firstOf}
 use Rattle.complement.proofs.SheetParts.{sizes-are, arcs-at-most, size-is, sheet-is}
 
@@ -80,7 +81,7 @@ fits-with net room of most p q h e =
     none-then (ap (λ b. onlyIf (not b) (wrong Net NoRoom)) within) (ap (λ b. onlyIf b (wrong Net NoRoom)) long)
 
 module _ {s : List ℕ} {net : NetShape} (o : Open s net) (room : ℕ) where
-  sizes-refusal : sizesRefusal net (sizesOf (netOf s)) room ≡ onlyIf (not (sheetLimits (netOf s))) (wrong Net NoRoom) ▸ tooShort s room
+  sizes-refusal : sizesRefusal net (sizesOf (netOf s)) room ≡ onlyIf (not (sheetLimits (netOf s))) (wrong Net NoRoom) ▸ tooShort (complementSheet s) room
   unfolding sizesRefusal
   sizes-refusal =
       ap₂ (λ limits size. onlyIf (not limits) (wrong Net NoRoom) ▸ onlyIf (ltb room size) (wrong Net NoRoom)) (limits-are (netOf s)) (size-is o (sizes-are (netOf s)) ∙ ap length (sheet-is o))

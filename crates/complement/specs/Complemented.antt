@@ -3,33 +3,25 @@
 use Prim.Native.Nat.{ℕ}
 use mathlib.Core.List.{List}
 use mathlib.Core.Option.{Option}
-use lib.Dec.{ltb}
 use lib.ListN.{length}
-use Rattle.model.specs.declared.Thing.the-variants.{Net}
-use Rattle.model.specs.declared.Fault.the-variants.{NoRoom}
 use Rattle.model.specs.declared.Refusal.{Refusal}
-use Rattle.model.specs.First.{_▸_, onlyIf}
+use Rattle.model.specs.First.{_▸_}
 use Rattle.second_form.specs.Complement.{complement, complementRefusal}
-use Rattle.model.specs.Refusals.{wrong}
 use Rattle.heads.specs.Version.{versionOf}
 use Rattle.sheets.specs.Whole.{wholeNet}
 use Rattle.sheets.specs.Decoded.{netOf}
 use Rattle.opened.specs.Shape.{arcOffset}
 use Rattle.sheets.specs.written.Written.{sheetOf}
 use Rattle.sheets.specs.declared.Emitted.{Emitted}
-use Rattle.sheets.specs.Emitted.{emitted, output}
+use Rattle.sheets.specs.Emitted.{emitted, output, tooShort}
 
 -- the sheet that is to be written: "Every other call .. writes the version and rule it was given" (document 02, P9)
 abbrev pub complementSheet : List ℕ → List ℕ
 complementSheet net = sheetOf (versionOf net) (complement (netOf net))
 
--- 10: "or the output slice is shorter than it"
-abbrev pub tooShort : List ℕ → ℕ → Option Refusal
-tooShort net room = onlyIf (ltb room (length (complementSheet net))) (wrong Net NoRoom)
-
 -- what is refused of an accepted net, where the output slice has this room
 unfoldable pub roomRefusal : List ℕ → ℕ → Option Refusal
-roomRefusal net room = complementRefusal (arcOffset net) (netOf net) ▸ tooShort net room
+roomRefusal net room = complementRefusal (arcOffset net) (netOf net) ▸ tooShort (complementSheet net) room
 
 unfoldable pub complementingRefusal : List ℕ → ℕ → Option Refusal
 complementingRefusal net room = wholeNet net ▸ roomRefusal net room

@@ -29,7 +29,7 @@ use Rattle.sheets.specs.written.Written.{versionNumber}
 use Rattle.sheets.proofs.written.Versions.{version-is}
 use Rattle.sheets.proofs.written.RoundTrip.{own-sheet}
 use Rattle.sheets.specs.declared.Emitted.the-variants.{Refused}
-use Rattle.convert.specs.Converted.{ofVersion, convertedSheet, lostRule, tooShort, openRefusal}
+use Rattle.convert.specs.Converted.{ofVersion, convertedSheet, lostRule, openRefusal}
 
 module _ (v : Version) (s : List ℕ) where
   -- a sheet of the version that is read, and one of another
@@ -72,9 +72,9 @@ own-rule Two s e = refl
 -- 10 where the rule is kept, and where there is room
 module _ (target : Version) (s : List ℕ) {room : ℕ} where
   pub short : lostRule target (netOf s .rule) ≡ none → room < length (convertedSheet target s) → openRefusal target s room ≡ some (wrong Net NoRoom)
-  unfolding openRefusal tooShort
+  unfolding openRefusal
   short k h = none-then k (rw (lt-ltb room (length (convertedSheet target s)) h) refl)
 
   pub roomy : lostRule target (netOf s .rule) ≡ none → length (convertedSheet target s) ≤ room → openRefusal target s room ≡ none
-  unfolding openRefusal tooShort
+  unfolding openRefusal
   roomy k h = none-then k (rw (le-ltb room (length (convertedSheet target s)) h) refl)

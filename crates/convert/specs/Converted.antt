@@ -5,10 +5,10 @@ use Prim.Native.Nat.{ℕ}
 use mathlib.Core.Bool.{not}
 use mathlib.Core.List.{List}
 use mathlib.Core.Option.{Option, none, some}
-use lib.Dec.{eqb, ltb}
+use lib.Dec.{eqb}
 use lib.ListN.{length}
 use Rattle.model.specs.declared.Thing.the-variants.{Net}
-use Rattle.model.specs.declared.Fault.the-variants.{WrongVersion, NoRoom, RuleLost}
+use Rattle.model.specs.declared.Fault.the-variants.{WrongVersion, RuleLost}
 use Rattle.model.specs.declared.Refusal.{Refusal}
 use Rattle.model.specs.declared.Version.{Version}
 use Rattle.model.specs.declared.Version.the-variants.{One, Two}
@@ -23,7 +23,7 @@ use Rattle.sheets.specs.Whole.{bytesAfter}
 use Rattle.sheets.specs.Decoded.{netOf}
 use Rattle.sheets.specs.written.Written.{versionNumber, sheetOf}
 use Rattle.sheets.specs.declared.Emitted.{Emitted}
-use Rattle.sheets.specs.Emitted.{emitted, output}
+use Rattle.sheets.specs.Emitted.{emitted, output, tooShort}
 
 -- the net's refusals where sheets of one version alone are read: any other version byte is 2, in 2's place ("1, then L = 0, then 2, then the fields")
 unfoldable pub ofVersion : Version → List ℕ → Option Refusal
@@ -40,13 +40,9 @@ lostRule One Strong = none
 lostRule One Weak = some (wrong Net RuleLost)
 lostRule Two rule = none
 
--- "10 to a short output"
-unfoldable pub tooShort : Version → List ℕ → ℕ → Option Refusal
-tooShort target s room = onlyIf (ltb room (length (convertedSheet target s))) (wrong Net NoRoom)
-
--- of a sheet that has been read
+-- of a sheet that has been read: 23, then "10 to a short output"
 unfoldable pub openRefusal : Version → List ℕ → ℕ → Option Refusal
-openRefusal target s room = lostRule target (netOf s .rule) ▸ tooShort target s room
+openRefusal target s room = lostRule target (netOf s .rule) ▸ tooShort (convertedSheet target s) room
 
 unfoldable pub convertRefusal : Version → Version → List ℕ → ℕ → Option Refusal
 convertRefusal source target s room = ofVersion source s ▸ openRefusal target s room

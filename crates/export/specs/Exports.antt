@@ -3,12 +3,11 @@
 use Prim.Native.Nat.{ℕ}
 use mathlib.Core.List.{List}
 use mathlib.Core.Option.{Option}
-use lib.Dec.{ltb}
 use lib.ListN.{length}
 use Rattle.model.specs.declared.Thing.the-variants.{Net}
-use Rattle.model.specs.declared.Fault.the-variants.{NotUnbounded, NoRoom}
+use Rattle.model.specs.declared.Fault.the-variants.{NotUnbounded}
 use Rattle.model.specs.declared.Refusal.{Refusal}
-use Rattle.model.specs.First.{_▸_, onlyIf, lowest}
+use Rattle.model.specs.First.{_▸_, lowest}
 use Rattle.model.specs.Nets.{PNet, pairs, K, arcNo}
 use Rattle.second_form.specs.Complement.{finite}
 use Rattle.model.specs.Refusals.{wrong}
@@ -16,7 +15,7 @@ use Rattle.heads.specs.Layout.{pairsAt, pairAt, capacityAt}
 use Rattle.sheets.specs.Whole.{wholeNet}
 use Rattle.sheets.specs.Decoded.{netOf}
 use Rattle.sheets.specs.declared.Emitted.{Emitted}
-use Rattle.sheets.specs.Emitted.{emitted, output}
+use Rattle.sheets.specs.Emitted.{emitted, output, tooShort}
 use Rattle.opened.specs.Shape.{inhibitorOffset}
 use Rattle.pnml.specs.Pnml.{pnml}
 
@@ -38,13 +37,9 @@ refusal19 net = boundedCapacity (capacityOffset net) (netOf net) ▸ boundedInhi
 abbrev pub exportText : List ℕ → List ℕ
 exportText net = pnml (netOf net)
 
--- "10 for a short output"
-abbrev pub tooShort : List ℕ → ℕ → Option Refusal
-tooShort net room = onlyIf (ltb room (length (exportText net))) (wrong Net NoRoom)
-
 -- what is refused of an accepted net, where the output slice has this room
 unfoldable pub roomRefusal : List ℕ → ℕ → Option Refusal
-roomRefusal net room = refusal19 net ▸ tooShort net room
+roomRefusal net room = refusal19 net ▸ tooShort (exportText net) room
 
 unfoldable pub exportRefusal : List ℕ → ℕ → Option Refusal
 exportRefusal net room = wholeNet net ▸ roomRefusal net room

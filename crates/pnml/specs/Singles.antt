@@ -4,9 +4,9 @@ use mathlib.Core.Bool.{_||_}
 use mathlib.Core.List.{List}
 use mathlib.Core.Option.{Option}
 use lib.Dec.{ltb}
-use lib.ListN.{length, replicate}
-use Rattle.model.specs.declared.Thing.the-variants.{Net, Argument}
-use Rattle.model.specs.declared.Fault.the-variants.{CountOutside, NoRoom}
+use lib.ListN.{replicate}
+use Rattle.model.specs.declared.Thing.the-variants.{Argument}
+use Rattle.model.specs.declared.Fault.the-variants.{CountOutside}
 use Rattle.model.specs.declared.Refusal.{Refusal}
 use Rattle.model.specs.declared.Version.the-variants.{One}
 use Rattle.model.specs.declared.CapacityRule.the-variants.{Strong}
@@ -15,6 +15,7 @@ use Rattle.model.specs.Numbers.{∞}
 use Rattle.model.specs.Nets.{PNet, pairs, modes}
 use Rattle.model.specs.Refusals.{wrong}
 use Rattle.sheets.specs.written.Written.{sheetOf}
+use Rattle.sheets.specs.Emitted.{tooShort}
 
 -- "the same pairs, modes, numbers and first marking, with each pair a place of one colour and each mode a transition of one mode"; the text says no rule, and version 1 has document 01's
 abbrev pub singles : PNet → PNet
@@ -36,8 +37,5 @@ importedSheet net = sheetOf One (singles net)
 abbrev pub tooMany : PNet → Option Refusal
 tooMany net = onlyIf (ltb 64 (pairs net) || ltb 64 (modes net)) (wrong Argument (CountOutside 0))
 
-abbrev pub tooShort : PNet → ℕ → Option Refusal
-tooShort net room = onlyIf (ltb room (length (importedSheet net))) (wrong Net NoRoom)
-
 unfoldable pub importRefusal : PNet → ℕ → Option Refusal
-importRefusal net room = tooMany net ▸ tooShort net room
+importRefusal net room = tooMany net ▸ tooShort (importedSheet net) room

@@ -64,7 +64,7 @@ use Rattle.statement.proofs.fleet.Entering.{by-bounds, by-past}
 use Rattle.statement.specs.exclude.Calls.{excludeRefusal}
 use Rattle.opened.specs.dead.IsDead.{deadRefusal}
 use Rattle.complement.specs.Complemented.{complementSheet, roomRefusal, complementingRefusal}
-use Rattle.convert.specs.Converted.{ofVersion, convertedSheet, lostRule, tooShort, openRefusal, convertRefusal}
+use Rattle.convert.specs.Converted.{ofVersion, convertedSheet, lostRule, openRefusal, convertRefusal}
 use Rattle.bare.specs.Strip.{boundOf, stripRefusal}
 use Rattle.convert.specs.strip.Stripped.{strippedNet, strippedSheet, strippingRefusal}
 use Rattle.convert.specs.strip.Stripped as stripping
@@ -73,7 +73,6 @@ use Rattle.import.proofs.RefusalTable.{import-table}
 use Rattle.complement.specs.audit.Audits.{auditingRefusal}
 use Rattle.promises.specs.CallTables.{bytesLeft, wholeNetTable, wholeWeightTable, wholeMovementTable, markingAfter, movesTable, certificateTable, stepTable, roomTable, convertTable, stripTable, exportTable, RunReads, SalvageReads, CallTables, claimTable, addShipTable}
 use Rattle.damaged.specs.Damaged.{damagedRefusal, modesIn}
-use Rattle.run.specs.salvage.Salvaged as salvaging
 use Rattle.run.specs.salvage.Salvaged.{freshSheet, trial, salvageRefusal}
 
 -- a sheet's table, then left-over bytes
@@ -323,7 +322,7 @@ module _ (source target : Version) (s : List ℕ) (room : ℕ) where
       ∙ sym (two-once _ _ _ (netFields s ▸ bytesAfter Net s) _ _ (wrong Net (WrongVersion 4)) (unknown-other source (version s)))
 
   convert-reads : Reads (convertTable s source target room) (convertRefusal source target s room)
-  unfolding convertRefusal openRefusal tooShort
+  unfolding convertRefusal openRefusal
   convert-reads =
       subst (Reads _) (sym (then-assoc sourceHead _ _) ∙ ap (λ o. o ▸ openRefusal target s room) source-refusal)
       (reads-then source-reads
@@ -331,7 +330,7 @@ module _ (source target : Version) (s : List ℕ) (room : ℕ) where
 
 -- a salvage, and the movement at which it stops
 salvage-reads : (net damaged : List ℕ) → SalvageReads net damaged
-unfolding salvageRefusal damagedRefusal salvaging.tooShort trial
+unfolding salvageRefusal damagedRefusal trial
 salvage-reads net damaged =
     record {
       refusal = λ room.

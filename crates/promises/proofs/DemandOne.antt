@@ -34,7 +34,7 @@ use Rattle.run.specs.salvage.Salvaged as salvaging
 use Rattle.text.specs.declared.Put.the-variants.{To, Full}
 use Rattle.writes.specs.Writes.{putInto}
 use Rattle.text.specs.Puts.{endWithin, putTo}
-use Rattle.statement.specs.Replay.{replayText, tooShort, stated, statedIn}
+use Rattle.statement.specs.Replay.{replayText, statementRefusal, stated, statedIn}
 use Rattle.promises.specs.DemandOne.{Refused, DemandOne, DemandOneForC}
 use Rattle.promises.proofs.Accepting.{left-alone}
 
@@ -63,7 +63,7 @@ put-kept out at bytes e = go (leb (at + length bytes) (length out)) e
 
 text-kept : (input out : List ℕ) → told (stated input out) .carried .number ≢ 0 → statedIn input out ≡ out
 unfolding stated statedIn
-text-kept input out = emitted-kept (tooShort (length out)) (replayText input) out
+text-kept input out = emitted-kept (statementRefusal (length out)) (replayText input) out
 
 pub stays-is : {net : PNet} {m m′ : List ℕ} → Leads net [] m m′ → m′ ≡ m
 stays-is stays = refl

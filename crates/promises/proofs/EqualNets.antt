@@ -47,7 +47,7 @@ use Rattle.export.specs.Exports.{boundedCapacity, boundedInhibitor}
 use Rattle.export.specs.Exports as exporting
 use Rattle.complement.specs.audit.Audits as auditing
 use Rattle.damaged.specs.Damaged.{damagedRefusal, modesIn}
-use Rattle.run.specs.salvage.Salvaged.{sheetOfFirst, reportOf, tooShort, salvaged, trial, salvageRefusal, salvageOf, outputOf}
+use Rattle.run.specs.salvage.Salvaged.{sheetOfFirst, reportOf, salvaged, trial, salvageRefusal, salvageOf, outputOf}
 use Rattle.statement.specs.Replay.{unlessRefused, weightsText, sheetsText, replayText, stated, statedIn}
 use Rattle.promises.specs.DemandThree.{asWritten}
 use Rattle.promises.specs.EqualNets.{OneNet, OffsetAside, RepliesAlike, Fits, StripFits, Bytes, AlikeBefore, Alike, EqualNets}
@@ -155,7 +155,7 @@ module _ (a : List ℕ) (bytes : Bytes a) (w : wholeNet a ≡ none) (more : List
 module _ (a b damaged : List ℕ) (whole : wholeNet a ≡ wholeNet b) (runs : trial a damaged ≡ trial b damaged) where
   salvage-refusals : (room : ℕ) → salvageRefusal a damaged room ≡ salvageRefusal b damaged room
   unfolding salvageRefusal
-  salvage-refusals room = ap₂ (λ w o. w ▸ damagedRefusal damaged ▸ tooShort damaged (o .accepted) room) whole runs
+  salvage-refusals room = ap₂ (λ w o. w ▸ damagedRefusal damaged ▸ emitting.tooShort (sheetOfFirst damaged (o .accepted)) room) whole runs
 
   pub salvage-told : (out : List ℕ) → salvageOf a damaged out ≡ salvageOf b damaged out
   salvage-told out = ap₂ (λ r o. salvaged r (reportOf damaged (o .accepted) (answer (o .refusal)))) (salvage-refusals (length out)) runs

@@ -43,7 +43,7 @@ use Rattle.import.specs.RefusalTable.{ImportTable}
 use Rattle.complement.specs.audit.Audits.{auditingRefusal}
 use Rattle.damaged.specs.Damaged.{modesIn}
 use Rattle.run.specs.salvage.Salvaged.{freshSheet, trial, salvageRefusal}
-use Rattle.statement.specs.Replay.{tooShort}
+use Rattle.statement.specs.Replay.{statementRefusal}
 
 -- "A call that takes one sheet as an argument refuses left-over bytes by 3.": the sheet's own table, then the first byte after it
 abbrev pub bytesLeft : ℕ → List ℕ → Table
@@ -277,4 +277,4 @@ pub record CallTables : Type 0 where
   pub audit : (net marking beside : List ℕ) → Reads (auditTable net marking beside) (auditingRefusal net marking beside)
   pub salvage : (net damaged : List ℕ) → SalvageReads net damaged
   -- 10: "the output slice is shorter than it"; no text is longer (TextRoom)
-  pub statement : (room : ℕ) → Reads (row (room < 262144) (carries 10 0 0)) (tooShort room)
+  pub statement : (room : ℕ) → Reads (row (room < 262144) (carries 10 0 0)) (statementRefusal room)

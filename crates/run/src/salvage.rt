@@ -18,11 +18,11 @@ ghost use mathlib.Core.Path.{_≡_};
 ghost use Prim.Native.Nat.{_≤_};
 ghost use lib.ListN.{length};
 ghost use Rattle.model.specs.First.{_▸_};
-ghost use Rattle.sheets.specs.Emitted.{output};
+ghost use Rattle.sheets.specs.Emitted.{output, tooShort};
 ghost use Rattle.opened.specs.Shape.{Open};
 ghost use Rattle.damaged.specs.Damaged.{damagedRefusal, considered};
 ghost use Rattle.damaged.specs.Parts.{Legible};
-ghost use Rattle.run.specs.salvage.Salvaged.{sheetOfFirst, reportOf, tooShort, salvaged, kept as keptBy, report, freshSheet};
+ghost use Rattle.run.specs.salvage.Salvaged.{sheetOfFirst, reportOf, salvaged, kept as keptBy, report, freshSheet};
 ghost use Rattle.run.specs.salvage.Contracts.{SalvageAllows};
 
 // How long the fresh sheet is, how many movements it keeps, how many more were considered, and the first refusal among these.
@@ -43,8 +43,8 @@ pub enum Salvaged {
 fn write_kept(damaged: &[u8], count: usize, kept: usize, stop: Answer, out: &mut [u8]) -> Salvaged
     requires { ⌜ Legible (now damaged) ⌝ }
     requires { ⌜ (count ≡ considered (now damaged)) × (kept ≤ count) ⌝ }
-    ensures { λ r. ⌜ r ≡ salvaged (tooShort (now (damaged .entry)) kept (length (now (out .entry)))) (reportOf (now (damaged .entry)) kept stop) ⌝ }
-    ensures { λ _. ⌜ now (out .exit) ≡ output (tooShort (now (damaged .entry)) kept (length (now (out .entry)))) (sheetOfFirst (now (damaged .entry)) kept) (now (out .entry)) ⌝ }
+    ensures { λ r. ⌜ r ≡ salvaged (tooShort (sheetOfFirst (now (damaged .entry)) kept) (length (now (out .entry)))) (reportOf (now (damaged .entry)) kept stop) ⌝ }
+    ensures { λ _. ⌜ now (out .exit) ≡ output (tooShort (sheetOfFirst (now (damaged .entry)) kept) (length (now (out .entry)))) (sheetOfFirst (now (damaged .entry)) kept) (now (out .entry)) ⌝ }
 {
     if out.len() < 5 + 2 * kept {
         return Salvaged::Refused(Refusal {
@@ -63,8 +63,8 @@ fn write_kept(damaged: &[u8], count: usize, kept: usize, stop: Answer, out: &mut
 
 fn salvage_open(s: &[u8], net: NetShape, damaged: &[u8], out: &mut [u8]) -> Salvaged
     requires { ⌜ Open (now s) net ⌝ }
-    ensures { λ r. ⌜ r ≡ salvaged (damagedRefusal (now (damaged .entry)) ▸ tooShort (now (damaged .entry)) (keptBy (now (s .entry)) (now (damaged .entry))) (length (now (out .entry)))) (report (now (s .entry)) (now (damaged .entry))) ⌝ }
-    ensures { λ _. ⌜ now (out .exit) ≡ output (damagedRefusal (now (damaged .entry)) ▸ tooShort (now (damaged .entry)) (keptBy (now (s .entry)) (now (damaged .entry))) (length (now (out .entry)))) (freshSheet (now (s .entry)) (now (damaged .entry))) (now (out .entry)) ⌝ }
+    ensures { λ r. ⌜ r ≡ salvaged (damagedRefusal (now (damaged .entry)) ▸ tooShort (freshSheet (now (s .entry)) (now (damaged .entry))) (length (now (out .entry)))) (report (now (s .entry)) (now (damaged .entry))) ⌝ }
+    ensures { λ _. ⌜ now (out .exit) ≡ output (damagedRefusal (now (damaged .entry)) ▸ tooShort (freshSheet (now (s .entry)) (now (damaged .entry))) (length (now (out .entry)))) (freshSheet (now (s .entry)) (now (damaged .entry))) (now (out .entry)) ⌝ }
 {
     let answer = read_damaged(damaged);
     if let Answer::Refused(refusal) = answer {

@@ -2,11 +2,20 @@
 use Prim.Native.Nat.{ℕ}
 use mathlib.Core.List.{List, _++_}
 use mathlib.Core.Option.{Option, none, some}
+use lib.Dec.{ltb}
 use lib.ListN.{length, drop}
+use Rattle.model.specs.declared.Thing.the-variants.{Net}
+use Rattle.model.specs.declared.Fault.the-variants.{NoRoom}
 use Rattle.model.specs.declared.Refusal.{Refusal}
+use Rattle.model.specs.First.{onlyIf}
+use Rattle.model.specs.Refusals.{wrong}
 use Rattle.model.specs.Replies.{Reply, yields, refuses}
 use Rattle.sheets.specs.declared.Emitted.{Emitted}
 use Rattle.sheets.specs.declared.Emitted.the-variants.{Length, Refused}
+
+-- 10: "or the output slice is shorter than it"
+abbrev pub tooShort : List ℕ → ℕ → Option Refusal
+tooShort bytes room = onlyIf (ltb room (length bytes)) (wrong Net NoRoom)
 
 -- the first refusal, if there is one, or the length written
 abbrev pub emitted : Option Refusal → ℕ → Emitted

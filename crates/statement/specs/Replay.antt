@@ -64,11 +64,11 @@ abbrev pub room : ℕ
 room = 262144
 
 -- 10, "or the output slice is shorter than it", whatever the text
-abbrev pub tooShort : ℕ → Option Refusal
-tooShort length = onlyIf (ltb length room) (wrong Net NoRoom)
+abbrev pub statementRefusal : ℕ → Option Refusal
+statementRefusal length = onlyIf (ltb length room) (wrong Net NoRoom)
 
 unfoldable pub stated : List ℕ → List ℕ → Emitted
-stated input out = emitted (tooShort (length out)) (length (replayText input))
+stated input out = emitted (statementRefusal (length out)) (length (replayText input))
 
 unfoldable pub statedIn : List ℕ → List ℕ → List ℕ
-statedIn input out = output (tooShort (length out)) (replayText input) out
+statedIn input out = output (statementRefusal (length out)) (replayText input) out

@@ -24,12 +24,13 @@ use Rattle.model.proofs.First.{then-under, left-none, right-none, only-if-none,
 use Rattle.fields.specs.Numbers.{bound, unbounded}
 use Rattle.sheets.specs.Decoded.{netOf}
 use Rattle.sheets.specs.declared.Emitted.the-variants.{Refused}
+use Rattle.sheets.specs.Emitted.{tooShort}
 use Rattle.opened.specs.declared.shape.NetShape.{NetShape}
 use Rattle.opened.specs.Shape.{Open}
 use Rattle.opened.proofs.Shapes.{sizes}
 use Rattle.bare.specs.Strip.{stripLimits, stripRefusal}
 use Rattle.bare.proofs.StripWellFormed.{few, well-formed-strip}
-use Rattle.convert.specs.strip.Stripped.{strippedSheet, tooShort, roomRefusal}
+use Rattle.convert.specs.strip.Stripped.{strippedSheet, roomRefusal}
 use Rattle.convert.specs.strip.Parts.{inLimits, Numbers, newSize, sizesRefusal, Strips}
 use Rattle.convert.proofs.strip.Parts.{transitions-are, modes-are, arcs-are, size-is, sheet-is}
 
@@ -62,7 +63,7 @@ module _ {s : List ℕ} {net : NetShape} (o : Open s net) (p : Pair) where
 
   -- 10 by the shape's numbers
   sizes-refusal : (k room : ℕ) → p .0 < pairs (netOf s) → K (netOf s) (p .0) ≡ fin k
-      → sizesRefusal net k room ≡ onlyIf (not (stripLimits (netOf s) p k)) (wrong Net NoRoom) ▸ tooShort s p room
+      → sizesRefusal net k room ≡ onlyIf (not (stripLimits (netOf s) p k)) (wrong Net NoRoom) ▸ tooShort (strippedSheet s p) room
   unfolding sizesRefusal
   sizes-refusal k room there e =
       ap (λ b. onlyIf (not b) (wrong Net NoRoom) ▸ onlyIf (ltb room (newSize net k)) (wrong Net NoRoom)) (limits-are k)
@@ -91,7 +92,7 @@ module _ {s : List ℕ} {net : NetShape} (o : Open s net) (p : Pair) where
           let inside : p .0 < pairs (netOf s) = omega (arith, sizes o .pairs) in
           let limits : Option Refusal = onlyIf (not (stripLimits (netOf s) p x)) (wrong Net NoRoom) in
           let first : stripRefusal (netOf s) p ≡ limits = none-then (rw (lt-leb (pairs (netOf s)) (p .0) inside) refl) (none-then (rw h refl) (rw k refl)) in
-          g ∙ ap answer (sizes-refusal x room inside k ∙ sym (ap (λ r. r ▸ tooShort s p room) first))
+          g ∙ ap answer (sizes-refusal x room inside k ∙ sym (ap (λ r. r ▸ tooShort (strippedSheet s p) room) first))
 
   -- what is known where nothing is refused
   module _ (room : ℕ) (e : roomRefusal s p room ≡ none) where

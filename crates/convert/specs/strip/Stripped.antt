@@ -3,21 +3,17 @@
 use Prim.Native.Nat.{ℕ}
 use mathlib.Core.List.{List}
 use mathlib.Core.Option.{Option}
-use lib.Dec.{ltb}
 use lib.ListN.{length}
 use Rattle.model.specs.declared.Pair.{Pair}
-use Rattle.model.specs.declared.Thing.the-variants.{Net}
-use Rattle.model.specs.declared.Fault.the-variants.{NoRoom}
 use Rattle.model.specs.declared.Refusal.{Refusal}
-use Rattle.model.specs.First.{_▸_, onlyIf}
+use Rattle.model.specs.First.{_▸_}
 use Rattle.model.specs.Nets.{PNet, K}
-use Rattle.model.specs.Refusals.{wrong}
 use Rattle.heads.specs.Version.{versionOf}
 use Rattle.sheets.specs.Whole.{wholeNet}
 use Rattle.sheets.specs.Decoded.{netOf}
 use Rattle.sheets.specs.written.Written.{sheetOf}
 use Rattle.sheets.specs.declared.Emitted.{Emitted}
-use Rattle.sheets.specs.Emitted.{emitted, output}
+use Rattle.sheets.specs.Emitted.{emitted, output, tooShort}
 use Rattle.bare.specs.Strip.{strip, boundOf, stripRefusal}
 
 -- the net that is to be written, and its sheet: "Every other call .. writes the version and rule it was given" (document 02, P9)
@@ -27,13 +23,9 @@ strippedNet net p = strip (netOf net) p (boundOf (K (netOf net) (p .0)))
 abbrev pub strippedSheet : List ℕ → Pair → List ℕ
 strippedSheet net p = sheetOf (versionOf net) (strippedNet net p)
 
--- 10: "or the output is short"
-abbrev pub tooShort : List ℕ → Pair → ℕ → Option Refusal
-tooShort net p room = onlyIf (ltb room (length (strippedSheet net p))) (wrong Net NoRoom)
-
 -- what is refused of an accepted net, where the output slice has this room
 unfoldable pub roomRefusal : List ℕ → Pair → ℕ → Option Refusal
-roomRefusal net p room = stripRefusal (netOf net) p ▸ tooShort net p room
+roomRefusal net p room = stripRefusal (netOf net) p ▸ tooShort (strippedSheet net p) room
 
 unfoldable pub strippingRefusal : List ℕ → Pair → ℕ → Option Refusal
 strippingRefusal net p room = wholeNet net ▸ roomRefusal net p room

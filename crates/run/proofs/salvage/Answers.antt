@@ -21,7 +21,7 @@ use Rattle.sheets.specs.Decoded.{netOf}
 use Rattle.sheets.specs.Listed.{modesFrom}
 use Rattle.sheets.specs.written.Puts.{Puts}
 use Rattle.sheets.proofs.written.Puts.{from-start}
-use Rattle.sheets.specs.Emitted.{output}
+use Rattle.sheets.specs.Emitted.{output, tooShort}
 use Rattle.run.specs.declared.Ran.{Ran}
 use Rattle.run.specs.Calls.{ranOf}
 use Rattle.run.specs.Parts.{Reports}
@@ -30,7 +30,7 @@ use Rattle.run.proofs.salvage.Considered.{modes-are, modes-length, firs
 use Rattle.run.specs.declared.salvage.Report.{Report}
 use Rattle.run.specs.declared.salvage.Salvaged.{Salvaged}
 use Rattle.run.specs.declared.salvage.Salvaged.the-variants.{Written, Refused}
-use Rattle.run.specs.salvage.Salvaged.{sheetOfFirst, reportOf, tooShort, salvaged, trial, kept, report, freshSheet}
+use Rattle.run.specs.salvage.Salvaged.{sheetOfFirst, reportOf, salvaged, trial, kept, report, freshSheet}
 use Rattle.run.specs.salvage.Parts.{ranOn}
 use Rattle.run.proofs.salvage.MovementSheets.{sheet-length}
 
@@ -54,12 +54,10 @@ module _ (s : List ℕ) (k : ℕ) (h : k ≤ considered s) where
   pub first-length : length (sheetOfFirst s k) ≡ 5 + 2 * k
   first-length = omega (arith, sheet-length (take k (modesIn s)), first-long s k h)
 
-  pub short : {room : ℕ} → room < 5 + 2 * k → tooShort s k room ≡ some (wrong Net NoRoom)
-  unfolding tooShort
+  pub short : {room : ℕ} → room < 5 + 2 * k → tooShort (sheetOfFirst s k) room ≡ some (wrong Net NoRoom)
   short {room} l = rw (lt-ltb room (length (sheetOfFirst s k)) (omega (arith, first-length))) refl
 
-  pub roomy : {room : ℕ} → 5 + 2 * k ≤ room → tooShort s k room ≡ none
-  unfolding tooShort
+  pub roomy : {room : ℕ} → 5 + 2 * k ≤ room → tooShort (sheetOfFirst s k) room ≡ none
   roomy {room} l = rw (le-ltb room (length (sheetOfFirst s k)) (omega (arith, first-length))) refl
 
 -- a refusal, with nothing written, and a sheet from the first byte on with its report
@@ -76,15 +74,15 @@ written {after = after} s k stop e q h p =
 
 -- bytes that are not refused, and a run that told this
 pub goes-on : (net s out : List ℕ) {left : List ℕ} {ran : Ran} {x : Salvaged} → damagedRefusal s ≡ none → ran ≡ ranOn net s
-    → (x ≡ salvaged (tooShort s (ran .accepted) (length out)) (reportOf s (ran .accepted) (ran .answer)))
-    × (left ≡ output (tooShort s (ran .accepted) (length out)) (sheetOfFirst s (ran .accepted)) out)
-    → (x ≡ salvaged (damagedRefusal s ▸ tooShort s (kept net s) (length out)) (report net s))
-    × (left ≡ output (damagedRefusal s ▸ tooShort s (kept net s) (length out)) (freshSheet net s) out)
+    → (x ≡ salvaged (tooShort (sheetOfFirst s (ran .accepted)) (length out)) (reportOf s (ran .accepted) (ran .answer)))
+    × (left ≡ output (tooShort (sheetOfFirst s (ran .accepted)) (length out)) (sheetOfFirst s (ran .accepted)) out)
+    → (x ≡ salvaged (damagedRefusal s ▸ tooShort (freshSheet net s) (length out)) (report net s))
+    × (left ≡ output (damagedRefusal s ▸ tooShort (freshSheet net s) (length out)) (freshSheet net s) out)
 goes-on net s out {left} {ran} {x} e is h =
     let Allows : Ran → Type 0 =
     λ ran.
-    (x ≡ salvaged (tooShort s (ran .accepted) (length out)) (reportOf s (ran .accepted) (ran .answer)))
-    × (left ≡ output (tooShort s (ran .accepted) (length out)) (sheetOfFirst s (ran .accepted)) out)
+    (x ≡ salvaged (tooShort (sheetOfFirst s (ran .accepted)) (length out)) (reportOf s (ran .accepted) (ran .answer)))
+    × (left ≡ output (tooShort (sheetOfFirst s (ran .accepted)) (length out)) (sheetOfFirst s (ran .accepted)) out)
     in
-    let last : damagedRefusal s ▸ tooShort s (kept net s) (length out) ≡ tooShort s (kept net s) (length out) = none-then e refl in
+    let last : damagedRefusal s ▸ tooShort (freshSheet net s) (length out) ≡ tooShort (freshSheet net s) (length out) = none-then e refl in
     rw last (subst Allows is h)

@@ -3,19 +3,16 @@
 use Prim.Native.Nat.{ℕ, _-_}
 use mathlib.Core.List.{List}
 use mathlib.Core.Option.{Option, none, some}
-use lib.Dec.{ltb}
 use lib.ListN.{length, take}
-use Rattle.model.specs.declared.Thing.the-variants.{Net}
-use Rattle.model.specs.declared.Fault.the-variants.{NoRoom}
 use Rattle.model.specs.declared.Refusal.{Refusal}
 use Rattle.model.specs.declared.Answer.{Answer}
-use Rattle.model.specs.First.{_▸_, onlyIf}
-use Rattle.model.specs.Refusals.{answer, wrong}
+use Rattle.model.specs.First.{_▸_}
+use Rattle.model.specs.Refusals.{answer}
 use Rattle.model.specs.Replies.{Reply, yields, refuses}
 use Rattle.movement.specs.Runs.{Outcome, run}
 use Rattle.sheets.specs.Whole.{wholeNet}
 use Rattle.sheets.specs.Decoded.{netOf}
-use Rattle.sheets.specs.Emitted.{output}
+use Rattle.sheets.specs.Emitted.{output, tooShort}
 use Rattle.damaged.specs.Damaged.{damagedRefusal, considered, modesIn}
 use Rattle.run.specs.declared.salvage.Report.{Report}
 use Rattle.run.specs.declared.salvage.Salvaged.{Salvaged}
@@ -29,10 +26,6 @@ sheetOfFirst s k = movementSheet (take k (modesIn s))
 -- what is told where k of them are kept: "movements kept, movements considered but dropped, and the first refusal's number and position, 0 and 0 if none"
 abbrev pub reportOf : List ℕ → ℕ → Answer → Report
 reportOf s k stop = record { length = length (sheetOfFirst s k); kept = k; dropped = considered s - k; stop = stop }
-
--- "10 for a short output"
-unfoldable pub tooShort : List ℕ → ℕ → ℕ → Option Refusal
-tooShort s k room = onlyIf (ltb room (length (sheetOfFirst s k))) (wrong Net NoRoom)
 
 -- the first refusal, if there is one, or the report
 abbrev pub salvaged : Option Refusal → Report → Salvaged
@@ -59,7 +52,7 @@ module _ (net damaged : List ℕ) where
   freshSheet = sheetOfFirst damaged kept
 
   unfoldable pub salvageRefusal : ℕ → Option Refusal
-  salvageRefusal room = wholeNet net ▸ damagedRefusal damaged ▸ tooShort damaged kept room
+  salvageRefusal room = wholeNet net ▸ damagedRefusal damaged ▸ tooShort freshSheet room
 
   module _ (out : List ℕ) where
     abbrev pub salvageOf : Salvaged
