@@ -1,10 +1,14 @@
 -- One ship into the record: the chain of its refusals, and what 25 leaves of a record.
-use Prim.Native.Nat.{ℕ, _+_, _≤_, _<_}
-use mathlib.Core.Path.{_≡_, refl, sym, _∙_, ap}
+use Prim.Native.Nat.{ℕ, _+_, _≤_, _<_, _^_}
+use mathlib.Core.Path.{_≡_, refl, sym, _∙_, ap, ap₂}
 use mathlib.Core.Bool.{Bool, true, false, cond, false≢true, true≢false, _||_}
 use mathlib.Core.Option.{Option, none, some}
 use lib.Dec.{ltb, eqb}
 use lib.IntN.{ℤ, pos, negsuc, natAbs, _+ℤ_}
+use lib.Signed.{mag}
+use mir.Syntax.{w64}
+use mir.Val.{toZ, ofZ, hbits}
+use mir.Facts.{toZ-ofZ}
 use native.Mathlib.Omega.{arith}
 use borrow.Author.Tests.{ltb-true, ltb-false, lt-ltb, le-ltb}
 use Rattle.model.specs.declared.Thing.the-variants.{Net, Argument}
@@ -114,6 +118,10 @@ module _ (f : Fleet) where
   pub room-passes : f .ships + 1 ≤ 1000 → roomRefusal f ≡ none
   unfolding roomRefusal
   room-passes h = rw (le-ltb 1000 (f .ships + 1) h)
+
+-- a sum of two figures that are read, as it is read
+pub read-sum : (a b r : ℤ) → mag a < 2 ^ hbits w64 → mag b < 2 ^ hbits w64 → mag r < 2 ^ hbits w64 → r ≡ toZ w64 (ofZ w64 a) +ℤ toZ w64 (ofZ w64 b) → toZ w64 (ofZ w64 r) ≡ a +ℤ b
+read-sum a b r p q fits e = toZ-ofZ {w = w64} {z = r} (record { sfits = fits }) ∙ e ∙ ap₂ _+ℤ_ (toZ-ofZ {w = w64} {z = a} (record { sfits = p })) (toZ-ofZ {w = w64} {z = b} (record { sfits = q }))
 
 -- nine sums, each made apart, are the record with one ship more
 pub summed : (f : Fleet) (v : Voyage) {n by6 by11 by12 by13 by14 : ℕ} {added removed : ℤ} → n ≡ number (v .answer)
