@@ -1,5 +1,4 @@
 -- Refused by the sums, and nothing is written; or the members have fired at once.
-use borrow.Author.Needs.{needs}
 use mathlib.Core.Path.{refl, sym, _∙_, ap}
 use native.Mathlib.Omega.{arith}
 use Rattle.model.specs.Refusals.{answer}
@@ -48,10 +47,10 @@ fire-members-spec =
     (tie.spec
     sum-members-requires
     find-refusal-requires
-    (λ c. search needs)
-    (λ c. search needs)
+    (λ c. c .match .keys1)
+    (λ c. refl)
     returns
-    (λ c. search needs)
+    (λ c. c .match .keys2)
     write-pairs-requires
-    (λ c. search needs)
+    (λ c. c .before .before .write-pairs .kept .1 .1 .1 .1 .1 .0)
     returns-2)
