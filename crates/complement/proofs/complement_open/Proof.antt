@@ -63,8 +63,8 @@ complement-open-spec =
     (λ c. omega (arith, sizes (c .before .before .before .before .before .before .before .before .before .pre) .arcs, sizes (c .before .before .before .before .before .before .before .before .before .pre) .arcsWithin))
     complement-sizes-requires
     complement-answer-requires
-    (λ c. search needs)
-    (λ c. search needs)
+    (λ c. c .match .keys1)
+    (λ c. c .match .keys2)
     put-sheet-requires
     returns
     (λ c. search needs)

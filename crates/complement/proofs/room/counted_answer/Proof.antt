@@ -44,9 +44,9 @@ counted-answer-spec =
     tie.close
     (tie.spec
     room-answer-requires
-    (λ c. search needs)
+    (λ c. c .match .keys1)
     returns
-    (λ c. search needs)
+    (λ c. c .match .keys2)
     (λ c κs. search needs)
     room-answer-requires-2
     returns-2)

@@ -46,4 +46,4 @@ returns-4 c =
 
 pub count-ship-spec : {M : Type 1} → statement M
 count-ship-spec =
-    tie.close (tie.spec (λ c κs. search needs) returns add-if2 returns-2 (λ c κs. search needs) (λ c. search needs) (λ c. search needs) count-open-requires returns-3 returns-4)
+    tie.close (tie.spec (λ c κs. search needs) returns add-if2 returns-2 (λ c κs. search needs) (λ c. c .match .keys1) (λ c. c .match .keys2) count-open-requires returns-3 returns-4)

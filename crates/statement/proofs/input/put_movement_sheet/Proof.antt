@@ -45,11 +45,11 @@ put-movement-sheet-spec =
     tie.close
     (tie.spec
     (λ c κs. search needs)
-    (λ c. search needs)
+    (λ c. c .match .keys1)
     (λ c κs. search needs)
     (λ c. search needs)
     returns
-    (λ c. search needs)
+    (λ c. c .match .keys2)
     array-borrow-prefix-counts
     slice-aggregate-put-run
     put-run-requires

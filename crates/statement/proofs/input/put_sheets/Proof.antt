@@ -40,11 +40,11 @@ put-sheets-spec =
     tie.close
     (tie.spec
     (λ c κs. search needs)
-    (λ c. search needs)
+    (λ c. c .match .keys1)
     (λ c κs. search needs)
     (λ c. search needs)
     returns
-    (λ c. search needs)
+    (λ c. c .match .keys2)
     shape-of-requires
     after-requires
     put-weight-sheet-requires

@@ -41,11 +41,11 @@ put-weight-sheet-spec =
     tie.close
     (tie.spec
     (λ c κs. search needs)
-    (λ c. search needs)
+    (λ c. c .match .keys1)
     (λ c κs. search needs)
     (λ c. search needs)
     returns
-    (λ c. search needs)
+    (λ c. c .match .keys2)
     after-requires
     put-movement-sheet-requires
     (λ c. search needs)

@@ -52,9 +52,9 @@ put-half-arc-spec =
     half-arc-requires
     (λ c κs. search arith)
     returns
-    (λ c. search arith)
+    (λ c. c .match .keys1)
     put-original-requires
-    (λ c. search arith)
+    (λ c. c .match .keys2)
     put-new-requires
     (λ c. search arith)
     returns-2

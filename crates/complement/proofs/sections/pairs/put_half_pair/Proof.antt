@@ -39,10 +39,10 @@ put-half-pair-spec =
     tie.close
     (tie.spec
     cast-t8
-    (λ c. search needs)
+    (λ c. c .match .keys1)
     (λ c κs. search needs)
     put-pair-requires
-    (λ c. search needs)
+    (λ c. c .match .keys2)
     put-new-pair-requires
     (λ c. search needs)
     returns
