@@ -54,5 +54,5 @@ fire-open-spec =
     returns-2
     (λ c. c .match2 .keys2)
     fire-members-requires
-    (λ c. search needs)
+    (λ c. c .before .before .fire-members .kept .1 .1 .0)
     returns-3)

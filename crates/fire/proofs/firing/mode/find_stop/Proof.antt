@@ -23,6 +23,11 @@ loop-holds : tie.Need-loop-holds Inv-loop μ-loop
 unfolding first
 loop-holds c = search needs
 
+arc-stop-requires : tie.Need-arc-stop-requires Inv-loop μ-loop
+arc-stop-requires c κs =
+    let pre = c .before .before .before .before .pre in
+    (pre .opened, (pre .marking, record { own = pre .own; there = c .loop-test .taken }))
+
 returns : tie.Need-returns Inv-loop μ-loop
 returns c =
     let l = c .before .before .before .before .loop in
@@ -46,7 +51,7 @@ find-stop-spec =
     Inv-loop
     μ-loop
     loop-holds
-    (λ c κs. search needs)
+    arc-stop-requires
     (λ c. c .match .keys1)
     returns
     (λ c. c .match .keys2)
