@@ -67,5 +67,5 @@ complement-open-spec =
     (λ c. c .match .keys2)
     put-sheet-requires
     returns
-    (λ c. search needs)
+    (λ c. c .before .before .put-sheet .kept .1 .1 .1 .1 .1 .1 .0)
     returns-2)

@@ -1,5 +1,4 @@
 -- What fits with more arcs fits; else they are counted.
-use borrow.Author.Needs.{needs}
 use mathlib.Core.Path.{sym, _∙_, ap}
 use native.Mathlib.Omega.{arith}
 use Rattle.model.specs.Refusals.{answer}
@@ -24,6 +23,11 @@ returns c =
     let accepted = c .enum-told .given .1 in
     accepted ∙ sym (ap answer (still-fits (pre .0) _ (pre .1 .0) (pre .1 .1 .1 .1 .0) (answer-none _ (c .before .before .room-answer .ensures) accepted)))
 
+count-arcs-requires : tie.Need-count-arcs-requires
+count-arcs-requires c κs =
+    let pre = c .before .before .before .before .pre in
+    (pre .0, (pre .1 .0, (pre .1 .1 .0, pre .1 .1 .1 .0)))
+
 room-answer-requires-2 : tie.Need-room-answer-requires-2
 room-answer-requires-2 c κs =
     let pre = c .before .before .before .before .before .pre in
@@ -47,6 +51,6 @@ counted-answer-spec =
     (λ c. c .match .keys1)
     returns
     (λ c. c .match .keys2)
-    (λ c κs. search needs)
+    count-arcs-requires
     room-answer-requires-2
     returns-2)
