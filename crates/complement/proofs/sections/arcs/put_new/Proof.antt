@@ -57,7 +57,7 @@ put-new-spec =
     (λ c. search arith)
     (λ c. search arith)
     (λ c κs. search arith)
-    (λ c κs. search arith)
+    (λ c κs. (c .before .before .before .before .before .before .before .pre .0, c .before .before .before .before .before .before .before .pre .1 .1 .0))
     (λ c κs. search arith)
     complement-pair-requires
     put32-requires-3

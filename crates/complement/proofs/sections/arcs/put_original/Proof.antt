@@ -44,11 +44,11 @@ pub put-original-spec : {M : Type 1} → statement M
 put-original-spec =
     tie.close
     (tie.spec
+    (λ c κs. (c .before .before .pre .0, c .before .before .pre .1 .0))
     (λ c κs. search arith)
+    (λ c κs. (c .before .before .before .before .before .before .before .before .before .pre .0, c .before .before .before .before .before .before .before .before .before .pre .1 .0))
     (λ c κs. search arith)
-    (λ c κs. search arith)
-    (λ c κs. search arith)
-    (λ c κs. search arith)
+    (λ c κs. (c .before .before .before .before .before .before .before .before .before .before .before .before .before .before .pre .0, c .before .before .before .before .before .before .before .before .before .before .before .before .before .before .pre .1 .0))
     put32-requires-2
     put32-requires-3
     same-length
