@@ -28,8 +28,8 @@ run-spec =
     tie.close
     (tie.spec
     (λ c κs. search needs)
-    (λ c. search needs)
-    (λ c. search needs)
+    (λ c. c .match .keys1)
+    (λ c. c .match .keys2)
     run-open-requires
     returns
     (λ c. search needs)

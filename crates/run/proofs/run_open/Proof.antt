@@ -47,14 +47,14 @@ run-open-spec =
     tie.close
     (tie.spec
     (λ c κs. search needs)
-    (λ c. search needs)
+    (λ c. c .match .keys1)
     returns
-    (λ c. search needs)
+    (λ c. c .match .keys2)
     (λ c κs. search needs)
-    (λ c. search needs)
+    (λ c. c .match2 .keys1)
     (λ c. search needs)
     returns-2
-    (λ c. search needs)
+    (λ c. c .match2 .keys2)
     run-sheet-requires
     (λ c. search needs)
     returns-3)

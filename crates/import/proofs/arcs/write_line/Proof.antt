@@ -46,18 +46,18 @@ write-line-spec =
     tie.close
     (tie.spec
     (λ c κs. search arith)
-    (λ c. search arith)
+    (λ c. c .match .keys1)
     (λ c κs. search arith)
-    (λ c. search arith)
+    (λ c. c .match .keys2)
     sub-put-arc
     put-arc-requires
     after-pre-requires
-    (λ c. search arith)
+    (λ c. c .match .keys3)
     put-post-requires
     after-post-requires
-    (λ c. search arith)
-    (λ c. search arith)
-    (λ c. search arith)
+    (λ c. c .match .keys4)
+    (λ c. c .match .keys5)
+    (λ c. c .match .keys6)
     returns
     (λ c. search arith)
     returns-2

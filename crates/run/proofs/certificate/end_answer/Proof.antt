@@ -47,10 +47,10 @@ end-answer-spec =
     (λ c κs. search needs)
     (λ c. search needs)
     run-listed-requires
-    (λ c. search needs)
+    (λ c. c .match .keys1)
     (λ c. search needs)
     returns
-    (λ c. search needs)
+    (λ c. c .match .keys2)
     compare-requires
     (λ c. search needs)
     returns-2)

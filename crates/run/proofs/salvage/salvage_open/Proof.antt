@@ -45,9 +45,9 @@ salvage-open-spec =
     tie.close
     (tie.spec
     (λ c κs. search needs)
-    (λ c. search needs)
+    (λ c. c .match .keys1)
     returns
-    (λ c. search needs)
+    (λ c. c .match .keys2)
     count-considered-requires
     run-considered-requires
     write-kept-requires

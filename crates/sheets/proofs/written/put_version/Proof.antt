@@ -26,9 +26,9 @@ pub put-version-spec : {M : Type 1} → statement M
 put-version-spec =
     tie.close
     (tie.spec
-    (λ c. search arith)
+    (λ c. c .match .keys1)
     put-byte-requires
-    (λ c. search arith)
+    (λ c. c .match .keys2)
     put-byte-requires-2
     put-byte-requires-3
     (λ c. search arith)
