@@ -28,5 +28,5 @@ complement-spec =
     (λ c. c .match .keys2)
     complement-open-requires
     returns
-    (λ c. search needs)
+    (λ c. c .before .before .complement-open .kept .1 .1 .0)
     returns-2)

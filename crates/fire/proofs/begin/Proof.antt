@@ -31,5 +31,5 @@ begin-spec =
     (λ c. c .match .keys2)
     begin-open-requires
     returns
-    (λ c. search needs)
+    (λ c. c .before .before .begin-open .kept .1 .1 .0)
     returns-2)

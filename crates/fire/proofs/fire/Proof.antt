@@ -31,5 +31,5 @@ fire-spec =
     (λ c. c .match .keys2)
     fire-open-requires
     returns
-    (λ c. search needs)
+    (λ c. c .before .before .fire-open .kept .1 .1 .0)
     returns-2)

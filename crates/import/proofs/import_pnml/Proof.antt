@@ -27,5 +27,5 @@ import-pnml-spec =
     (λ c. c .match .keys2)
     import-export-requires
     returns
-    (λ c. search arith)
+    (λ c. c .before .before .import-export .kept .1 .1 .0)
     returns-2)

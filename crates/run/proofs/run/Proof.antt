@@ -32,5 +32,5 @@ run-spec =
     (λ c. c .match .keys2)
     run-open-requires
     returns
-    (λ c. search needs)
+    (λ c. c .before .before .run-open .kept .1 .1 .1 .0)
     returns-2)

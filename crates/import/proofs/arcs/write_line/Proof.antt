@@ -59,9 +59,9 @@ write-line-spec =
     (λ c. c .match .keys5)
     (λ c. c .match .keys6)
     returns
-    (λ c. search arith)
+    (λ c. c .before .before .before .put-arc .kept .0)
     returns-2
-    (λ c. search arith)
+    (λ c. c .before .before .before .put-post .kept .0)
     returns-3
     (λ c. place-wrote (c .before .before .read-line .ensures) (c .enum-told .given .1))
     (λ c. close-wrote (c .before .before .read-line .ensures) (c .enum-told2 .given .1))

@@ -24,7 +24,7 @@ write-place-spec =
     (λ c. c .match .keys4)
     (λ c. c .match .keys5)
     (λ c. c .match .keys6)
-    (λ c. search arith)
+    (λ c. c .before .before .before .put-pair .kept .0)
     returns
     (λ c. begun-placed (c .before .before .read-line .ensures) (c .enum-told .given .1))
     (λ c. pre-placed (c .before .before .read-line .ensures) (c .enum-told2 .given .1))

@@ -31,5 +31,5 @@ salvage-spec =
     (λ c. c .match .keys2)
     salvage-open-requires
     returns
-    (λ c. search needs)
+    (λ c. c .before .before .salvage-open .kept .1 .1 .1 .0)
     returns-2)

@@ -51,5 +51,5 @@ salvage-open-spec =
     count-considered-requires
     run-considered-requires
     write-kept-requires
-    (λ c. search needs)
+    (λ c. c .before .before .write-kept .kept .1 .1 .1 .1 .0)
     returns-2)

@@ -56,7 +56,7 @@ put-half-arc-spec =
     put-original-requires
     (λ c. c .match .keys2)
     put-new-requires
-    (λ c. search arith)
+    (λ c. c .before .before .put-original .kept .1 .1 .1 .1 .0)
     returns-2
-    (λ c. search arith)
+    (λ c. c .before .before .put-new .kept .1 .1 .1 .1 .1 .1 .0)
     returns-3)

@@ -44,7 +44,7 @@ put-half-pair-spec =
     put-pair-requires
     (λ c. c .match .keys2)
     put-new-pair-requires
-    (λ c. search needs)
+    (λ c. c .before .before .put-pair .kept .0)
     returns
-    (λ c. search needs)
+    (λ c. c .before .before .put-new-pair .kept .1 .1 .1 .0)
     returns-2)
