@@ -12,12 +12,14 @@ use Rattle.model.specs.declared.Thing.the-variants.{Net}
 use Rattle.model.specs.declared.Fault.the-variants.{NoRoom, InhibitedUnbounded}
 use Rattle.model.specs.declared.Refusal.{Refusal}
 use Rattle.model.specs.declared.Answer.{Answer}
+use Rattle.model.specs.declared.Answer.the-variants as answers
 use Rattle.model.specs.declared.Version.{Version}
 use Rattle.model.specs.declared.Version.the-variants.{One, Two}
 use Rattle.model.specs.Nets.{PNet, arcNo}
 use Rattle.model.specs.First.{_▸_, first, onlyIf}
 use Rattle.model.specs.Refusals.{answer, wrong}
-use Rattle.second_form.specs.Complement.{inhibitsUnbounded, refusal15, sheetLimits, complementRefusal}
+use Rattle.second_form.specs.Complement.{complement, inhibitsUnbounded, refusal15, sheetLimits, complementRefusal}
+use Rattle.model.proofs.Refusals.{answer-none, answer-refused}
 use Rattle.model.proofs.First.{then-assoc, none-then, left-none, right-none, first-all, only-if-none}
 use Rattle.opened.specs.declared.shape.NetShape.{NetShape}
 use Rattle.sheets.specs.Decoded.{netOf}
@@ -28,8 +30,12 @@ use Rattle.complement.proofs.sections.Every.{and-left, and-right, every
 use Rattle.complement.specs.declared.sheet.Sizes.{Sizes}
 use Rattle.complement.specs.ArcRefusals.{inhibitedAt}
 use Rattle.complement.specs.Complemented.{complementSheet, roomRefusal}
-use Rattle.sheets.specs.written.Puts.{sheetSize}
-use Rattle.sheets.specs.Emitted.{tooShort}
+use Rattle.sheets.specs.declared.Emitted.the-variants.{Length, Refused}
+use Rattle.sheets.specs.Emitted.{emitted, output, tooShort}
+use Rattle.sheets.specs.written.Puts.{Puts, Room, sheetSize}
+use Rattle.sheets.specs.written.Written.{sheetOf}
+use Rattle.sheets.proofs.written.Puts.{room-as, puts-as}
+use Rattle.sheets.proofs.Emits.{refused, written}
 use Rattle.complement.specs.Sizes.{sizesOf, SizesWith, inLimits, sizesRefusal, firstOf}
 use Rattle.complement.proofs.SheetParts.{sizes-are, arcs-at-most, size-is, sheet-is}
 
@@ -99,6 +105,23 @@ module _ {s : List ℕ} {net : NetShape} (o : Open s net) (room : ℕ) where
       let together : refusal15 (arcOffset s) (netOf s) ▸ sizesRefusal net (sizesOf (netOf s)) room ≡ roomRefusal s room = rw (then-assoc, sizes-refusal) in
       g ∙ ap₂ firstOf e f ∙ first-of _ _ ∙ ap answer together
 
-pub room-enough : (s : List ℕ) (room : ℕ) → roomRefusal s room ≡ none → length (complementSheet s) ≤ room
+room-enough : (s : List ℕ) (room : ℕ) → roomRefusal s room ≡ none → length (complementSheet s) ≤ room
 unfolding roomRefusal
 room-enough s room e = ltb-false _ _ (only-if-none _ _ (right-none _ _ e))
+
+-- what an open net's call leaves, by the answer that it had
+module _ {s : List ℕ} {net : NetShape} (o : Open s net) (found : List ℕ) {a : Answer} (e : a ≡ answer (roomRefusal s (length found))) where
+  pub open-refused : {r : Refusal} → a ≡ answers.Refused r
+      → (Refused r ≡ emitted (roomRefusal s (length found)) (length (complementSheet s))) × (found ≡ output (roomRefusal s (length found)) (complementSheet s) found)
+  open-refused h = refused (length (complementSheet s)) (complementSheet s) found (answer-refused (roomRefusal s (length found)) (sym e ∙ h))
+
+  module _ (h : a ≡ answers.Accepted) where
+    enough : length (complementSheet s) ≤ length found
+    enough = room-enough s (length found) (answer-none _ e h)
+
+    pub open-room : Room found 0 (sheetOf (net .version) (complement (netOf s)))
+    open-room = room-as (sym (sheet-is o)) (record { fits = omega (arith, enough) })
+
+    pub open-written : {now : List ℕ} {after : ℕ} → Puts found 0 (sheetOf (net .version) (complement (netOf s))) now after
+        → (Length after ≡ emitted (roomRefusal s (length found)) (length (complementSheet s))) × (now ≡ output (roomRefusal s (length found)) (complementSheet s) found)
+    open-written p = written (complementSheet s) (answer-none (roomRefusal s (length found)) e h) enough (puts-as (sheet-is o) p)

@@ -2,3 +2,4 @@ mod Filling
 pub mod Opened
 pub mod Opening
 pub mod Promises
+mod InTurn

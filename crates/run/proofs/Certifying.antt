@@ -23,8 +23,8 @@ module _ (net : PNet) (ts : List Mode) (claim : List ℕ) {m : List ℕ} {arcs :
   unfolding endsAt
   ends-stopped h = answer-stops _ _ told-is h
 
-  pub ends-compared : {a : Answer} → told .answer ≡ Accepted → a ≡ answer (first (pairs net) (elsewhere left claim)) → a ≡ answer (endsAt net ts claim)
+  pub ends-compared : {a : Answer} {n : ℕ} → told .answer ≡ Accepted → n ≡ pairs net → a ≡ answer (first n (elsewhere left claim)) → a ≡ answer (endsAt net ts claim)
   unfolding endsAt
-  ends-compared h e =
+  ends-compared h size e =
       let last : left ≡ run net ts (net .start) .marking = reports .leaves ∙ ap (λ m. run net ts m .marking) begins in
-      answer-goes-on _ _ told-is h (rw last at e)
+      answer-goes-on _ _ told-is h (rw (last, size) at e)

@@ -1,15 +1,17 @@
 -- The lines of a run on their way: what is written and the lines that are left from here are the whole.
-use Prim.Native.Nat.{ℕ, _+_, _*_, _≤_, _<_}
+use Prim.Native.Nat.{ℕ, _+_, _*_, _≤_, _<_, _^_}
 use mathlib.Core.Path.{_≡_, refl, sym, _∙_, ap, ap₂}
 use mathlib.Core.List.{List, [], _∷_, _++_, append-assoc, append-nil}
 use mathlib.Core.Option.{none, some}
 use lib.IntN.{ℤ, pos, natAbs, _+ℤ_}
+use lib.Signed.{mag}
 use lib.ListN.{length, take, drop, getD, drop-of-length-le}
 use lib.Seq.{drop-cons, getD-take, length-take-le}
 use native.Mathlib.Numerals.{add-one}
 use native.Mathlib.Omega.{arith}
 use mir.Syntax.{w64}
-use mir.Val.{SFits}
+use mir.Val.{SFits, toZ, ofZ, hbits}
+use mir.Facts.{toZ-ofZ}
 use Rattle.model.specs.declared.Mode.{Mode}
 use Rattle.model.specs.declared.Thing.the-variants.{Movements}
 use Rattle.model.specs.declared.Refusal.{Refusal}
@@ -148,11 +150,14 @@ module _ {s : List ℕ} {shape : NetShape} {w movements : List ℕ} (read : Read
       kept : Marking net (fired net t (along .now))
       kept = marking-kept Movements net t (along .now) (along .marking) (onward .0)
 
-      -- the figure before and the entry of the mode are the figure after
-      module _ {changes : List ℤ} (table : ChangesAre net weights changes) {x : ℤ} (e : x ≡ getD changes (t .0) (pos 0)) where
+      -- the figure before and the entry of the mode, as it is read, are the figure after
+      module _ {changes : List ℤ} (table : ChangesAre net weights changes) (given : mag (getD changes (t .0) (pos 0)) < 2 ^ hbits w64) where
+        abbrev x : ℤ
+        x = toZ w64 (ofZ w64 (getD changes (t .0) (pos 0)))
+
         next-weighs : z +ℤ x ≡ figure net weights (fired net t (along .now))
         next-weighs =
-            ap₂ _+ℤ_ (along .weighs) (e ∙ table .each (t .0) along-mode)
+            ap₂ _+ℤ_ (along .weighs) (toZ-ofZ (record { sfits = given }) ∙ table .each (t .0) along-mode)
             ∙ sym (figure-fired net weights t (along .now) (accepted-enough Movements net t (along .now) (onward .0)))
 
         next-size : natAbs (z +ℤ x) ≤ 256000000000000
@@ -161,9 +166,12 @@ module _ {s : List ℕ} {shape : NetShape} {w movements : List ℕ} (read : Read
         pub next-fits : SFits w64 (z +ℤ x)
         next-fits = fits-size w64 (z +ℤ x) (omega (arith, next-size))
 
-        pub along-more : {y : ℤ} {after : ℕ} {now : List ℕ} → y ≡ z +ℤ x → Writes 84 out end (acceptedLine (k + 1) t y) after now
-            → Along net weights ts out₀ at (k + 1) y after now
-        along-more {y} f p =
+        abbrev y : ℤ
+        y = toZ w64 (ofZ w64 (z +ℤ x))
+
+        pub along-more : {after : ℕ} {now : List ℕ} → Writes 84 out end (acceptedLine (k + 1) t y) after now → Along net weights ts out₀ at (k + 1) y after now
+        along-more p =
+            let f : y ≡ z +ℤ x = toZ-ofZ next-fits in
             let is : y ≡ figure net weights (fired net t (along .now)) = f ∙ next-weighs in
             let size = accepted-size (k + 1) t y (omega (arith, at-most)) along-entry (rw f next-size) in
             let all = along .told and within p size in

@@ -1,9 +1,13 @@
 -- The text of an input, sheet by sheet: a sheet that is refused, or what follows an accepted one.
-use Prim.Native.Nat.{ℕ}
+use Prim.Native.Nat.{ℕ, _<_, _^_}
 use mathlib.Core.Path.{_≡_, sym, _∙_, ap}
 use mathlib.Core.List.{List}
 use mathlib.Core.Option.{Option}
 use lib.IntN.{ℤ}
+use lib.Signed.{mag}
+use mir.Syntax.{w64}
+use mir.Val.{toZ, ofZ, hbits}
+use mir.Facts.{toZ-ofZ}
 use native.Mathlib.Omega.{arith}
 use Rattle.model.specs.declared.Mode.{Mode}
 use Rattle.model.specs.declared.Refusal.{Refusal}
@@ -12,6 +16,8 @@ use Rattle.model.specs.declared.Answer.the-variants.{Accepted, Refused}
 use Rattle.model.specs.Refusals.{answer}
 use Rattle.model.specs.Nets.{PNet}
 use Rattle.movement.specs.Figures.{figure}
+use Rattle.movement.specs.Runs.{run}
+use Rattle.run.specs.Parts.{RunTells}
 use Rattle.model.proofs.Refusals.{answer-refused, answer-none}
 use Rattle.writes.specs.Writes.{Writes}
 use Rattle.statement.specs.lines.Lines.{startLine, badLine}
@@ -38,6 +44,10 @@ module _ {out : List ℕ} {after : ℕ} {now : List ℕ} where
       let all = rw e at p and q in
       within all (omega (arith, all .within))
 
--- the figure of the marking that a run starts from, where that is the first
-pub started-weighs : (net : PNet) (weights : List ℤ) {m : List ℕ} {z : ℤ} → m ≡ net .start → z ≡ figure net weights m → z ≡ figure net weights (net .start)
-started-weighs net weights e f = f ∙ ap (figure net weights) e
+-- of the marking that a run starts from, where that is the first: its figure, and what the run tells
+module _ (net : PNet) {m : List ℕ} (e : m ≡ net .start) where
+  pub started-weighs : (weights : List ℤ) {z : ℤ} → mag z < 2 ^ hbits w64 → z ≡ figure net weights m → toZ w64 (ofZ w64 z) ≡ figure net weights (net .start)
+  started-weighs weights fits f = toZ-ofZ (record { sfits = fits }) ∙ f ∙ ap (figure net weights) e
+
+  pub started-tells : (ts : List Mode) {accepted : ℕ} {a : Answer} → RunTells (run net ts m) accepted a → RunTells (run net ts (net .start)) accepted a
+  started-tells ts t = rw e at t

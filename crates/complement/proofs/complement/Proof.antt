@@ -24,9 +24,9 @@ complement-spec =
     tie.close
     (tie.spec
     (λ c κs. search needs)
-    (λ c. search needs)
-    (λ c. search needs)
+    (λ c. c .match .keys1)
+    (λ c. c .match .keys2)
     complement-open-requires
     returns
-    (λ c. search needs)
+    (λ c. c .before .before .complement-open .kept .1 .1 .0)
     returns-2)

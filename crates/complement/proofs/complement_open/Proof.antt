@@ -1,17 +1,13 @@
 -- A refusal, or the sheet from the first byte on.
-use borrow.Author.Needs.{needs}
-use mathlib.Core.Path.{sym, _∙_}
-use lib.ListN.{length}
+use mathlib.Core.Path.{refl}
 use native.Mathlib.Omega.{arith}
-use Rattle.model.proofs.Refusals.{answer-none, answer-refused}
-use Rattle.complement.specs.Complemented.{complementSheet, roomRefusal}
 use Rattle.opened.proofs.Shapes.{sizes}
-use Rattle.sheets.proofs.written.Puts.{room-as, puts-as}
-use Rattle.sheets.proofs.Emits.{refused, written}
-use Rattle.complement.proofs.SheetParts.{sheet-is}
-use Rattle.complement.proofs.Answers.{room-enough}
+use Rattle.complement.proofs.Answers.{open-room, open-refused, open-written}
 use Rattle.complement.proofs.complement_open.Statement.{statement}
 use Rattle.complement.proofs.complement_open.Tie as tie
+
+survey-requires : tie.Need-survey-requires
+survey-requires c κs = (c .before .before .before .before .before .before .pre, (c .before .before .before .starts .ensures, refl))
 
 complement-sizes-requires : tie.Need-complement-sizes-requires
 complement-sizes-requires c κs =
@@ -33,40 +29,35 @@ put-sheet-requires c κs =
     let surveyed = sized .before .before .before in
     let bounded = surveyed .before .before .before in
     let start = bounded .before .before .before .before in
-    let accepted = answer-none (roomRefusal (start .args .s .now) (length (start .args .out .now))) (answered .complement-answer .ensures) (c .before .before .before .before .enum-told .given .1) in (
-      start .pre,
-      (bounded .before .starts .ensures, (bounded .bounded-below .ensures, (surveyed .survey .ensures .1, (sized .complement-sizes .ensures, room-as (sym (sheet-is (start .pre))) (record { fits = omega (arith, room-enough (start .args .s .now) _ accepted) }))))),
-    )
+    let room = open-room (start .pre) (start .args .out .now) (answered .complement-answer .ensures) (c .before .before .before .before .enum-told .given .1) in
+    (start .pre, (bounded .before .starts .ensures, (bounded .bounded-below .ensures, (surveyed .survey .ensures .1, (sized .complement-sizes .ensures, room)))))
 
 returns : tie.Need-returns
 returns c =
     let answered = c .before .before .before in
-    let a = answered .before .before .before .before .before .before .before .before .before .before .before .before .before .before .args in
-    refused _ (complementSheet (a .s .now)) _
-    (answer-refused (roomRefusal (a .s .now) (length (a .out .now))) (sym (answered .complement-answer .ensures) ∙ c .before .answer .given .1))
+    let start = answered .before .before .before .before .before .before .before .before .before .before .before .before .before .before in
+    open-refused (start .pre) (start .args .out .now) (answered .complement-answer .ensures) (c .before .answer .given .1)
 
 returns-2 : tie.Need-returns-2
 returns-2 c =
     let told = c .before .before .before .before .before .before .before in
     let answered = told .before .before in
     let start = answered .before .before .before .before .before .before .before .before .before .before .before .before .before .before in
-    let a = start .args in
-    let accepted = answer-none (roomRefusal (a .s .now) (length (a .out .now))) (answered .complement-answer .ensures) (told .enum-told .given .1) in
-    written (complementSheet (a .s .now)) accepted (room-enough _ _ accepted) (puts-as (sheet-is (start .pre)) (c .before .before .put-sheet .ensures))
+    open-written (start .pre) (start .args .out .now) (answered .complement-answer .ensures) (told .enum-told .given .1) (c .before .before .put-sheet .ensures)
 
 pub complement-open-spec : {M : Type 1} → statement M
 complement-open-spec =
     tie.close
     (tie.spec
-    (λ c κs. search needs)
-    (λ c κs. search needs)
-    (λ c κs. search needs)
+    (λ c κs. c .before .before .pre)
+    (λ c κs. c .before .before .before .pre)
+    survey-requires
     (λ c. omega (arith, sizes (c .before .before .before .before .before .before .before .before .before .pre) .arcs, sizes (c .before .before .before .before .before .before .before .before .before .pre) .arcsWithin))
     complement-sizes-requires
     complement-answer-requires
-    (λ c. search needs)
-    (λ c. search needs)
+    (λ c. c .match .keys1)
+    (λ c. c .match .keys2)
     put-sheet-requires
     returns
-    (λ c. search needs)
+    (λ c. c .before .before .put-sheet .kept .1 .1 .1 .1 .1 .1 .0)
     returns-2)

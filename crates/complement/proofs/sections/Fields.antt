@@ -1,18 +1,22 @@
 -- An arc that is put field by field.
-use Prim.Native.Nat.{ℕ, suc, _+_}
+use Prim.Native.Nat.{ℕ, suc, _+_, _≤_}
 use mathlib.Core.Path.{_≡_, _∙_, ap}
-use mathlib.Core.List.{List, [], _∷_, _++_, append-assoc}
-use lib.ListN.{set}
+use mathlib.Core.List.{List, [], _∷_, _++_, flatten, append-assoc}
+use lib.ListN.{length, set}
 use lib.Seq.{sets, set-set, set-comm}
 use native.Mathlib.Omega.{arith}
 use Rattle.model.specs.declared.Version.{Version}
 use Rattle.model.specs.declared.Version.the-variants.{One, Two}
 use Rattle.model.specs.Numbers.{∞}
+use Rattle.model.specs.declared.Arc.{Arc}
 use Rattle.model.specs.Nets.{NetArc}
+use Rattle.fields.specs.Numbers.{unbounded}
+use Rattle.sheets.specs.Decoded.{netArc}
 use Rattle.both_forms.specs.Promises.{onOriginal}
-use Rattle.sheets.specs.written.Written.{bytes16, modeBytes}
+use Rattle.sheets.specs.written.Written.{bytes16, bytes32, modeBytes, tailBytes, arcBytes}
 use Rattle.sheets.specs.written.Puts.{Put, modeSize}
-use Rattle.sheets.proofs.written.Puts.{puts}
+use Rattle.sheets.proofs.written.Records.{number-bound}
+use Rattle.sheets.proofs.written.Puts.{nothing, puts, puts-before}
 
 module _ {l m : List ℕ} {at n k : ℕ} where
   -- the same bytes, told otherwise
@@ -55,3 +59,31 @@ whole-arc v mode pair numbers p =
 pub fields : {a b c x : NetArc} → a ≡ x → b ≡ x → c ≡ x
     → record { mode = a .mode; pair = a .pair; entry = record { pre = b .entry .pre; post = c .entry .post; inhibitor = ∞ } } ≡ onOriginal x
 fields p q r = λ i. record { mode = p i .mode; pair = p i .pair; entry = record { pre = q i .entry .pre; post = r i .entry .post; inhibitor = ∞ } }
+
+module _ (v : Version) {l m : List ℕ} {at : ℕ} where
+  -- room for the second and the third number, where there is room for the whole arc
+  module _ {xs ys : List ℕ} {j k : ℕ} (names : Put l at (modeSize v + 2) xs m j) {n : List ℕ} (pre : Put m j 4 ys n k) (room : at + (modeSize v + 14) ≤ length l) where
+    pub room-post : k + 4 ≤ length n
+    room-post = omega (arith, names .kept, names .next, pre .kept, pre .next)
+
+    pub room-inhibitor : {zs o : List ℕ} {after : ℕ} → Put n k 4 zs o after → after + 4 ≤ length o
+    room-inhibitor post = omega (arith, names .kept, names .next, pre .kept, pre .next, post .kept, post .next)
+
+  -- names, and then the numbers of an arc that was read for each
+  pub original-put : (a b c : Arc) {x : NetArc} → netArc a ≡ x → netArc b ≡ x → netArc c ≡ x → {n o out : List ℕ} {h i j k : ℕ}
+      → Put l at (modeSize v + 2) (modeBytes v (a .mode .0) ++ bytes16 (a .pair .0)) m h → Put m h 4 (bytes32 (b .pre)) n i → Put n i 4 (bytes32 (c .post)) o j
+      → Put o j 4 (bytes32 unbounded) out k → Put l at (modeSize v + 14) (arcBytes v (onOriginal x)) out k
+  unfolding arcBytes tailBytes flatten
+  original-put a b c p q r names pre post inhibitor =
+      bytes-as (ap (arcBytes v) (fields p q r)) (whole-arc v (a .mode .0) (a .pair .0) _ (puts names (puts pre (puts post (puts inhibitor nothing)))))
+
+  -- the numbers first, and then the names before them
+  pub new-put : (new : Arc) {q size : ℕ} → q ≡ new .pair .0 → size ≡ modeSize v → {n o out : List ℕ} {i j k after : ℕ}
+      → Put l (at + size + 2) 4 (bytes32 (new .pre)) m i → Put m i 4 (bytes32 (new .post)) n j → Put n j 4 (bytes32 (new .inhibitor)) o k
+      → Put o at (modeSize v + 2) (modeBytes v (new .mode .0) ++ bytes16 q) out after → Put l at (modeSize v + 14) (arcBytes v (netArc new)) out k
+  unfolding arcBytes tailBytes flatten bytes32
+  new-put new number e pre post inhibitor names =
+      rw number-bound
+      (whole-arc v (new .mode .0) (new .pair .0) _
+      (puts-before (puts pre (puts post (puts inhibitor nothing)))
+      (ends-as (omega arith) (bytes-as (ap (λ p. modeBytes v (new .mode .0) ++ bytes16 p) number) names))))

@@ -18,4 +18,4 @@ returns-2 c =
 
 pub begin-open-spec : {M : Type 1} → statement M
 begin-open-spec =
-    tie.close (tie.spec (λ c κs. search needs) returns (λ c κs. search needs) (λ c. search needs) returns-2)
+    tie.close (tie.spec (λ c κs. search needs) returns (λ c κs. search needs) (λ c. c .before .before .write-start .kept .1 .1 .0) returns-2)

@@ -1,5 +1,6 @@
 -- The marking, 6, or what firing the mode's arcs gives.
 use borrow.Author.Needs.{needs}
+use mathlib.Core.Path.{refl}
 use Rattle.opened.proofs.Segments.{segment-own}
 use Rattle.fire.proofs.firing.ByMode.{at-mode, mode-refusal}
 use Rattle.leaving.proofs.Leaving.{leaves-stops, leaves-goes-on}
@@ -46,16 +47,16 @@ fire-open-spec =
     tie.close
     (tie.spec
     (λ c κs. search needs)
-    (λ c. search needs)
-    (λ c. search needs)
+    (λ c. c .match .keys1)
+    (λ c. refl)
     returns
-    (λ c. search needs)
+    (λ c. c .match .keys2)
     (λ c κs. search needs)
-    (λ c. search needs)
-    (λ c. search needs)
+    (λ c. c .match2 .keys1)
+    (λ c. refl)
     returns-2
-    (λ c. search needs)
+    (λ c. c .match2 .keys2)
     find-arcs-requires
     fire-arcs-requires
-    (λ c. search needs)
+    (λ c. c .before .before .fire-arcs .kept .1 .1 .1 .1 .0)
     returns-3)

@@ -33,6 +33,7 @@ use Rattle.opened.proofs.Segments.{mode-lists}
 use Rattle.fire.specs.firing.AtMode.{Free, Writable, writtenAt, AtMode, stopAt, stopOf, refusalOf, Decides}
 use Rattle.leaving.specs.Leaving.{Leaves}
 use Rattle.rule.proofs.FourTests.{clash}
+use Rattle.fire.proofs.InTurn.{InTurn}
 use Rattle.leaving.proofs.Leaving.{leaves-some, leaves-written}
 
 module _ {s : List ℕ} {net : NetShape} {arcs : Segment} {m : List ℕ} (h : AtMode s net arcs m) (t : Mode)
@@ -96,11 +97,10 @@ pub at-mode : {s : List ℕ} {net : NetShape} {arcs : Segment} {m : List ℕ} {a
 at-mode {s} {m = m} o e h is = record { opened = o; marking = marking-test (netOf s) m .0 (answer-none _ e h); own = is .own }
 
 -- "6, 11 over all pairs, 12, 13, 14": the answer is that of the four in turn
-pub in-order : {a : Answer} (thing : Thing) (net : PNet) (m : List ℕ) (t : Mode)
-    → a ≡ answer (stopOf thing Lacking net m t ▸ stopOf thing OverCapacity net m t ▸ stopOf thing Inhibited net m t ▸ stopOf thing OverLimit net m t)
-    → a ≡ answer (refusalOf thing net m t)
+pub in-order : (thing : Thing) (net : PNet) (m : List ℕ) (t : Mode)
+    → InTurn (stopOf thing Lacking net m t) (stopOf thing OverCapacity net m t) (stopOf thing Inhibited net m t) (stopOf thing OverLimit net m t) (refusalOf thing net m t)
 unfolding stopOf refusalOf rowRefusal ruleRefusal
-in-order thing net m t e = rw (then-assoc, then-assoc) e
+in-order thing net m t = record { is = rw (then-assoc, then-assoc) }
 
 -- 6 is met before the arcs of a mode are looked for
 pub mode-refusal : {s : List ℕ} {net : NetShape} → Open s net → (thing : Thing) (t : Mode) (m : List ℕ)

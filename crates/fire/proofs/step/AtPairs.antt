@@ -30,6 +30,7 @@ use Rattle.sheets.specs.Decoded.{netOf, netArc}
 use Rattle.opened.specs.Shape.{Open}
 use Rattle.opened.proofs.Shapes.{sizes}
 use Rattle.rule.specs.AtPair.{Counted}
+use Rattle.fire.proofs.InTurn.{InTurn}
 use Rattle.fire.specs.step.Sums.{Below, SumIs, stopAt, stopOf, refusalOf}
 
 module _ {s : List ℕ} {net : NetShape} (o : Open s net) where
@@ -71,11 +72,10 @@ module _ (net : PNet) (m : List ℕ) (k : ℕ) {r : Row} {p : ℕ} {a : Arc} (su
   stop-passed e = rw (sym tests ∙ e)
 
 -- "11, 12, 13, 14 over the sums": the answer is that of the four in turn
-pub in-order : {a : Answer} (net : PNet) (r : Row) (m : List ℕ)
-    → a ≡ answer (stopOf Lacking net r m ▸ stopOf OverCapacity net r m ▸ stopOf Inhibited net r m ▸ stopOf OverLimit net r m)
-    → a ≡ answer (refusalOf net r m)
+pub in-order : (net : PNet) (r : Row) (m : List ℕ)
+    → InTurn (stopOf Lacking net r m) (stopOf OverCapacity net r m) (stopOf Inhibited net r m) (stopOf OverLimit net r m) (refusalOf net r m)
 unfolding stopOf refusalOf rowRefusal ruleRefusal
-in-order net r m e = rw (then-assoc, then-assoc) e
+in-order net r m = record { is = rw (then-assoc, then-assoc) }
 
 -- the pairs before p hold M - Pre + Post, the others M
 pub record Moved (r : Row) (p : ℕ) (old new : List ℕ) : Type 0 where

@@ -12,6 +12,7 @@ use native.Mathlib.Numerals.{add-one}
 use Rattle.model.specs.declared.Mode.{Mode}
 use Rattle.model.specs.declared.Thing.the-variants.{Argument}
 use Rattle.model.specs.declared.Fault.the-variants.{CountOutside}
+use Rattle.model.specs.declared.Refusal.{Refusal}
 use Rattle.model.specs.declared.Answer.{Answer}
 use Rattle.model.specs.declared.Answer.the-variants.{Accepted, Refused}
 use Rattle.model.specs.First.{_▸_, first}
@@ -33,6 +34,8 @@ use Rattle.fields.proofs.Bounds.{bound-unbounded}
 use Rattle.sheets.specs.Decoded.{netOf}
 use Rattle.opened.specs.Shape.{Open}
 use Rattle.opened.proofs.Shapes.{sizes}
+use Rattle.leaving.specs.Leaving.{Leaves}
+use Rattle.leaving.proofs.Leaving.{leaves-refused, leaves-written}
 use Rattle.fire.specs.step.Calls.{stepModes}
 use Rattle.fire.specs.step.Parts.{memberAbsent, membersRefusal, Members, sumsRefusal}
 use Rattle.fire.specs.step.Sums.{Tabled, sumsAt, Below, AddedRow, SumsAre, refusalOf}
@@ -117,10 +120,19 @@ module _ {net : PNet} (ms : List ℕ) {r : Row} where
     sums-refusal m = row-ext Argument (pairs net) _ _ r (together net (stepModes ms)) (count m)
         (λ p h. ap (λ e. roomFor (net .rule) (K net p) (e .pre)) (whole p h)) whole
 
-    pub sums-fired : (m : List ℕ) → firedRow (pairs net) r m ≡ firedTogether net (stepModes ms) m
+    sums-fired : (m : List ℕ) → firedRow (pairs net) r m ≡ firedTogether net (stepModes ms) m
     unfolding firedTogether
     sums-fired m =
         ext-getD 0 _ _ (row-fired-length (pairs net) r m ∙ sym (row-fired-length (pairs net) (together net (stepModes ms)) m))
         (λ p h.
         let l : p < pairs net = rw row-fired-length at h in
         row-fired-at (pairs net) r m p l ∙ rw (whole p l) (sym (row-fired-at (pairs net) (together net (stepModes ms)) m p l)))
+
+    -- what the step leaves: nothing written where the sums refuse it, or all members fired
+    module _ (m : List ℕ) {a : Answer} (e : a ≡ answer (refusalOf net r m)) where
+      pub sums-refused : {x : Refusal} → a ≡ Refused x → Leaves (sumsRefusal net ms m) (firedTogether net (stepModes ms) m) m a m
+      sums-refused h = leaves-refused _ (e ∙ ap answer (sums-refusal m)) h
+
+      pub sums-written : a ≡ Accepted → {left : List ℕ} → left ≡ firedRow (pairs net) r m
+          → Leaves (sumsRefusal net ms m) (firedTogether net (stepModes ms) m) m Accepted left
+      sums-written h q = leaves-written _ (sym h ∙ e ∙ ap answer (sums-refusal m)) refl (q ∙ sums-fired m)

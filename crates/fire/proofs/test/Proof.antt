@@ -22,4 +22,4 @@ returns-2 c =
 pub test-spec : {M : Type 1} → statement M
 test-spec =
     tie.close
-    (tie.spec (λ c κs. search needs) (λ c. search needs) (λ c. search needs) test-open-requires returns returns-2)
+    (tie.spec (λ c κs. search needs) (λ c. c .match .keys1) (λ c. c .match .keys2) test-open-requires returns returns-2)

@@ -38,5 +38,5 @@ import-export-spec =
     (λ c κs. search arith)
     returns-3
     put-sheet-requires
-    (λ c. search arith)
+    (λ c. c .before .before .put-sheet .kept .1 .1 .1 .0)
     returns-4)

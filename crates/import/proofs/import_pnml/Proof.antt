@@ -22,10 +22,10 @@ import-pnml-spec =
     tie.close
     (tie.spec
     (λ c κs. search arith)
-    (λ c. search arith)
+    (λ c. c .match .keys1)
     (λ c κs. search arith)
-    (λ c. search arith)
+    (λ c. c .match .keys2)
     import-export-requires
     returns
-    (λ c. search arith)
+    (λ c. c .before .before .import-export .kept .1 .1 .0)
     returns-2)

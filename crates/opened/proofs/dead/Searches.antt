@@ -1,6 +1,6 @@
 -- A search over the arcs of one mode of an open net.
-use Prim.Native.Nat.{ℕ, _+_, _-_, _≤_, _<_}
-use mathlib.Core.Path.{_≡_, _∙_, ap, ap₂}
+use Prim.Native.Nat.{ℕ, _+_, _≤_, _<_}
+use mathlib.Core.Path.{_≡_, sym, _∙_, ap, ap₂}
 use mathlib.Core.Bool.{Bool, true, false}
 use mathlib.Core.List.{List}
 use mathlib.Core.Option.{none, some}
@@ -14,9 +14,10 @@ use Rattle.second_form.proofs.Dead.{arcKills, Passed, arcs-alive, arcs-dead, Al
 use Rattle.opened.specs.declared.shape.NetShape.{NetShape}
 use Rattle.sheets.specs.Decoded.{netOf, netArc}
 use Rattle.opened.specs.Shape.{Open, ArcIs}
-use Rattle.opened.specs.Starts.{ModeArcs}
+use Rattle.opened.specs.declared.starts.Segment.{Segment}
+use Rattle.opened.specs.Starts.{ModeArcs, SegmentOf}
 use Rattle.opened.proofs.Shapes.{sizes}
-use Rattle.opened.proofs.Segments.{mode-lists}
+use Rattle.opened.proofs.Segments.{mode-lists, segment-own}
 use Rattle.opened.specs.declared.dead.FirstDead.the-variants.{At, None}
 use Rattle.opened.specs.dead.FirstDead.{named}
 
@@ -44,14 +45,15 @@ module _ {s : List ℕ} {net : NetShape} (o : Open s net) where
   pub none-named : {t : ℕ} → net .modes ≤ t → Alive (netOf s) t → named none (firstDead (netOf s)) ≡ None
   none-named l alive = ap (named none) (all-alive (netOf s) (λ u h. alive u (omega (arith, sizes o .modes))))
 
-  pub one-named : (t start count k : ℕ) {a : Arc} → t < net .modes → Alive (netOf s) t → ModeArcs (netOf s .arcs) (modeNo t) start count
-      → start ≤ k → k < start + count → Passed (netOf s) start k → ArcIs s net k a → arcKills (netOf s) k ≡ true
-      → At (a .mode) (a .pair) ≡ named none (firstDead (netOf s))
-  one-named t start count k {a} h alive arcs l b passed arc e =
-      let q : start + (k - start) ≡ k = omega arith in
-      let own : arcNo (netOf s .arcs) k .mode .0 ≡ t = rw q at (arcs .own (k - start) (omega arith)) in
+  pub one-named : (t : ℕ) (segment : Segment) (i : ℕ) {a : Arc} {r : Bool} → t < net .modes → Alive (netOf s) t → SegmentOf (netOf s .arcs) (modeNo t) segment
+      → i < segment .count → Passed (netOf s) (segment .start) (segment .start + i) → ArcIs s net (segment .start + i) a
+      → r ≡ kills (netOf s .rule) (netArc a .entry) (K (netOf s) (a .pair .0)) → r ≡ true → At (a .mode) (a .pair) ≡ named none (firstDead (netOf s))
+  one-named t segment i h alive is l passed arc q e =
+      let arcs = segment-own is in
+      let k = segment .start + i in
+      let own : arcNo (netOf s .arcs) k .mode .0 ≡ t = arcs .own i l in
       let first =
       dead-first (netOf s) t (arcNo (netOf s .arcs) k .pair .0) (omega (arith, sizes o .modes)) alive
-      (one-kills o (modeNo t) start count arcs k l b passed e)
+      (one-kills o (modeNo t) (segment .start) (segment .count) arcs k (omega arith) (omega arith) passed (sym (arc-kills arc q) ∙ e))
       in
       rw first (ap₂ At (ap (λ x. x .mode) (arc .is) ∙ ap modeNo own) (ap (λ x. x .pair) (arc .is)))

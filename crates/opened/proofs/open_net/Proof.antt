@@ -20,4 +20,4 @@ returns-2 c = open-accepts _ (c .before .before .before .whole-net .ensures) (c 
 pub open-net-spec : {M : Type 1} → statement M
 open-net-spec =
     tie.close
-    (tie.spec (λ c κs. search arith) (λ c. search arith) (λ c. search arith) shape-of-requires returns returns-2)
+    (tie.spec (λ c κs. search arith) (λ c. c .match .keys1) (λ c. c .match .keys2) shape-of-requires returns returns-2)

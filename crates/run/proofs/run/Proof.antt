@@ -28,9 +28,9 @@ run-spec =
     tie.close
     (tie.spec
     (λ c κs. search needs)
-    (λ c. search needs)
-    (λ c. search needs)
+    (λ c. c .match .keys1)
+    (λ c. c .match .keys2)
     run-open-requires
     returns
-    (λ c. search needs)
+    (λ c. c .before .before .run-open .kept .1 .1 .1 .0)
     returns-2)

@@ -1,5 +1,6 @@
 -- The movement sheet, the marking, or the run.
 use borrow.Author.Needs.{needs}
+use mathlib.Core.Path.{refl}
 use Rattle.model.proofs.First.{left-none, none-then}
 use Rattle.movement.proofs.Markings.{marking-test}
 use Rattle.model.proofs.Refusals.{answer-none, answer-stops, answer-goes-on}
@@ -47,14 +48,14 @@ run-open-spec =
     tie.close
     (tie.spec
     (λ c κs. search needs)
-    (λ c. search needs)
+    (λ c. c .match .keys1)
     returns
-    (λ c. search needs)
+    (λ c. c .match .keys2)
     (λ c κs. search needs)
-    (λ c. search needs)
-    (λ c. search needs)
+    (λ c. c .match2 .keys1)
+    (λ c. refl)
     returns-2
-    (λ c. search needs)
+    (λ c. c .match2 .keys2)
     run-sheet-requires
-    (λ c. search needs)
+    (λ c. c .before .before .run-sheet .kept .1 .1 .1 .0)
     returns-3)

@@ -1,10 +1,14 @@
 -- One ship into the record: the chain of its refusals, and what 25 leaves of a record.
-use Prim.Native.Nat.{ℕ, _+_, _≤_, _<_}
-use mathlib.Core.Path.{_≡_, refl, sym, _∙_, ap}
+use Prim.Native.Nat.{ℕ, _+_, _≤_, _<_, _^_}
+use mathlib.Core.Path.{_≡_, refl, sym, _∙_, ap, ap₂}
 use mathlib.Core.Bool.{Bool, true, false, cond, false≢true, true≢false, _||_}
 use mathlib.Core.Option.{Option, none, some}
 use lib.Dec.{ltb, eqb}
 use lib.IntN.{ℤ, pos, negsuc, natAbs, _+ℤ_}
+use lib.Signed.{mag}
+use mir.Syntax.{w64}
+use mir.Val.{toZ, ofZ, hbits}
+use mir.Facts.{toZ-ofZ}
 use native.Mathlib.Omega.{arith}
 use borrow.Author.Tests.{ltb-true, ltb-false, lt-ltb, le-ltb}
 use Rattle.model.specs.declared.Thing.the-variants.{Net, Argument}
@@ -20,6 +24,12 @@ use Rattle.model.proofs.Decisions.{Decided}
 use Rattle.model.proofs.First.{none-then, some-then}
 use Rattle.sheets.specs.Whole.{wholeNet, wholeWeights, wholeMovements}
 use Rattle.sheets.specs.Decoded.{netOf}
+use Rattle.opened.specs.declared.shape.NetShape.{NetShape}
+use Rattle.opened.specs.declared.Opened.{Opened}
+use Rattle.opened.specs.declared.Opened.the-variants as net-was
+use Rattle.opened.specs.Shape.{shapeOf}
+use Rattle.opened.specs.Opened.{opened}
+use Rattle.opened.proofs.Opening.{opened-refused, opened-shape}
 use Rattle.ships.specs.declared.Fleet.{Fleet}
 use Rattle.ships.specs.declared.Entered.{Entered}
 use Rattle.ships.specs.declared.Voyage.{Voyage}
@@ -109,6 +119,10 @@ module _ (f : Fleet) where
   unfolding roomRefusal
   room-passes h = rw (le-ltb 1000 (f .ships + 1) h)
 
+-- a sum of two figures that are read, as it is read
+pub read-sum : (a b r : ℤ) → mag a < 2 ^ hbits w64 → mag b < 2 ^ hbits w64 → mag r < 2 ^ hbits w64 → r ≡ toZ w64 (ofZ w64 a) +ℤ toZ w64 (ofZ w64 b) → toZ w64 (ofZ w64 r) ≡ a +ℤ b
+read-sum a b r p q fits e = toZ-ofZ {w = w64} {z = r} (record { sfits = fits }) ∙ e ∙ ap₂ _+ℤ_ (toZ-ofZ {w = w64} {z = a} (record { sfits = p })) (toZ-ofZ {w = w64} {z = b} (record { sfits = q }))
+
 -- nine sums, each made apart, are the record with one ship more
 pub summed : (f : Fleet) (v : Voyage) {n by6 by11 by12 by13 by14 : ℕ} {added removed : ℤ} → n ≡ number (v .answer)
     → by6 ≡ f .by6 + cond (eqb n 6) 1 0 → by11 ≡ f .by11 + cond (eqb n 11) 1 0 → by12 ≡ f .by12 + cond (eqb n 12) 1 0
@@ -127,12 +141,32 @@ module _ (f : Fleet) (s : Ship) where
   pub goes-on : (o p : Option Refusal) {x : Entered} → o ≡ none → x ≡ enteredBy p f s → x ≡ enteredBy (o ▸ p) f s
   goes-on o p e g = g ∙ ap (λ o. enteredBy o f s) (sym (none-then e refl))
 
+  -- what is left of the chain where the net is accepted
+  abbrev pub unread : Option Refusal
+  unread = wholeWeights (pairs (netOf (s .net))) (s .weights) ▸ wholeMovements (s .movements) ▸ figureRefusal f s
+
   -- the whole chain is `entered`
-  pub chain : enteredBy (recordRefusal f ▸ roomRefusal f ▸ wholeNet (s .net) ▸ wholeWeights (pairs (netOf (s .net))) (s .weights) ▸ wholeMovements (s .movements)
-      ▸ figureRefusal f s) f s
-      ≡ entered f s
+  chain : enteredBy (recordRefusal f ▸ roomRefusal f ▸ wholeNet (s .net) ▸ unread) f s ≡ entered f s
   unfolding entered shipRefusal
   chain = refl
+
+  module _ {b : Bool} (e : b ≡ isOutOfBounds f) where
+    pub ends-unsound : b ≡ true → giving f (Refused (wrong Net RecordOutside)) ≡ entered f s
+    ends-unsound t = stops _ _ (record-stops f (sym e ∙ t)) refl ∙ chain
+
+    module _ (t : b ≡ false) where
+      sound : {x : Entered} → x ≡ enteredBy (roomRefusal f ▸ wholeNet (s .net) ▸ unread) f s → x ≡ entered f s
+      sound g = goes-on _ _ (record-passes f (sym e ∙ t)) g ∙ chain
+
+      pub ends-full : 1000 < f .ships + 1 → giving f (Refused (wrong Argument (CountOutside 0))) ≡ entered f s
+      ends-full h = sound (stops _ _ (room-stops f h) refl)
+
+      module _ (h : f .ships + 1 ≤ 1000) {x : Opened} (o : x ≡ opened (wholeNet (s .net)) (shapeOf (s .net))) where
+        pub ends-refused : {r : Refusal} → x ≡ net-was.Refused r → giving f (Refused r) ≡ entered f s
+        ends-refused q = sound (goes-on _ _ (room-passes f h) (stops _ _ (opened-refused _ _ o q) refl))
+
+        pub ends-counted : {net : NetShape} {r : Entered} → x ≡ net-was.Open net → r ≡ enteredBy unread f s → r ≡ entered f s
+        ends-counted q g = sound (goes-on _ _ (room-passes f h) (goes-on _ _ (opened-shape _ _ o q .0) g))
 
   module _ {v : Voyage} {next : Fleet} {a b : Bool} (at : v ≡ voyageOf s) (is : next ≡ withVoyage f v) (p : a ≡ isPast (next .added)) (q : b ≡ isPast (next .removed)) where
     next-is : next ≡ withVoyage f (voyageOf s)

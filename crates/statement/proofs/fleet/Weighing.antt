@@ -1,14 +1,15 @@
 -- What the accepted movements of a run add and remove, so far: each sum is exact.
-use Prim.Native.Nat.{ℕ, suc, _+_, _≤_, _<_}
+use Prim.Native.Nat.{ℕ, suc, _+_, _≤_, _<_, _^_}
 use mathlib.Core.Path.{_≡_, refl, _∙_, ap}
 use mathlib.Core.Bool.{true, false}
 use mathlib.Core.List.{List}
 use lib.IntN.{ℤ, pos, negsuc, natAbs, _+ℤ_, _-ℤ_}
-use lib.Signed.{ltZ}
+use lib.Signed.{ltZ, mag}
 use lib.ListN.{length, take, getD}
 use lib.Seq.{length-take-le}
 use mir.Syntax.{w64}
-use mir.Val.{SFits}
+use mir.Val.{SFits, toZ, ofZ, hbits}
+use mir.Facts.{toZ-ofZ}
 use native.Mathlib.Nat.{zero-add}
 use native.Mathlib.Numerals.{add-one}
 use native.Mathlib.Omega.{arith}
@@ -120,9 +121,13 @@ module _ {s : List ℕ} {shape : NetShape} {w movements : List ℕ} (read : Read
     there : k < length ts
     there = omega (arith, counted)
 
-    module _ {changes : List ℤ} (table : ChangesAre net weights changes) {x : ℤ} (e : x ≡ getD changes (t .0) (pos 0)) where
+    -- the entry of the mode, as it is read
+    module _ {changes : List ℤ} (table : ChangesAre net weights changes) (given : mag (getD changes (t .0) (pos 0)) < 2 ^ hbits w64) where
+      abbrev x : ℤ
+      x = toZ w64 (ofZ w64 (getD changes (t .0) (pos 0)))
+
       change-is : x ≡ change net weights t
-      change-is = e ∙ table .each (t .0) along-mode
+      change-is = toZ-ofZ (record { sfits = given }) ∙ table .each (t .0) along-mode
 
       pub change-small : natAbs x ≤ heaviestMode
       change-small = rw change-is (change-size (read .opened) w (read .weighed) t)
@@ -137,14 +142,23 @@ module _ {s : List ℕ} {shape : NetShape} {w movements : List ℕ} (read : Read
         removed-next = rw (along .removes, change-is, q, add-one, one-more (λ t. lost (change net weights t)) ts k (modeNo 0) there)
 
         -- with what the calls have given
-        pub added-fits : {g : ℤ} → g ≡ pos (gained x) → SFits w64 (a +ℤ g)
-        added-fits e = rw (e, added-next) (fits-size w64 (pos (addedBy net weights (take (k + 1) ts))) (omega (arith, added-small (k + 1) (omega arith))))
+        module _ {g : ℤ} (fits : mag g < 2 ^ hbits w64) (e : g ≡ pos (gained x)) where
+          adds-next : a +ℤ toZ w64 (ofZ w64 g) ≡ pos (addedBy net weights (take (k + 1) ts))
+          adds-next = ap (_+ℤ_ a) (toZ-ofZ (record { sfits = fits }) ∙ e) ∙ added-next
 
-        pub removed-fits : {l : ℤ} → l ≡ pos (lost x) → SFits w64 (b +ℤ l)
-        removed-fits e = rw (e, removed-next) (fits-size w64 (pos (removedBy net weights (take (k + 1) ts))) (omega (arith, removed-small (k + 1) (omega arith))))
+          pub added-fits : SFits w64 (a +ℤ toZ w64 (ofZ w64 g))
+          added-fits = rw adds-next (fits-size w64 (pos (addedBy net weights (take (k + 1) ts))) (omega (arith, added-small (k + 1) (omega arith))))
 
-        pub along-more : {g l y z : ℤ} → g ≡ pos (gained x) → l ≡ pos (lost x) → y ≡ a +ℤ g → z ≡ b +ℤ l → Along net weights ts (k + 1) y z
-        along-more e f p q = record { adds = p ∙ rw e added-next; removes = q ∙ rw f removed-next }
+        module _ {l : ℤ} (fits : mag l < 2 ^ hbits w64) (e : l ≡ pos (lost x)) where
+          removes-next : b +ℤ toZ w64 (ofZ w64 l) ≡ pos (removedBy net weights (take (k + 1) ts))
+          removes-next = ap (_+ℤ_ b) (toZ-ofZ (record { sfits = fits }) ∙ e) ∙ removed-next
+
+          pub removed-fits : SFits w64 (b +ℤ toZ w64 (ofZ w64 l))
+          removed-fits = rw removes-next (fits-size w64 (pos (removedBy net weights (take (k + 1) ts))) (omega (arith, removed-small (k + 1) (omega arith))))
+
+        pub along-more : {g l : ℤ} → mag g < 2 ^ hbits w64 → g ≡ pos (gained x) → mag l < 2 ^ hbits w64 → l ≡ pos (lost x)
+            → Along net weights ts (k + 1) (toZ w64 (ofZ w64 (a +ℤ toZ w64 (ofZ w64 g)))) (toZ w64 (ofZ w64 (b +ℤ toZ w64 (ofZ w64 l))))
+        along-more g e l f = record { adds = toZ-ofZ (added-fits g e) ∙ adds-next g e; removes = toZ-ofZ (removed-fits l f) ∙ removes-next l f }
 
   -- all are weighed
   pub along-ends : {k : ℕ} {a b : ℤ} → Along net weights ts k a b → k ≤ accepted → accepted ≤ k

@@ -24,4 +24,4 @@ returns-2 c =
 pub audit-spec : {M : Type 1} → statement M
 audit-spec =
     tie.close
-    (tie.spec (λ c κs. search needs) (λ c. search needs) (λ c. search needs) audit-open-requires returns returns-2)
+    (tie.spec (λ c κs. search needs) (λ c. c .match .keys1) (λ c. c .match .keys2) audit-open-requires returns returns-2)

@@ -62,9 +62,9 @@ arcs-answer-spec =
     (λ c. omega (arith, sizes (c .before .before .before .pre .0) .modesWithin))
     (λ c κs. search needs)
     (λ c κs. search needs)
-    (λ c. search needs)
+    (λ c. c .match .keys1)
     returns
-    (λ c. search needs)
+    (λ c. c .match .keys2)
     (λ c. search needs)
     (λ c. search needs)
     loop-again

@@ -36,9 +36,9 @@ mode-answer-spec =
     μ-loop
     (λ c. (search needs, sym (first-none _)))
     (λ c κs. search needs)
-    (λ c. search needs)
+    (λ c. c .match .keys1)
     returns
-    (λ c. search needs)
+    (λ c. c .match .keys2)
     (λ c. search needs)
     (λ c. search needs)
     loop-again

@@ -1,5 +1,4 @@
 -- What fits with more arcs fits; else they are counted.
-use borrow.Author.Needs.{needs}
 use mathlib.Core.Path.{sym, _∙_, ap}
 use native.Mathlib.Omega.{arith}
 use Rattle.model.specs.Refusals.{answer}
@@ -24,6 +23,11 @@ returns c =
     let accepted = c .enum-told .given .1 in
     accepted ∙ sym (ap answer (still-fits (pre .0) _ (pre .1 .0) (pre .1 .1 .1 .1 .0) (answer-none _ (c .before .before .room-answer .ensures) accepted)))
 
+count-arcs-requires : tie.Need-count-arcs-requires
+count-arcs-requires c κs =
+    let pre = c .before .before .before .before .pre in
+    (pre .0, (pre .1 .0, (pre .1 .1 .0, pre .1 .1 .1 .0)))
+
 room-answer-requires-2 : tie.Need-room-answer-requires-2
 room-answer-requires-2 c κs =
     let pre = c .before .before .before .before .before .pre in
@@ -44,9 +48,9 @@ counted-answer-spec =
     tie.close
     (tie.spec
     room-answer-requires
-    (λ c. search needs)
+    (λ c. c .match .keys1)
     returns
-    (λ c. search needs)
-    (λ c κs. search needs)
+    (λ c. c .match .keys2)
+    count-arcs-requires
     room-answer-requires-2
     returns-2)

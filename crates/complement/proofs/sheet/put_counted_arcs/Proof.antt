@@ -1,6 +1,6 @@
 -- The arcs mode by mode, and before them their count where the version says it.
 use borrow.Author.Needs.{needs}
-use mathlib.Core.Path.{refl, sym}
+use mathlib.Core.Path.{refl, sym, _∙_}
 use lib.ListN.{length}
 use native.Mathlib.Omega.{arith}
 use Rattle.second_form.specs.Complement.{complement}
@@ -47,5 +47,5 @@ put-counted-arcs-spec =
     put-arcs-requires
     (λ c. omega (arith, c .before .before .before .put-arcs .ensures .next))
     put-total-requires
-    (λ c. search needs)
+    (λ c. c .before .before .put-total .kept .0 ∙ c .before .before .before .before .before .before .put-arcs .kept .1 .1 .1 .1 .1 .0)
     returns)

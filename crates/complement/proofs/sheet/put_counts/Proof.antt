@@ -1,7 +1,6 @@
 -- The head, the place count, the transition count.
-use borrow.Author.Needs.{needs}
 use Prim.Native.Nat.{_-_}
-use mathlib.Core.Path.{_≡_, sym, ap, ap₂}
+use mathlib.Core.Path.{_≡_, sym, _∙_, ap, ap₂}
 use native.Mathlib.Omega.{arith}
 use Rattle.model.specs.Nets.{ruleNumber}
 use Rattle.second_form.specs.Complement.{complement}
@@ -52,5 +51,5 @@ put-counts-spec =
     put-head-requires
     put-count-requires
     put-count-requires-2
-    (λ c. search needs)
+    (λ c. c .before .before .put-count2 .kept .0 ∙ c .before .before .before .before .before .before .put-count .kept .0 ∙ c .before .before .before .before .before .before .before .before .before .before .put-head .kept .0)
     returns)

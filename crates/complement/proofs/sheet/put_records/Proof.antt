@@ -1,5 +1,5 @@
 -- Places, modes and pairs.
-use borrow.Author.Needs.{needs}
+use mathlib.Core.Path.{_∙_}
 use Rattle.sheets.proofs.written.Puts.{room-first, room-next, puts-both}
 use Rattle.complement.proofs.sheet.put_records.Statement.{statement}
 use Rattle.complement.proofs.sheet.put_records.Tie as tie
@@ -25,5 +25,5 @@ put-records-spec =
     put-places-requires
     put-modes-requires
     put-pairs-requires
-    (λ c. search needs)
+    (λ c. c .before .before .put-pairs .kept .1 .1 .0 ∙ c .before .before .before .before .before .before .put-modes .kept .1 .1 .0 ∙ c .before .before .before .before .before .before .before .before .before .before .put-places .kept .1 .1 .1 .0)
     returns)

@@ -1,6 +1,6 @@
 -- The records and the arcs, then what stands before them.
 use borrow.Author.Needs.{needs}
-use mathlib.Core.Path.{refl, sym}
+use mathlib.Core.Path.{refl, sym, _∙_}
 use native.Mathlib.Omega.{arith}
 use Rattle.second_form.specs.Complement.{complement}
 use Rattle.sheets.specs.Decoded.{netOf}
@@ -53,5 +53,5 @@ put-sheet-spec =
     put-records-requires
     put-counted-arcs-requires
     put-counts-requires
-    (λ c. search needs)
+    (λ c. c .before .before .put-counts .kept .1 .1 .1 .1 .0 ∙ c .before .before .before .before .before .before .put-counted-arcs .kept .1 .1 .1 .1 .1 .0 ∙ c .before .before .before .before .before .before .before .before .before .before .put-records .kept .1 .1 .1 .0)
     returns)

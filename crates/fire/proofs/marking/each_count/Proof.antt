@@ -40,9 +40,9 @@ each-count-spec =
     μ-loop
     loop-holds
     (λ c κs. search needs)
-    (λ c. search needs)
+    (λ c. c .match .keys1)
     returns
-    (λ c. search needs)
+    (λ c. c .match .keys2)
     (λ c. search needs)
     (λ c. search needs)
     loop-again

@@ -1,11 +1,8 @@
 -- Refused by the sums, and nothing is written; or the members have fired at once.
-use borrow.Author.Needs.{needs}
-use mathlib.Core.Path.{refl, sym, _∙_, ap}
+use mathlib.Core.Path.{refl}
 use native.Mathlib.Omega.{arith}
-use Rattle.model.specs.Refusals.{answer}
 use Rattle.opened.proofs.Shapes.{sizes}
-use Rattle.leaving.proofs.Leaving.{leaves-refused, leaves-written}
-use Rattle.fire.proofs.step.Summing.{sums-none, tabled, sums-below, sums-refusal, sums-fired}
+use Rattle.fire.proofs.step.Summing.{sums-none, tabled, sums-below, sums-refused, sums-written}
 use Rattle.fire.proofs.step.fire_members.Statement.{statement}
 use Rattle.fire.proofs.step.fire_members.Tie as tie
 
@@ -24,8 +21,7 @@ returns : tie.Need-returns
 returns c =
     let sums = c .before .before .before .before .before .before .before in
     let a = sums .before .before .before .before .before .before .before .args in
-    let is = ap answer (sums-refusal (a .modes .now) (sums .sum-members .ensures) (a .marking .now)) in
-    leaves-refused _ (c .before .before .find-refusal .ensures ∙ is) (c .enum-told .given .1)
+    sums-refused (a .modes .now) (sums .sum-members .ensures) (a .marking .now) (c .before .before .find-refusal .ensures) (c .enum-told .given .1)
 
 write-pairs-requires : tie.Need-write-pairs-requires
 write-pairs-requires c κs =
@@ -38,9 +34,8 @@ returns-2 c =
     let passed = c .before .before .before .before .before .before .before in
     let sums = passed .before .before .before .before .before .before .before in
     let a = sums .before .before .before .before .before .before .before .args in
-    let is = ap answer (sums-refusal (a .modes .now) (sums .sum-members .ensures) (a .marking .now)) in
-    leaves-written _ (sym (passed .enum-told2 .given .1) ∙ passed .before .before .find-refusal .ensures ∙ is) refl
-    (c .before .before .write-pairs .ensures ∙ sums-fired (a .modes .now) (sums .sum-members .ensures) (a .marking .now))
+    sums-written (a .modes .now) (sums .sum-members .ensures) (a .marking .now) (passed .before .before .find-refusal .ensures) (passed .enum-told2 .given .1)
+    (c .before .before .write-pairs .ensures)
 
 pub fire-members-spec : {M : Type 1} → statement M
 fire-members-spec =
@@ -48,10 +43,10 @@ fire-members-spec =
     (tie.spec
     sum-members-requires
     find-refusal-requires
-    (λ c. search needs)
-    (λ c. search needs)
+    (λ c. c .match .keys1)
+    (λ c. refl)
     returns
-    (λ c. search needs)
+    (λ c. c .match .keys2)
     write-pairs-requires
-    (λ c. search needs)
+    (λ c. c .before .before .write-pairs .kept .1 .1 .1 .1 .1 .0)
     returns-2)

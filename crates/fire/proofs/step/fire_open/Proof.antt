@@ -1,5 +1,6 @@
 -- The marking, 4, 6, or what firing the members gives.
 use borrow.Author.Needs.{needs}
+use mathlib.Core.Path.{refl}
 use Rattle.model.proofs.Refusals.{answer-none}
 use Rattle.movement.proofs.Markings.{marking-test}
 use Rattle.leaving.proofs.Leaving.{leaves-stops, leaves-goes-on}
@@ -44,15 +45,15 @@ fire-open-spec =
     tie.close
     (tie.spec
     (λ c κs. search needs)
-    (λ c. search needs)
-    (λ c. search needs)
+    (λ c. c .match .keys1)
+    (λ c. refl)
     returns
-    (λ c. search needs)
+    (λ c. c .match .keys2)
     (λ c κs. search needs)
-    (λ c. search needs)
-    (λ c. search needs)
+    (λ c. c .match2 .keys1)
+    (λ c. refl)
     returns-2
-    (λ c. search needs)
+    (λ c. c .match2 .keys2)
     fire-members-requires
-    (λ c. search needs)
+    (λ c. c .before .before .fire-members .kept .1 .1 .0)
     returns-3)

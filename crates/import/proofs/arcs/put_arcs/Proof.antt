@@ -41,9 +41,9 @@ put-arcs-spec =
     μ-loop
     loop-holds
     write-line-requires
-    (λ c. search arith)
+    (λ c. c .match .keys1)
     same-length
     returns
-    (λ c. search arith)
+    (λ c. c .match .keys2)
     loop-less
     loop-again)

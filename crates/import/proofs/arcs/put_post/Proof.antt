@@ -29,9 +29,9 @@ put-post-spec =
     (tie.spec
     sub-put32
     put32-requires
-    (λ c. search arith)
+    (λ c. c .before .before .put32 .kept .0)
     returns
     (λ c. search arith)
     put-arc-requires
-    (λ c. search arith)
+    (λ c. c .before .before .put-arc .kept .0)
     returns-2)

@@ -46,22 +46,22 @@ write-line-spec =
     tie.close
     (tie.spec
     (λ c κs. search arith)
-    (λ c. search arith)
+    (λ c. c .match .keys1)
     (λ c κs. search arith)
-    (λ c. search arith)
+    (λ c. c .match .keys2)
     sub-put-arc
     put-arc-requires
     after-pre-requires
-    (λ c. search arith)
+    (λ c. c .match .keys3)
     put-post-requires
     after-post-requires
-    (λ c. search arith)
-    (λ c. search arith)
-    (λ c. search arith)
+    (λ c. c .match .keys4)
+    (λ c. c .match .keys5)
+    (λ c. c .match .keys6)
     returns
-    (λ c. search arith)
+    (λ c. c .before .before .before .put-arc .kept .0)
     returns-2
-    (λ c. search arith)
+    (λ c. c .before .before .before .put-post .kept .0)
     returns-3
     (λ c. place-wrote (c .before .before .read-line .ensures) (c .enum-told .given .1))
     (λ c. close-wrote (c .before .before .read-line .ensures) (c .enum-told2 .given .1))

@@ -39,9 +39,9 @@ put-places-spec =
     μ-loop
     loop-holds
     write-place-requires
-    (λ c. search arith)
+    (λ c. c .match .keys1)
     (λ c. search arith)
     returns
-    (λ c. search arith)
+    (λ c. c .match .keys2)
     loop-less
     loop-again)

@@ -16,15 +16,15 @@ write-place-spec =
     tie.close
     (tie.spec
     (λ c κs. search arith)
-    (λ c. search arith)
+    (λ c. c .match .keys1)
     put-pair-requires
     (λ c κs. search arith)
-    (λ c. search arith)
-    (λ c. search arith)
-    (λ c. search arith)
-    (λ c. search arith)
-    (λ c. search arith)
-    (λ c. search arith)
+    (λ c. c .match .keys2)
+    (λ c. c .match .keys3)
+    (λ c. c .match .keys4)
+    (λ c. c .match .keys5)
+    (λ c. c .match .keys6)
+    (λ c. c .before .before .before .put-pair .kept .0)
     returns
     (λ c. begun-placed (c .before .before .read-line .ensures) (c .enum-told .given .1))
     (λ c. pre-placed (c .before .before .read-line .ensures) (c .enum-told2 .given .1))

@@ -25,12 +25,12 @@ check-text-spec =
     tie.close
     (tie.spec
     (λ c κs. search arith)
-    (λ c. search arith)
-    (λ c. search arith)
+    (λ c. c .match .keys1)
+    (λ c. c .match .keys2)
     returns
     (λ c κs. search arith)
-    (λ c. search arith)
-    (λ c. search arith)
+    (λ c. c .match2 .keys1)
+    (λ c. c .match2 .keys2)
     returns-2
     returns-3
     returns-4

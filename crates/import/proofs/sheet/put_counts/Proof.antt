@@ -1,5 +1,5 @@
 -- Four parts in turn.
-use native.Mathlib.Omega.{arith}
+use mathlib.Core.Path.{_∙_}
 use Rattle.sheets.proofs.written.Puts.{put-length, count-fits, room-first, room-next, puts-both}
 use Rattle.import.proofs.sheet.put_counts.Statement.{statement}
 use Rattle.import.proofs.sheet.put_counts.Tie as tie
@@ -32,5 +32,5 @@ put-counts-spec =
     put-count-requires-2
     put-ones-requires
     put-ones-requires-2
-    (λ c. search arith)
+    (λ c. c .before .before .put-ones2 .kept .0 ∙ c .before .before .before .before .before .before .put-ones .kept .0 ∙ c .before .before .before .before .before .before .before .before .before .before .put-count2 .kept .0 ∙ c .before .before .before .before .before .before .before .before .before .before .before .before .before .before .put-count .kept .0)
     returns)

@@ -25,4 +25,4 @@ returns-2 c =
 pub arc-offset-spec : {M : Type 1} → statement M
 arc-offset-spec =
     tie.close
-    (tie.spec (λ c κs. search arith) (λ c. search arith) (λ c. omega (arith, before c)) (λ c. search arith) (λ c. omega (arith, before c)) returns-2)
+    (tie.spec (λ c κs. search arith) (λ c. c .match .keys1) (λ c. omega (arith, before c)) (λ c. c .match .keys2) (λ c. omega (arith, before c)) returns-2)

@@ -13,4 +13,4 @@ returns-2 c =
 pub lead-spec : {M : Type 1} → statement M
 lead-spec =
     tie.close
-    (tie.spec (λ c. search arith) (λ c. search arith) (λ c. search arith) (λ c. search arith) (λ c. search arith) (λ c. search arith) returns-2)
+    (tie.spec (λ c. c .match .keys1) (λ c. c .match .keys2) (λ c. search arith) (λ c. search arith) (λ c. search arith) (λ c. search arith) returns-2)

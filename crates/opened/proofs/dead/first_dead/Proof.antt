@@ -16,4 +16,4 @@ returns-2 c =
 
 pub first-dead-spec : {M : Type 1} → statement M
 first-dead-spec =
-    tie.close (tie.spec (λ c κs. search needs) (λ c. search needs) (λ c. search needs) search-requires returns returns-2)
+    tie.close (tie.spec (λ c κs. search needs) (λ c. c .match .keys1) (λ c. c .match .keys2) search-requires returns returns-2)

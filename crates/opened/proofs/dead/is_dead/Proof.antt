@@ -23,4 +23,4 @@ returns-2 c =
 pub is-dead-spec : {M : Type 1} → statement M
 is-dead-spec =
     tie.close
-    (tie.spec (λ c κs. search needs) (λ c. search needs) (λ c. search needs) mode-answer-requires returns returns-2)
+    (tie.spec (λ c κs. search needs) (λ c. c .match .keys1) (λ c. c .match .keys2) mode-answer-requires returns returns-2)

@@ -10,4 +10,4 @@ returns-2 : tie.Need-returns-2
 returns-2 c = rw (c .enum-told2 .given .1)
 
 pub pre-room-spec : {M : Type 1} → statement M
-pre-room-spec = tie.close (tie.spec (λ c. search needs) (λ c κs. search needs) (λ c. search needs) returns returns-2)
+pre-room-spec = tie.close (tie.spec (λ c. c .match .keys1) (λ c κs. search needs) (λ c. c .match .keys2) returns returns-2)

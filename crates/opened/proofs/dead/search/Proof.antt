@@ -30,14 +30,18 @@ search-holds c = (search needs, search needs, λ u h. absurd (omega arith))
 
 arcs-at-requires : tie.Need-arcs-at-requires Inv-loop μ-loop Inv-search μ-search
 arcs-at-requires c κs =
-    (search needs, (search needs, (search needs, sizes (c .before .before .before .before .before .pre) .modesWithin)))
+    let pre = c .before .before .before .before .before .pre in
+    (pre, (c .before .before .before .starts .ensures, (c .before .search-test .taken, sizes pre .modesWithin)))
+
+arc-requires : tie.Need-arc-requires Inv-loop μ-loop Inv-search μ-search
+arc-requires c κs = (c .before .before .before .before .before .before .before .before .pre, record { own = c .before .before .arcs-at .ensures .own; there = c .loop-test .taken })
 
 loop-again : tie.Need-loop-again Inv-loop μ-loop Inv-search μ-search
 loop-again c =
     let l = c .before .before .before .before .loop in
     let b = c .before .before .before .before .before in (
-      search needs,
-      search needs,
+      omega (arith, c .before .before .before .loop-test .taken),
+      l .inv .1,
       passed-more (netOf (b .before .before .before .before .before .before .args .s .now)) (b .arcs-at .result .start) (l .i) (l .inv .2) (sym (arc-kills (c .before .before .arc .ensures) (c .before .kills .ensures)) ∙ c .if1 .left),
     )
 
@@ -45,8 +49,8 @@ search-again : tie.Need-search-again Inv-loop μ-loop Inv-search μ-search
 search-again c =
     let b = c .before .before in
     let l = c .before .loop in (
-      search needs,
-      search needs,
+      omega (arith, b .before .before .search-test .taken),
+      l .inv .1,
       below-more _ _ (b .before .before .before .search .inv .2)
           (none-kills (b .before .before .before .before .before .before .pre) _ _ _ (segment-own (b .arcs-at .ensures)) (λ i h. l .inv .2 i (omega (arith, c .loop-test .left)))),
     )
@@ -61,9 +65,8 @@ returns-2 c =
     let l = b .before .before .loop in
     let a = b .before .before .before in
     let m = a .before .before .before .search in
-    let i = b .before .loop-test .taken in
-    one-named (a .before .before .before .before .before .before .pre) (m .t) _ _ _ (a .before .before .search-test .taken) (m .inv .2) (segment-own (a .arcs-at .ensures)) (omega arith) (omega arith) (l .inv .2) (b .arc .ensures)
-    (sym (arc-kills (b .arc .ensures) (c .before .before .before .kills .ensures)) ∙ c .before .before .if1 .taken)
+    one-named (a .before .before .before .before .before .before .pre) (m .t) (a .arcs-at .result) (l .i) (a .before .before .search-test .taken) (m .inv .2) (a .arcs-at .ensures) (b .before .loop-test .taken) (l .inv .2)
+    (b .arc .ensures) (c .before .before .before .kills .ensures) (c .before .before .if1 .taken)
 
 pub search-spec : {M : Type 1} → statement M
 search-spec =
@@ -76,9 +79,9 @@ search-spec =
     (λ c κs. search needs)
     search-holds
     arcs-at-requires
-    (λ c. (search needs, search needs, λ k h l. absurd (omega arith)))
-    (λ c κs. search needs)
-    (λ c κs. search needs)
+    (λ c. (search needs, c .before .before .before .search .inv .1, λ k h l. absurd (omega arith)))
+    arc-requires
+    (λ c κs. (c .before .before .before .before .before .before .before .before .before .pre, c .arc .ensures .pair))
     (λ c. search needs)
     (λ c. search needs)
     loop-again

@@ -32,9 +32,9 @@ count-arcs-spec =
     tie.close
     (tie.spec
     (λ c κs. omega (arith, headed _ (c .before .pre .0)))
-    (λ c. search arith)
+    (λ c. c .match .keys1)
     count-at-requires
-    (λ c. search arith)
+    (λ c. c .match .keys2)
     arcs-before-requires
     returns
     returns-2)

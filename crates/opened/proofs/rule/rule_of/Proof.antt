@@ -12,4 +12,4 @@ returns-2 : tie.Need-returns-2
 returns-2 c = rw (c .before .enum-told2 .given .1) (c .named-rule .ensures)
 
 pub rule-of-spec : {M : Type 1} → statement M
-rule-of-spec = tie.close (tie.spec (λ c. search needs) (λ c. search needs) (λ c κs. search needs) returns returns-2)
+rule-of-spec = tie.close (tie.spec (λ c. c .match .keys1) (λ c. c .match .keys2) (λ c κs. search needs) returns returns-2)

@@ -15,4 +15,4 @@ returns-2 c =
     rw (opened-shape _ _ (c .before .before .before .before .open-net .ensures) (c .before .before .opened2 .given .1) .0, c .size-of .ensures)
 
 pub size-spec : {M : Type 1} → statement M
-size-spec = tie.close (tie.spec (λ c κs. search needs) (λ c. search needs) (λ c. search needs) size-of-requires returns returns-2)
+size-spec = tie.close (tie.spec (λ c κs. search needs) (λ c. c .match .keys1) (λ c. c .match .keys2) size-of-requires returns returns-2)

@@ -20,4 +20,4 @@ returns-2 c =
 pub find-start-spec : {M : Type 1} → statement M
 find-start-spec =
     tie.close
-    (tie.spec (λ c. search arith) (λ c κs. search arith) (λ c. search arith) arcs-before-requires (λ c. search arith) returns-2)
+    (tie.spec (λ c. c .match .keys1) (λ c κs. search arith) (λ c. c .match .keys2) arcs-before-requires (λ c. search arith) returns-2)

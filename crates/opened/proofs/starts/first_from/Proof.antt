@@ -40,7 +40,7 @@ first-from-spec =
     Inv-loop
     μ-loop
     (λ c. search arith)
-    (λ c κs. search arith)
+    (λ c κs. (c .before .before .before .pre .0, (c .before .before .before .pre .1 .0, c .loop-test .taken)))
     returns
     (λ c. search arith)
     (λ c. search arith)

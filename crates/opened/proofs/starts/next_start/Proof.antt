@@ -26,10 +26,10 @@ pub next-start-spec : {M : Type 1} → statement M
 next-start-spec =
     tie.close
     (tie.spec
-    (λ c. search arith)
+    (λ c. c .match .keys1)
     (λ c. search arith)
     first-from-requires
-    (λ c. search arith)
+    (λ c. c .match .keys2)
     group-end-requires
     (λ c. search arith)
     returns-2)

@@ -70,7 +70,7 @@ starts-spec =
     (λ c. omega (arith, c .before .loop .inv .2 .inside, sizes (c .before .before .before .before .pre)))
     (λ c. omega (arith, sizes (c .before .before .before .before .pre)))
     (λ c. omega (arith, sizes (c .before .before .before .before .pre)))
-    (λ c κs. search arith)
+    (λ c κs. (c .before .before .before .before .pre, (c .loop-test .taken, c .before .loop .inv .2)))
     (λ c. search arith)
     (λ c. search arith)
     loop-again

@@ -39,9 +39,9 @@ compare-spec =
     μ-loop
     loop-holds
     (λ c κs. search needs)
-    (λ c. search needs)
+    (λ c. c .match .keys1)
     returns
-    (λ c. search needs)
+    (λ c. c .match .keys2)
     (λ c. search needs)
     (λ c. search needs)
     loop-again

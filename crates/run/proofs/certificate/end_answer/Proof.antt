@@ -2,6 +2,7 @@
 use borrow.Author.Needs.{needs}
 use mathlib.Core.Path.{_∙_}
 use native.Mathlib.Omega.{arith}
+use Rattle.sheets.specs.Decoded.{netOf, movementsOf}
 use Rattle.opened.proofs.Shapes.{sizes}
 use Rattle.run.proofs.Certifying.{ends-stopped, ends-compared}
 use Rattle.run.proofs.certificate.end_answer.Statement.{statement}
@@ -18,7 +19,8 @@ returns : tie.Need-returns
 returns c =
     let ran = c .before .before .before .before in
     let wrote = ran .before .before .before .before .before .before .before in
-    ends-stopped _ _ _ (wrote .write-start .ensures) (ran .run-listed .ensures) (c .enum-told .given .1)
+    let a = wrote .before .before .before .before .before .before .args in
+    ends-stopped (netOf (a .s .now)) (movementsOf (a .movements .now)) (a .claim .now) (wrote .write-start .ensures) (ran .run-listed .ensures) (c .enum-told .given .1)
 
 compare-requires : tie.Need-compare-requires
 compare-requires c κs =
@@ -36,21 +38,22 @@ returns-2 c =
     let ran = told .before .before .before .before in
     let wrote = ran .before .before .before .before .before .before .before in
     let start = wrote .before .before .before .before .before .before in
-    ends-compared _ _ _ (wrote .write-start .ensures) (ran .run-listed .ensures) (told .enum-told2 .given .1)
-    (rw (sizes (start .pre .0) .pairs) at (c .compare .ensures))
+    let a = start .args in
+    ends-compared (netOf (a .s .now)) (movementsOf (a .movements .now)) (a .claim .now) (wrote .write-start .ensures) (ran .run-listed .ensures)
+    (told .enum-told2 .given .1) (sizes (start .pre .0) .pairs) (c .compare .ensures)
 
 pub end-answer-spec : {M : Type 1} → statement M
 end-answer-spec =
     tie.close
     (tie.spec
-    (λ c κs. search needs)
-    (λ c κs. search needs)
+    (λ c κs. (c .before .before .before .before .before .pre .0, c .before .before .before .before .before .pre .1 .1 .1))
+    (λ c κs. c .before .before .before .before .before .before .before .before .pre .0)
     (λ c. search needs)
     run-listed-requires
-    (λ c. search needs)
-    (λ c. search needs)
+    (λ c. c .match .keys1)
+    (λ c. c .before .before .before .before .run-listed .kept .1 .1 .1 .1 .1 .0 ∙ c .before .before .before .before .before .before .before .before .before .before .before .write-start .kept .1 .1 .0)
     returns
-    (λ c. search needs)
+    (λ c. c .match .keys2)
     compare-requires
-    (λ c. search needs)
+    (λ c. c .before .before .before .before .before .before .run-listed .kept .1 .1 .1 .1 .1 .0 ∙ c .before .before .before .before .before .before .before .before .before .before .before .before .before .write-start .kept .1 .1 .0)
     returns-2)

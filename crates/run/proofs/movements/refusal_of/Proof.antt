@@ -30,9 +30,9 @@ refusal-of-spec =
     tie.close
     (tie.spec
     (λ c κs. search needs)
-    (λ c. search needs)
+    (λ c. c .match .keys1)
     returns
-    (λ c. search needs)
+    (λ c. c .match .keys2)
     arcs-of-requires
     (λ c κs. search needs)
     returns-2)

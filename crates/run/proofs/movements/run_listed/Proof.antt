@@ -29,5 +29,5 @@ run-listed-spec =
     (λ c κs. movements-headed _ (c .before .before .before .before .pre .1 .0))
     (λ c κs. search needs)
     run-modes-requires
-    (λ c. search needs)
+    (λ c. c .before .before .run-modes .kept .1 .1 .1 .1 .1 .1 .1 .0)
     returns)

@@ -22,10 +22,10 @@ pub run-modes-spec : {M : Type 1} → statement M
 run-modes-spec =
     tie.close
     (tie.spec
-    (λ c κs. search needs)
+    (λ c κs. c .before .before .before .before .before .pre)
     (λ c κs. search needs)
     refusal-of-requires
-    (λ c. search needs)
+    (λ c. c .before .before .before .before .before .before .count-accepted .kept .1 .1 .1 .1 .1 .1 .1 .0)
     returns
-    (λ c. search needs)
+    (λ c. c .before .before .before .count-accepted .kept .1 .1 .1 .1 .1 .1 .1 .0)
     returns-2)

@@ -27,9 +27,9 @@ salvage-spec =
     tie.close
     (tie.spec
     (λ c κs. search needs)
-    (λ c. search needs)
-    (λ c. search needs)
+    (λ c. c .match .keys1)
+    (λ c. c .match .keys2)
     salvage-open-requires
     returns
-    (λ c. search needs)
+    (λ c. c .before .before .salvage-open .kept .1 .1 .1 .0)
     returns-2)

@@ -45,11 +45,11 @@ salvage-open-spec =
     tie.close
     (tie.spec
     (λ c κs. search needs)
-    (λ c. search needs)
+    (λ c. c .match .keys1)
     returns
-    (λ c. search needs)
+    (λ c. c .match .keys2)
     count-considered-requires
     run-considered-requires
     write-kept-requires
-    (λ c. search needs)
+    (λ c. c .before .before .write-kept .kept .1 .1 .1 .1 .0)
     returns-2)

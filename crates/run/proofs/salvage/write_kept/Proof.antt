@@ -40,5 +40,5 @@ write-kept-spec =
     returns
     put-fresh-requires
     (λ c. search needs)
-    (λ c. search needs)
+    (λ c. c .before .before .put-fresh .kept .1 .1 .0)
     returns-2)

@@ -16,4 +16,4 @@ unfolding modeBytes
 returns-2 c = rw (c .enum-told2 .given .1) nothing
 
 pub put-arc-mode-spec : {M : Type 1} → statement M
-put-arc-mode-spec = tie.close (tie.spec (λ c. search arith) put16-requires (λ c. search arith) (λ c. search arith) returns returns-2)
+put-arc-mode-spec = tie.close (tie.spec (λ c. c .match .keys1) put16-requires (λ c. c .match .keys2) (λ c. search arith) returns returns-2)

@@ -1,4 +1,5 @@
 use native.Mathlib.Omega.{arith}
+use mathlib.Core.Path.{_∙_}
 use Rattle.sheets.specs.written.Written.{headBytes}
 use Rattle.sheets.proofs.written.Puts.{put-length, room-next, puts-both, long-fits}
 use Rattle.sheets.proofs.written.put_head.Statement.{statement}
@@ -20,4 +21,4 @@ returns c =
 
 pub put-head-spec : {M : Type 1} → statement M
 put-head-spec =
-    tie.close (tie.spec (λ c. search arith) (λ c. search arith) put32-requires (λ c κs. search arith) put-version-requires (λ c. search arith) returns)
+    tie.close (tie.spec (λ c. search arith) (λ c. search arith) put32-requires (λ c κs. search arith) put-version-requires (λ c. c .before .before .put-version .kept .0 ∙ c .before .before .before .before .before .before .before .put32 .kept .0) returns)

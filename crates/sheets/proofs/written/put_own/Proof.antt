@@ -16,4 +16,4 @@ unfolding ownBytes
 returns-2 c = rw (c .before .before .before .before .enum-told2 .given .1) (c .before .before .put-count .ensures)
 
 pub put-own-spec : {M : Type 1} → statement M
-put-own-spec = tie.close (tie.spec (λ c. search arith) (λ c. search arith) put-count-requires returns (λ c. search arith) returns-2)
+put-own-spec = tie.close (tie.spec (λ c. c .match .keys1) (λ c. c .match .keys2) put-count-requires returns (λ c. search arith) returns-2)

@@ -15,4 +15,4 @@ returns-2 : tie.Need-returns-2
 returns-2 c = puts-as (total-two _ (c .enum-told2 .given .1)) (put-length nothing)
 
 pub put-total-spec : {M : Type 1} → statement M
-put-total-spec = tie.close (tie.spec (λ c. search arith) put-count-requires (λ c. search arith) (λ c. search arith) returns returns-2)
+put-total-spec = tie.close (tie.spec (λ c. c .match .keys1) put-count-requires (λ c. c .match .keys2) (λ c. search arith) returns returns-2)

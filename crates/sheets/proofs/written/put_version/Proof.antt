@@ -1,4 +1,4 @@
-use mathlib.Core.Path.{sym}
+use mathlib.Core.Path.{sym, _∙_}
 use native.Mathlib.Omega.{arith}
 use Rattle.sheets.proofs.written.Puts.{puts, put-length, room-as, puts-as}
 use Rattle.sheets.proofs.written.Versions.{version-one, version-two}
@@ -26,12 +26,12 @@ pub put-version-spec : {M : Type 1} → statement M
 put-version-spec =
     tie.close
     (tie.spec
-    (λ c. search arith)
+    (λ c. c .match .keys1)
     put-byte-requires
-    (λ c. search arith)
+    (λ c. c .match .keys2)
     put-byte-requires-2
     put-byte-requires-3
-    (λ c. search arith)
+    (λ c. c .before .before .put-byte .kept .0)
     returns
-    (λ c. search arith)
+    (λ c. c .before .before .put-byte3 .kept .0 ∙ c .before .before .before .before .before .before .put-byte2 .kept .0)
     returns-2)

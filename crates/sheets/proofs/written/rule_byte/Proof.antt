@@ -12,4 +12,4 @@ unfolding ruleNumber
 returns-2 c = rw (c .enum-told2 .given .1)
 
 pub rule-byte-spec : {M : Type 1} → statement M
-rule-byte-spec = tie.close (tie.spec (λ c. search arith) (λ c. search arith) returns returns-2)
+rule-byte-spec = tie.close (tie.spec (λ c. c .match .keys1) (λ c. c .match .keys2) returns returns-2)

@@ -15,14 +15,15 @@ use Rattle.statement.proofs.fleet.count_open.Tie as tie
 returns : tie.Need-returns
 returns c =
     let w = c .before .before in
-    stops _ _ _ _ (weights-refused (w .before .before .before .before .pre .0) _ (w .whole-weights .ensures) (c .enum-told .given .1)) (c .enum-told .given .1)
+    stops (w .before .before .before .before .args .found) _ _ _ (weights-refused (w .before .before .before .before .pre .0) _ (w .whole-weights .ensures) (c .enum-told .given .1)) (c .enum-told .given .1)
 
 returns-2 : tie.Need-returns-2
 returns-2 c =
     let m = c .before .before in
     let w = m .before .before .before in
-    goes-on _ _ _ _ (weights-pass (w .before .before .before .before .pre .0) _ (w .whole-weights .ensures) (m .before .enum-told2 .given .1))
-    (stops _ _ _ _ (answer-refused _ (sym (m .whole-movements .ensures) ∙ c .enum-told3 .given .1)) (c .enum-told3 .given .1))
+    let found = w .before .before .before .before .args .found in
+    goes-on found _ _ _ (weights-pass (w .before .before .before .before .pre .0) _ (w .whole-weights .ensures) (m .before .enum-told2 .given .1))
+    (stops found _ _ _ (answer-refused _ (sym (m .whole-movements .ensures) ∙ c .enum-told3 .given .1)) (c .enum-told3 .given .1))
 
 voyage-of-requires : tie.Need-voyage-of-requires
 unfolding wholeMovements
@@ -45,9 +46,10 @@ returns-3 c =
     let listed = sailed .before in
     let m = listed .before .before in
     let w = m .before .before .before in
-    goes-on _ _ _ _ (weights-pass (w .before .before .before .before .pre .0) _ (w .whole-weights .ensures) (m .before .enum-told2 .given .1))
-    (goes-on _ _ _ _ (answer-none _ (m .whole-movements .ensures) (listed .enum-told4 .given .1))
-    (too-heavy _ _ (sailed .voyage-of .ensures .0) (next .with-voyage .ensures)
+    let found = w .before .before .before .before .args .found in
+    goes-on found _ _ _ (weights-pass (w .before .before .before .before .pre .0) _ (w .whole-weights .ensures) (m .before .enum-told2 .given .1))
+    (goes-on found _ _ _ (answer-none _ (m .whole-movements .ensures) (listed .enum-told4 .given .1))
+    (too-heavy found _ (sailed .voyage-of .ensures .0) (next .with-voyage .ensures)
     (one .is-past .ensures
     ∙ ap isPast (toZ-ofZ {w = w64} {z = next .with-voyage .result .added} (record { sfits = one .before .struct-told .given .1 .1 .1 .1 .1 .1 .1 .0 .1 })))
     (two .is-past2 .ensures
@@ -63,9 +65,10 @@ returns-4 c =
     let listed = sailed .before in
     let m = listed .before .before in
     let w = m .before .before .before in
-    goes-on _ _ _ _ (weights-pass (w .before .before .before .before .pre .0) _ (w .whole-weights .ensures) (m .before .enum-told2 .given .1))
-    (goes-on _ _ _ _ (answer-none _ (m .whole-movements .ensures) (listed .enum-told4 .given .1))
-    (enters _ _ (sailed .voyage-of .ensures .0) (next .with-voyage .ensures)
+    let found = w .before .before .before .before .args .found in
+    goes-on found _ _ _ (weights-pass (w .before .before .before .before .pre .0) _ (w .whole-weights .ensures) (m .before .enum-told2 .given .1))
+    (goes-on found _ _ _ (answer-none _ (m .whole-movements .ensures) (listed .enum-told4 .given .1))
+    (enters found _ (sailed .voyage-of .ensures .0) (next .with-voyage .ensures)
     (one .is-past .ensures
     ∙ ap isPast (toZ-ofZ {w = w64} {z = next .with-voyage .result .added} (record { sfits = one .before .struct-told .given .1 .1 .1 .1 .1 .1 .1 .0 .1 })))
     (two .is-past2 .ensures
@@ -75,5 +78,5 @@ returns-4 c =
 pub count-open-spec : {M : Type 1} → statement M
 count-open-spec =
     tie.close
-    (tie.spec (λ c κs. search needs) (λ c. search needs) returns (λ c. search needs) (λ c κs. search needs) (λ c. search needs) returns-2 (λ c. search needs) voyage-of-requires
-    (λ c κs. search needs) (λ c κs. search needs) (λ c κs. search needs) returns-3 returns-4)
+    (tie.spec (λ c κs. search needs) (λ c. c .match .keys1) returns (λ c. c .match .keys2) (λ c κs. search needs) (λ c. c .match2 .keys1) returns-2 (λ c. c .match2 .keys2)
+    voyage-of-requires (λ c κs. (c .before .before .before .before .before .before .before .before .before .before .pre .1, c .voyage-of .ensures .1)) (λ c κs. search needs) (λ c κs. search needs) returns-3 returns-4)

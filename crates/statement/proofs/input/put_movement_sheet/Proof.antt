@@ -45,13 +45,13 @@ put-movement-sheet-spec =
     tie.close
     (tie.spec
     (λ c κs. search needs)
-    (λ c. search needs)
+    (λ c. c .match .keys1)
     (λ c κs. search needs)
-    (λ c. search needs)
+    (λ c. c .before .before .put-bad .kept .0)
     returns
-    (λ c. search needs)
+    (λ c. c .match .keys2)
     array-borrow-prefix-counts
     slice-aggregate-put-run
     put-run-requires
-    (λ c. search needs)
+    (λ c. c .before .before .before .put-run .kept .1 .1 .1 .1 .1 .0)
     returns-2)

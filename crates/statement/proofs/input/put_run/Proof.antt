@@ -1,10 +1,11 @@
 -- The first marking is accepted; `start` has its figure, and what the run has told follows.
 use borrow.Author.Needs.{needs}
 use mathlib.Core.Path.{_∙_}
-use native.Mathlib.Omega.{arith}
-use mir.Facts.{toZ-ofZ}
+use Rattle.sheets.specs.Decoded.{netOf, weightsOf, movementsOf}
 use Rattle.opened.proofs.Shapes.{sizes}
-use Rattle.statement.proofs.Texts.{started-weighs, run-told}
+use Rattle.writes.proofs.Room.{room-for}
+use Rattle.statement.proofs.Telling.{mostLines}
+use Rattle.statement.proofs.Texts.{started-weighs, started-tells, run-told}
 use Rattle.statement.proofs.input.put_run.Statement.{statement}
 use Rattle.statement.proofs.input.put_run.Tie as tie
 
@@ -28,15 +29,16 @@ put-movements-requires c κs =
     let began = tabled .before .before .before in
     let weighed = began .before .before in
     let wrote = weighed .before .before .before .before in
-    let pre = wrote .before .before .before .before .before .before .before .pre in (
-      pre .0,
+    let start = wrote .before .before .before .before .before .before .before in
+    let net = netOf (start .args .s .now) in (
+      start .pre .0,
       (
         tabled .starts .ensures,
         (
-          rw (wrote .write-start .ensures) at (ran .run-list .ensures),
+          started-tells net (wrote .write-start .ensures) (movementsOf (start .args .movements .now)) (ran .run-list .ensures),
           (
-            started-weighs _ _ (wrote .write-start .ensures) (toZ-ofZ (record { sfits = weighed .figure-of .ok }) ∙ weighed .figure-of .ensures),
-            omega (arith, began .put-start .ensures .next, began .put-start .ensures .within, began .put-start .kept .0, pre .1 .1),
+            started-weighs net (wrote .write-start .ensures) (weightsOf (start .args .weights .now)) (weighed .figure-of .ok) (weighed .figure-of .ensures),
+            room-for mostLines 32582 (began .put-start .ensures) (start .pre .1 .1),
           ),
         ),
       ),
@@ -48,8 +50,11 @@ returns c =
     let began = told .before .before .before .before .before .before .before .before .before .before .before in
     let weighed = began .before .before in
     let wrote = weighed .before .before .before .before in
-    run-told _ _ _
-    (started-weighs _ _ (wrote .write-start .ensures) (toZ-ofZ (record { sfits = weighed .figure-of .ok }) ∙ weighed .figure-of .ensures))
+    let start = wrote .before .before .before .before .before .before .before in
+    let net = netOf (start .args .s .now) in
+    let weights = weightsOf (start .args .weights .now) in
+    run-told net weights (movementsOf (start .args .movements .now))
+    (started-weighs net (wrote .write-start .ensures) weights (weighed .figure-of .ok) (weighed .figure-of .ensures))
     (began .put-start .ensures) (told .put-movements .ensures)
 
 pub put-run-spec : {M : Type 1} → statement M
@@ -59,9 +64,9 @@ put-run-spec =
     (λ c κs. search needs)
     figure-of-requires
     (λ c κs. search needs)
-    (λ c κs. search needs)
+    (λ c κs. c .before .before .before .before .before .before .before .before .before .before .before .before .before .before .before .pre .0 .opened)
     run-list-requires
     put-movements-requires
-    (λ c. search needs)
-    (λ c. search needs)
+    (λ c. c .before .before .before .before .before .before .before .run-list .kept .1 .1 .1 .1 .0 ∙ c .before .before .before .before .before .before .before .before .before .before .before .before .before .before .before .before .before .before .before .write-start .kept .1 .1 .0)
+    (λ c. c .before .before .put-movements .kept .1 .1 .1 .1 .1 .1 .1 .0 ∙ c .before .before .before .before .before .before .before .before .before .before .before .before .before .put-start .kept .0)
     returns)

@@ -40,13 +40,13 @@ put-sheets-spec =
     tie.close
     (tie.spec
     (λ c κs. search needs)
-    (λ c. search needs)
+    (λ c. c .match .keys1)
     (λ c κs. search needs)
-    (λ c. search needs)
+    (λ c. c .before .before .put-bad .kept .0)
     returns
-    (λ c. search needs)
+    (λ c. c .match .keys2)
     shape-of-requires
     after-requires
     put-weight-sheet-requires
-    (λ c. search needs)
+    (λ c. c .before .before .put-weight-sheet .kept .1 .1 .1 .0)
     returns-2)

@@ -41,12 +41,12 @@ put-weight-sheet-spec =
     tie.close
     (tie.spec
     (λ c κs. search needs)
-    (λ c. search needs)
+    (λ c. c .match .keys1)
     (λ c κs. search needs)
-    (λ c. search needs)
+    (λ c. c .before .before .put-bad .kept .0)
     returns
-    (λ c. search needs)
+    (λ c. c .match .keys2)
     after-requires
     put-movement-sheet-requires
-    (λ c. search needs)
+    (λ c. c .before .before .put-movement-sheet .kept .1 .1 .1 .1 .0)
     returns-2)

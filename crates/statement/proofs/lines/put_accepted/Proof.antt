@@ -1,6 +1,6 @@
 -- The position, the mode, the answer, the figure.
 use Rattle.statement.specs.lines.Lines.{line, acceptedLine}
-use mathlib.Core.Path.{refl}
+use mathlib.Core.Path.{refl, _∙_}
 use mir.Facts.{toZ-ofZ}
 use native.Mathlib.Omega.{arith}
 use Rattle.text.specs.Decimals.{decimal, decimalWithin}
@@ -42,6 +42,16 @@ write-byte-requires-2 c κs =
     room-for 1 31 (figure .write-signed-by .ensures)
     (room 52 (answer .write-bytes .ensures) (room 55 (mode .write-to-eight .ensures) (room 63 (space .write-byte .ensures) (room 64 (place .write-decimal-by .ensures) (place .before .before .before .pre .1)))))
 
+same-length : tie.Need-same-length
+same-length c =
+    let end = c .before .before in
+    let figure = end .before .before .before .before in
+    let answer = figure .before .before .before .before in
+    let mode = answer .before .before .before .before .before in
+    let space = mode .before .before .before .before .before in
+    end .write-byte2 .kept .0 ∙ figure .write-signed-by .kept .1 .0 ∙ answer .write-bytes .kept .0 ∙ mode .write-to-eight .kept .1 .0 ∙ space .write-byte .kept .0
+    ∙ space .before .before .before .before .write-decimal-by .kept .1 .0
+
 returns : tie.Need-returns
 unfolding line acceptedLine decimal decimalWithin
 returns c =
@@ -60,4 +70,4 @@ pub put-accepted-spec : {M : Type 1} → statement M
 put-accepted-spec =
     tie.close
     (tie.spec (λ c κs. search arith) (λ c κs. search arith) (λ c. search arith) write-to-eight-requires (λ c. refl) write-bytes-requires write-signed-by-requires
-    write-byte-requires-2 (λ c. search arith) returns)
+    write-byte-requires-2 same-length returns)

@@ -1,4 +1,5 @@
 -- The word, the movements accepted, the figure.
+use mathlib.Core.Path.{_∙_}
 use Rattle.statement.specs.lines.Lines.{line, endLine}
 use mir.Facts.{toZ-ofZ}
 use native.Mathlib.Omega.{arith}
@@ -14,4 +15,4 @@ returns c =
     rw (← toZ-ofZ (second .before .before .before .before .before .before .before .before .fits .figure)) (second .before .before .before .before .write-bytes .ensures and second .next-decimal .ensures and last .last-figure .ensures)
 
 pub put-end-spec : {M : Type 1} → statement M
-put-end-spec = tie.close (tie.spec (λ c. search arith) (λ c κs. search arith) (λ c κs. search arith) (λ c κs. search arith) (λ c. search arith) returns)
+put-end-spec = tie.close (tie.spec (λ c. search arith) (λ c κs. search arith) (λ c κs. search arith) (λ c κs. search arith) (λ c. c .before .before .last-figure .kept .0 ∙ c .before .before .before .before .before .before .next-decimal .kept .0 ∙ c .before .before .before .before .before .before .before .before .before .before .write-bytes .kept .0) returns)

@@ -1,6 +1,6 @@
 -- The word, the position, the mode, the answer, the pair and the amount.
 use Rattle.statement.specs.lines.Lines.{line, refusedLine}
-use mathlib.Core.Path.{refl}
+use mathlib.Core.Path.{refl, _∙_}
 use native.Mathlib.Omega.{arith}
 use Rattle.writes.proofs.Writing.{_and_}
 use Rattle.writes.proofs.Room.{room, room-for}
@@ -39,6 +39,16 @@ last-decimal-requires c κs =
     room 22 (fourth .next-decimal4 .ensures)
     (room 43 (third .next-decimal3 .ensures) (room 64 (second .next-decimal2 .ensures) (room 85 (first .next-decimal .ensures) (room 106 (word .write-bytes .ensures) (word .before .before .before .before .before .pre)))))
 
+same-length : tie.Need-same-length
+same-length c =
+    let last = c .before .before in
+    let fourth = last .before .before .before .before in
+    let third = fourth .before .before .before .before in
+    let second = third .before .before .before .before in
+    let first = second .before .before .before .before .before in
+    last .last-decimal .kept .0 ∙ fourth .next-decimal4 .kept .0 ∙ third .next-decimal3 .kept .0 ∙ second .next-decimal2 .kept .0 ∙ first .next-decimal .kept .0
+    ∙ first .before .before .before .before .write-bytes .kept .0
+
 returns : tie.Need-returns
 unfolding line refusedLine
 returns c =
@@ -56,4 +66,4 @@ pub put-refused-spec : {M : Type 1} → statement M
 put-refused-spec =
     tie.close
     (tie.spec (λ c κs. search arith) (λ c. refl) (λ c κs. search arith) (λ c κs. search arith) (λ c. search arith) next-decimal-requires-2 next-decimal-requires-3
-    next-decimal-requires-4 last-decimal-requires (λ c. search arith) returns)
+    next-decimal-requires-4 last-decimal-requires same-length returns)

@@ -3,6 +3,7 @@ use borrow.Author.Needs.{needs}
 use Prim.Native.Nat.{_≤_, _-_}
 use mathlib.Core.Path.{_≡_, refl, _∙_}
 use lib.ListN.{length}
+use native.Mathlib.Nat.{lt-of-le-of-lt}
 use native.Mathlib.Omega.{arith}
 use mir.Syntax.{w64}
 use mir.Val.{toZ}
@@ -56,8 +57,7 @@ add-figure c =
     let read = c .before .before in
     let at = read .before .before in
     let pre = at .before .before .before .before .before .before .before .before .before .pre in
-    next-fits (pre .0) (pre .1 .1 .0) (at .loop .inv .2) (read .before .loop-test .taken) (read .movement .ensures) (at .before .before .write-changes .ensures)
-    (toZ-ofZ (record { sfits = c .figure .given }))
+    next-fits (pre .0) (pre .1 .1 .0) (at .loop .inv .2) (read .before .loop-test .taken) (read .movement .ensures) (at .before .before .write-changes .ensures) (c .figure .given)
 
 put-accepted-requires : tie.Need-put-accepted-requires Inv-loop μ-loop
 put-accepted-requires c κs =
@@ -73,13 +73,11 @@ loop-again c =
     let read = summed .before .before in
     let at = read .before .before in
     let pre = at .before .before .before .before .before .before .before .before .before .pre in
-    let table = at .before .before .write-changes .ensures in
-    let entry = toZ-ofZ (record { sfits = summed .figure .given }) in
-    let h = read .before .loop-test .taken in
-    let fits = next-fits (pre .0) (pre .1 .1 .0) (at .loop .inv .2) h (read .movement .ensures) table entry in (
-      search needs,
+    let h = read .before .loop-test .taken in (
+      omega (arith, h),
       told .put-accepted .kept .1 .0 ∙ at .loop .inv .1,
-      along-more (pre .0) (pre .1 .1 .0) (at .loop .inv .2) h (read .movement .ensures) table entry (toZ-ofZ fits) (told .put-accepted .ensures),
+      along-more (pre .0) (pre .1 .1 .0) (at .loop .inv .2) h (read .movement .ensures) (at .before .before .write-changes .ensures) (summed .figure .given)
+          (told .put-accepted .ensures),
     )
 
 put-stop-requires : tie.Need-put-stop-requires Inv-loop μ-loop
@@ -89,7 +87,7 @@ put-stop-requires c κs =
     let k = at .loop .inv .0 in (
       pre .0 .listed,
       (
-        omega (arith, refused-there (pre .0) (pre .1 .1 .0) (c .before .before .answer .given .1)),
+        lt-of-le-of-lt k (refused-there (pre .0) (pre .1 .1 .0) (c .before .before .answer .given .1)),
         along-room (pre .0) (pre .1 .1 .0) (at .loop .inv .2) k (pre .1 .1 .1 .1),
       ),
     )
@@ -140,13 +138,13 @@ put-movements-spec =
     add-figure
     (λ c. search needs)
     put-accepted-requires
-    (λ c. search needs)
+    (λ c. omega (arith, c .before .before .before .before .before .before .before .before .loop-test .taken))
     loop-again
-    (λ c. search needs)
+    (λ c. c .match .keys1)
     put-stop-requires
     same-length
     returns
-    (λ c. search needs)
+    (λ c. c .match .keys2)
     put-end-requires
     same-length-2
     returns-2)

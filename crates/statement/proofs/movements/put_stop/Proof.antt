@@ -2,6 +2,7 @@
 use borrow.Author.Needs.{needs}
 use native.Mathlib.Omega.{arith}
 use mir.Facts.{toZ-ofZ}
+use mathlib.Core.Path.{_∙_}
 use Rattle.sheets.proofs.Listed.{movements-within}
 use Rattle.writes.proofs.Writing.{_and_}
 use Rattle.statement.proofs.movements.put_stop.Statement.{statement}
@@ -22,4 +23,4 @@ returns c =
 pub put-stop-spec : {M : Type 1} → statement M
 put-stop-spec =
     tie.close
-    (tie.spec (λ c κs. search needs) add-put-refused (λ c κs. search needs) (λ c κs. search needs) (λ c. search needs) returns)
+    (tie.spec (λ c κs. search needs) add-put-refused (λ c κs. search needs) (λ c κs. search needs) (λ c. c .before .before .put-end .kept .0 ∙ c .before .before .before .before .before .before .put-refused .kept .0) returns)

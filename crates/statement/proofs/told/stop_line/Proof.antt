@@ -7,13 +7,13 @@ pub stop-line-spec : {M : Type 1} → statement M
 stop-line-spec =
     tie.close
     (tie.spec
-    (λ c. search needs)
+    (λ c. c .match .keys1)
     (λ c κs. search needs)
-    (λ c. search needs)
+    (λ c. c .match .keys2)
     (λ c κs. search needs)
-    (λ c. search needs)
+    (λ c. c .match .keys3)
     (λ c κs. search needs)
-    (λ c. search needs)
+    (λ c. c .match .keys4)
     (λ c κs. search needs)
     (λ c. rw (c .before .enum-told .given .1) (c .says-by .ensures))
     (λ c. rw (c .before .enum-told2 .given .1) (c .says-by2 .ensures))

@@ -16,4 +16,4 @@ returns-2 c = answer-goes-on _ _ (c .before .before .before .check-net .ensures)
 pub audit-answer-spec : {M : Type 1} → statement M
 audit-answer-spec =
     tie.close
-    (tie.spec (λ c κs. search needs) (λ c. search needs) returns (λ c. search needs) (λ c κs. search needs) returns-2)
+    (tie.spec (λ c κs. search needs) (λ c. c .match .keys1) returns (λ c. c .match .keys2) (λ c κs. search needs) returns-2)

@@ -36,9 +36,9 @@ half-arc-spec =
     tie.close
     (tie.spec
     (λ c κs. search arith)
-    (λ c. search arith)
+    (λ c. c .match .keys1)
     (λ c κs. search arith)
-    (λ c. search arith)
+    (λ c. c .match .keys2)
     (λ c κs. search arith)
     complement-pair-requires
     complement-arc-requires

@@ -52,11 +52,11 @@ put-half-arc-spec =
     half-arc-requires
     (λ c κs. search arith)
     returns
-    (λ c. search arith)
+    (λ c. c .match .keys1)
     put-original-requires
-    (λ c. search arith)
+    (λ c. c .match .keys2)
     put-new-requires
-    (λ c. search arith)
+    (λ c. c .before .before .put-original .kept .1 .1 .1 .1 .0)
     returns-2
-    (λ c. search arith)
+    (λ c. c .before .before .put-new .kept .1 .1 .1 .1 .1 .1 .0)
     returns-3)

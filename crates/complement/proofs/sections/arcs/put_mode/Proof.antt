@@ -1,5 +1,5 @@
 -- The arcs, and their count before them where the version has it.
-use mathlib.Core.Path.{refl}
+use mathlib.Core.Path.{refl, _∙_}
 use native.Mathlib.Omega.{arith}
 use Rattle.sheets.specs.Decoded.{netOf}
 use Rattle.opened.proofs.Shapes.{sizes}
@@ -56,5 +56,5 @@ put-mode-spec =
     put-halves-requires
     (λ c. omega (arith, c .before .before .before .put-halves .ensures .next))
     put-own-requires
-    (λ c. search arith)
+    (λ c. c .before .before .put-own .kept .0 ∙ c .before .before .before .before .before .before .put-halves .kept .1 .1 .1 .1 .1 .0)
     returns)

@@ -1,5 +1,6 @@
 -- In version 2 the pair is put where the mode was.
 use native.Mathlib.Omega.{arith}
+use mathlib.Core.Path.{_∙_}
 use Rattle.complement.proofs.sections.Fields.{names-put}
 use Rattle.complement.proofs.sections.arcs.put_names.Statement.{statement}
 use Rattle.complement.proofs.sections.arcs.put_names.Tie as tie
@@ -17,5 +18,5 @@ put-names-spec =
     (λ c κs. search arith)
     (λ c. search arith)
     (λ c κs. search arith)
-    (λ c. search arith)
+    (λ c. c .before .before .put162 .kept .0 ∙ c .before .before .before .before .before .before .before .put16 .kept .0)
     returns)

@@ -1,14 +1,10 @@
 -- The three numbers, then mode and pair before them; the pair is the one that was worked out.
-use mathlib.Core.Path.{_∙_, ap}
-use mathlib.Core.List.{_++_, flatten}
+use mathlib.Core.Path.{_∙_}
 use native.Mathlib.Omega.{arith}
 use Rattle.opened.proofs.Shapes.{sizes}
-use Rattle.sheets.specs.written.Written.{bytes16, bytes32, modeBytes, tailBytes, arcBytes}
-use Rattle.sheets.proofs.written.Records.{number-bound}
-use Rattle.sheets.proofs.written.Puts.{nothing, puts, puts-before}
 use Rattle.halves.proofs.Below.{entry-few}
 use Rattle.complement.proofs.sections.Read.{complement-pair-is}
-use Rattle.complement.proofs.sections.Fields.{bytes-as, ends-as, whole-arc}
+use Rattle.complement.proofs.sections.Fields.{new-put}
 use Rattle.complement.proofs.sections.arcs.put_new.Statement.{statement}
 use Rattle.complement.proofs.sections.arcs.put_new.Tie as tie
 
@@ -42,19 +38,16 @@ same-length c =
     names .put-names .ensures .kept ∙ inhibitor .put323 .ensures .kept ∙ post .put322 .ensures .kept ∙ pre .put32 .ensures .kept
 
 returns : tie.Need-returns
-unfolding arcBytes tailBytes flatten bytes32
 returns c =
     let names = c .before .before in
     let inhibitor = names .before .before .before .before .before in
     let post = inhibitor .before .before .before .before .before in
     let pre = post .before .before .before .before .before in
     let start = pre .before .before .before .before .before in
-    let number = complement-pair-is (post .before .before .arc .ensures) (start .pre .0) (start .pre .1 .0) _ (inhibitor .before .before .complement-pair .ensures) _ (start .pre .1 .1 .1 .0) in
-    rw number-bound
-    (whole-arc _ _ _ _
-    (puts-before
-    (puts (pre .put32 .ensures) (puts (post .put322 .ensures) (puts (inhibitor .put323 .ensures) nothing)))
-    (ends-as (omega (arith, pre .before .mode-size .ensures)) (bytes-as (ap (λ p. modeBytes (start .args .net .version) (start .args .new .mode .0) ++ bytes16 p) number) (names .put-names .ensures)))))
+    let a = start .args in
+    let number = complement-pair-is (post .before .before .arc .ensures) (start .pre .0) (start .pre .1 .0) _ (inhibitor .before .before .complement-pair .ensures) (a .new) (start .pre .1 .1 .1 .0) in
+    new-put (a .net .version) (a .new) number (pre .before .mode-size .ensures) (pre .put32 .ensures) (post .put322 .ensures) (inhibitor .put323 .ensures)
+    (names .put-names .ensures)
 
 pub put-new-spec : {M : Type 1} → statement M
 put-new-spec =
@@ -64,7 +57,7 @@ put-new-spec =
     (λ c. search arith)
     (λ c. search arith)
     (λ c κs. search arith)
-    (λ c κs. search arith)
+    (λ c κs. (c .before .before .before .before .before .before .before .pre .0, c .before .before .before .before .before .before .before .pre .1 .1 .0))
     (λ c κs. search arith)
     complement-pair-requires
     put32-requires-3

@@ -39,12 +39,12 @@ put-half-pair-spec =
     tie.close
     (tie.spec
     cast-t8
-    (λ c. search needs)
+    (λ c. c .match .keys1)
     (λ c κs. search needs)
     put-pair-requires
-    (λ c. search needs)
+    (λ c. c .match .keys2)
     put-new-pair-requires
-    (λ c. search needs)
+    (λ c. c .before .before .put-pair .kept .0)
     returns
-    (λ c. search needs)
+    (λ c. c .before .before .put-new-pair .kept .1 .1 .1 .0)
     returns-2)

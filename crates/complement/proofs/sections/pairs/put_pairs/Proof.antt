@@ -1,6 +1,5 @@
 -- The original half, then the new one.
-use borrow.Author.Needs.{needs}
-use mathlib.Core.Path.{sym}
+use mathlib.Core.Path.{sym, _∙_}
 use Rattle.halves.proofs.PairHalves.{pair-parts}
 use Rattle.sheets.proofs.written.Puts.{room-as, puts-as, room-first, room-next, puts-both}
 use Rattle.complement.proofs.sections.pairs.put_pairs.Statement.{statement}
@@ -21,5 +20,5 @@ put-pairs-spec =
     (tie.spec
     put-half-pairs-requires
     put-half-pairs-requires-2
-    (λ c. search needs)
+    (λ c. c .before .before .put-half-pairs2 .kept .1 .1 .1 .0 ∙ c .before .before .before .before .before .before .put-half-pairs .kept .1 .1 .1 .0)
     returns)

@@ -37,9 +37,9 @@ pub half-colours-spec : {M : Type 1} → statement M
 half-colours-spec =
     tie.close
     (tie.spec
+    (λ c. c .match .keys1)
     (λ c. search arith)
-    (λ c. search arith)
-    (λ c. search arith)
+    (λ c. c .match .keys2)
     bounded-between-requires
     returns
     returns-2)

@@ -1,6 +1,5 @@
 -- The original half, then the new one.
-use mathlib.Core.Path.{sym}
-use native.Mathlib.Omega.{arith}
+use mathlib.Core.Path.{sym, _∙_}
 use Rattle.complement.proofs.sections.PlaceHalves.{place-parts}
 use Rattle.sheets.proofs.written.Puts.{room-as, puts-as, room-first, room-next, puts-both}
 use Rattle.complement.proofs.sections.places.put_places.Statement.{statement}
@@ -21,5 +20,5 @@ put-places-spec =
     (tie.spec
     put-half-places-requires
     put-half-places-requires-2
-    (λ c. search arith)
+    (λ c. c .before .before .put-half-places2 .kept .1 .1 .1 .1 .0 ∙ c .before .before .before .before .before .before .put-half-places .kept .1 .1 .1 .1 .0)
     returns)

@@ -19,6 +19,11 @@ abbrev μ-loop : tie.MeasureT-loop
 loop-holds : tie.Need-loop-holds Inv-loop μ-loop
 loop-holds c = (search needs, λ j l. absurd (omega arith))
 
+arc-free-requires : tie.Need-arc-free-requires Inv-loop μ-loop
+arc-free-requires c κs =
+    let pre = c .before .before .before .before .pre in
+    (pre .opened, (pre .marking, record { own = pre .own; there = c .loop-test .taken }))
+
 returns : tie.Need-returns Inv-loop μ-loop
 returns c = λ t own.
     let l = c .before .before in
@@ -37,7 +42,7 @@ arcs-free-spec =
     Inv-loop
     μ-loop
     loop-holds
-    (λ c κs. search needs)
+    arc-free-requires
     returns
     (λ c. search needs)
     (λ c. search needs)

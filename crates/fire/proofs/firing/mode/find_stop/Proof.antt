@@ -23,6 +23,11 @@ loop-holds : tie.Need-loop-holds Inv-loop μ-loop
 unfolding first
 loop-holds c = search needs
 
+arc-stop-requires : tie.Need-arc-stop-requires Inv-loop μ-loop
+arc-stop-requires c κs =
+    let pre = c .before .before .before .before .pre in
+    (pre .opened, (pre .marking, record { own = pre .own; there = c .loop-test .taken }))
+
 returns : tie.Need-returns Inv-loop μ-loop
 returns c =
     let l = c .before .before .before .before .loop in
@@ -46,10 +51,10 @@ find-stop-spec =
     Inv-loop
     μ-loop
     loop-holds
-    (λ c κs. search needs)
-    (λ c. search needs)
+    arc-stop-requires
+    (λ c. c .match .keys1)
     returns
-    (λ c. search needs)
+    (λ c. c .match .keys2)
     (λ c. search needs)
     (λ c. search needs)
     loop-again

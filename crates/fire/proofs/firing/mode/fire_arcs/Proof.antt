@@ -1,6 +1,7 @@
 -- Refused, and nothing is written; or free at each arc, and the mode has fired.
 use borrow.Author.Needs.{needs}
 use borrow.Author.Tests.{not-true, not-false}
+use mathlib.Core.Path.{refl}
 use Rattle.fire.proofs.firing.ByMode.{decides-not, decides-so}
 use Rattle.fire.proofs.firing.mode.fire_arcs.Statement.{statement}
 use Rattle.fire.proofs.firing.mode.fire_arcs.Tie as tie
@@ -21,8 +22,8 @@ fire-arcs-spec =
     (tie.spec
     (λ c κs. search needs)
     (λ c κs. search needs)
-    (λ c. search needs)
+    (λ c. refl)
     returns
     (λ c κs. search needs)
-    (λ c. search needs)
+    (λ c. c .before .before .write-arcs .kept .1 .1 .1 .0)
     returns-2)

@@ -25,14 +25,14 @@ pub stopped-by-spec : {M : Type 1} → statement M
 stopped-by-spec =
     tie.close
     (tie.spec
-    (λ c. search needs)
+    (λ c. c .match .keys1)
     (λ c κs. search needs)
-    (λ c. search needs)
+    (λ c. c .match .keys2)
     (λ c κs. search needs)
     (λ c κs. search needs)
-    (λ c. search needs)
+    (λ c. c .match .keys3)
     (λ c κs. search needs)
-    (λ c. search needs)
+    (λ c. c .match .keys4)
     (λ c κs. search needs)
     (λ c κs. search needs)
     returns

@@ -44,9 +44,9 @@ each-member-spec =
     (λ c. search needs)
     (λ c. search needs)
     (λ c κs. search needs)
-    (λ c. search needs)
+    (λ c. c .match .keys1)
     returns
-    (λ c. search needs)
+    (λ c. c .match .keys2)
     (λ c. search needs)
     (λ c. search needs)
     loop-again

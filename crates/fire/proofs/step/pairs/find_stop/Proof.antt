@@ -22,6 +22,11 @@ loop-holds : tie.Need-loop-holds Inv-loop μ-loop
 unfolding first
 loop-holds c = search needs
 
+pair-stop-requires : tie.Need-pair-stop-requires Inv-loop μ-loop
+pair-stop-requires c κs =
+    let pre = c .before .before .before .before .pre in
+    (pre .0, (pre .1 .0, (pre .1 .1, c .loop-test .taken)))
+
 returns : tie.Need-returns Inv-loop μ-loop
 returns c =
     let test = c .before .before .before in
@@ -45,10 +50,10 @@ find-stop-spec =
     Inv-loop
     μ-loop
     loop-holds
-    (λ c κs. search needs)
-    (λ c. search needs)
+    pair-stop-requires
+    (λ c. c .match .keys1)
     returns
-    (λ c. search needs)
+    (λ c. c .match .keys2)
     (λ c. search needs)
     (λ c. search needs)
     loop-again

@@ -1,6 +1,7 @@
 -- The test at one pair, over the sums there, and by how much it stops.
 use borrow.Author.Needs.{needs}
 use native.Mathlib.Omega.{arith}
+use Rattle.sheets.specs.Decoded.{netOf}
 use Rattle.opened.proofs.Shapes.{sizes}
 use Rattle.fire.proofs.step.AtPairs.{counted, summed, stop-found, stop-passed}
 use Rattle.fire.proofs.step.pairs.pair_stop.Statement.{statement}
@@ -35,7 +36,8 @@ stopped-by-requires c κs =
 returns : tie.Need-returns
 returns c =
     let test = c .before .before .before in
-    stop-found _ _ _ (test .before .before .before .before .sum-at .ensures) (test .before .before .room-at .ensures) _ (test .is-stopped .ensures) (c .before .before .if1 .taken)
+    let a = test .before .before .before .before .before .before .before .args in
+    stop-found (netOf (a .s .now)) (a .marking .now) _ (test .before .before .before .before .sum-at .ensures) (test .before .before .room-at .ensures) (a .why) (test .is-stopped .ensures) (c .before .before .if1 .taken)
     (c .before .stopped-by .ensures) (c .refused .ensures)
 
 returns-2 : tie.Need-returns-2

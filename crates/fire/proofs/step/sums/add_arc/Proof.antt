@@ -1,5 +1,4 @@
 -- Each table has the arc added at its pair.
-use borrow.Author.Needs.{needs}
 use native.Mathlib.Omega.{arith}
 use Rattle.fire.proofs.step.Adding.{arc-added}
 use Rattle.fire.proofs.step.sums.add_arc.Statement.{statement}
@@ -15,20 +14,20 @@ pub add-arc-spec : {M : Type 1} → statement M
 add-arc-spec =
     tie.close
     (tie.spec
-    (λ c. search needs)
-    (λ c. search needs)
-    (λ c. search needs)
-    (λ c. search needs)
-    (λ c. search needs)
-    (λ c. search needs)
-    (λ c. search needs)
-    (λ c. search needs)
-    (λ c. search needs)
-    (λ c. search needs)
-    (λ c. search needs)
-    (λ c. search needs)
-    (λ c. search needs)
-    (λ c κs. search needs)
-    (λ c. search needs)
-    (λ c. search needs)
+    (λ c. record { fits = omega (arith, c .before .pre .0 .inside) })
+    (λ c. record { fits = omega (arith, c .before .pre .0 .inside) })
+    (λ c. c .before .pre .0 .inside)
+    (λ c. record { fits = omega (arith, c .before .before .before .pre .0 .pre) })
+    (λ c. record { fits = omega (arith, c .before .before .before .pre .0 .inside) })
+    (λ c. c .before .before .before .pre .0 .inside)
+    (λ c. record { fits = omega (arith, c .before .before .before .pre .0 .inside) })
+    (λ c. c .before .before .before .pre .0 .inside)
+    (λ c. record { fits = omega (arith, c .before .before .before .before .before .pre .0 .post) })
+    (λ c. record { fits = omega (arith, c .before .before .before .before .before .pre .0 .inside) })
+    (λ c. c .before .before .before .before .before .pre .0 .inside)
+    (λ c. record { fits = omega (arith, c .before .before .before .before .before .pre .0 .inside) })
+    (λ c. c .before .before .before .before .before .pre .0 .inside)
+    (λ c κs. tt)
+    (λ c. record { fits = omega (arith, c .before .before .before .before .before .before .before .pre .0 .inside) })
+    (λ c. c .before .before .before .before .before .before .before .pre .0 .inside)
     returns)

@@ -22,6 +22,11 @@ abbrev μ-loop : tie.MeasureT-loop
 loop-holds : tie.Need-loop-holds Inv-loop μ-loop
 loop-holds c = (search needs, c .before .pre .1 .1 .1, added-none)
 
+arc-requires : tie.Need-arc-requires Inv-loop μ-loop
+arc-requires c κs =
+    let pre = c .before .before .before .pre in
+    (pre .0, record { own = pre .1 .0; there = c .loop-test .taken })
+
 add-arc-requires : tie.Need-add-arc-requires Inv-loop μ-loop
 add-arc-requires c κs =
     let test = c .before .before .before .before in
@@ -60,7 +65,7 @@ add-arcs-spec =
     Inv-loop
     μ-loop
     loop-holds
-    (λ c κs. search needs)
+    arc-requires
     add-arc-requires
     add-i
     (λ c. search needs)

@@ -36,13 +36,13 @@ read-arc-spec =
     tie.close
     (tie.spec
     (λ c κs. search arith)
-    (λ c. search arith)
-    (λ c. search arith)
+    (λ c. c .match .keys1)
+    (λ c. c .match .keys2)
     compare-ends-requires
     (λ c. search arith)
     (λ c κs. search arith)
-    (λ c. search arith)
-    (λ c. search arith)
+    (λ c. c .match2 .keys1)
+    (λ c. c .match2 .keys2)
     returns
     returns-2
     returns-3)

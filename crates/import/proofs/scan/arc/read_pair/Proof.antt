@@ -32,8 +32,8 @@ read-pair-spec =
     (λ c κs. search arith)
     (λ c. search arith)
     (λ c κs. search arith)
-    (λ c. search arith)
-    (λ c. search arith)
+    (λ c. c .match .keys1)
+    (λ c. c .match .keys2)
     read-three-requires
     returns
     returns-2)

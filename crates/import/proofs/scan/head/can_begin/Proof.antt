@@ -28,15 +28,15 @@ pub can-begin-spec : {M : Type 1} → statement M
 can-begin-spec =
     tie.close
     (tie.spec
-    (λ c. search arith)
-    (λ c. search arith)
+    (λ c. c .match .keys1)
+    (λ c. c .match .keys2)
     (λ c κs. search arith)
-    (λ c. search arith)
+    (λ c. c .match .keys3)
     (λ c κs. search arith)
-    (λ c. search arith)
+    (λ c. c .match .keys4)
     (λ c κs. search arith)
     (λ c κs. search arith)
-    (λ c. search arith)
+    (λ c. c .match .keys5)
     (λ c κs. search arith)
     (λ c κs. search arith)
     (λ c κs. search arith)

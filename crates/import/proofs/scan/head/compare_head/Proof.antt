@@ -29,19 +29,19 @@ pub compare-head-spec : {M : Type 1} → statement M
 compare-head-spec =
     tie.close
     (tie.spec
-    (λ c. search arith)
-    (λ c. search arith)
-    (λ c κs. search arith)
-    (λ c. search arith)
+    (λ c. c .match .keys1)
     (λ c. search arith)
     (λ c κs. search arith)
-    (λ c. search arith)
-    (λ c. search arith)
-    (λ c κs. search arith)
-    (λ c. search arith)
+    (λ c. c .match .keys2)
     (λ c. search arith)
     (λ c κs. search arith)
+    (λ c. c .match .keys3)
     (λ c. search arith)
+    (λ c κs. search arith)
+    (λ c. c .match .keys4)
+    (λ c. search arith)
+    (λ c κs. search arith)
+    (λ c. c .match .keys5)
     (λ c. search arith)
     (λ c κs. search arith)
     returns

@@ -26,14 +26,14 @@ pub try-head-spec : {M : Type 1} → statement M
 try-head-spec =
     tie.close
     (tie.spec
-    (λ c. search arith)
-    (λ c. search arith)
+    (λ c. c .match .keys1)
+    (λ c. c .match .keys2)
     returns
     (λ c κs. search arith)
     returns-2
     (λ c κs. search arith)
-    (λ c. search arith)
-    (λ c. search arith)
+    (λ c. c .match2 .keys1)
+    (λ c. c .match2 .keys2)
     returns-3
     returns-4
     returns-5)

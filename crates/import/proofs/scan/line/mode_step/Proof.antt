@@ -19,7 +19,7 @@ mode-step-spec =
     (λ c κs. search arith)
     (λ c. search arith)
     (λ c κs. search arith)
-    (λ c. search arith)
-    (λ c. search arith)
+    (λ c. c .match .keys1)
+    (λ c. c .match .keys2)
     returns
     returns-2)

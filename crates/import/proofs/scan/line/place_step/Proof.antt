@@ -14,4 +14,4 @@ returns-2 c = record { rest = λ at x. record { how = place-stands (c .before .b
 pub place-step-spec : {M : Type 1} → statement M
 place-step-spec =
     tie.close
-    (tie.spec (λ c κs. search arith) (λ c. search arith) (λ c. search arith) returns returns-2)
+    (tie.spec (λ c κs. search arith) (λ c. c .match .keys1) (λ c. c .match .keys2) returns returns-2)

@@ -19,8 +19,8 @@ read-line-spec =
     tie.close
     (tie.spec
     (λ c κs. search arith)
-    (λ c. search arith)
-    (λ c. search arith)
+    (λ c. c .match .keys1)
+    (λ c. c .match .keys2)
     read-rest-requires
     returns
     returns-2)

@@ -31,14 +31,14 @@ pub read-rest-spec : {M : Type 1} → statement M
 read-rest-spec =
     tie.close
     (tie.spec
-    (λ c. search arith)
-    (λ c. search arith)
+    (λ c. c .match .keys1)
+    (λ c. c .match .keys2)
     (λ c κs. search arith)
-    (λ c. search arith)
+    (λ c. c .match .keys3)
     (λ c κs. search arith)
-    (λ c. search arith)
+    (λ c. c .match .keys4)
     pre-step-requires
-    (λ c. search arith)
+    (λ c. c .match .keys5)
     post-step-requires
     returns
     returns-2

@@ -34,16 +34,16 @@ advance-spec =
     tie.close
     (tie.spec
     (λ c κs. search arith)
-    (λ c. search arith)
+    (λ c. c .match .keys1)
     (λ c κs. search arith)
-    (λ c. search arith)
+    (λ c. c .match .keys2)
     (λ c κs. search arith)
-    (λ c. search arith)
+    (λ c. c .match .keys3)
     after-pre-requires
-    (λ c. search arith)
+    (λ c. c .match .keys4)
     after-post-requires
-    (λ c. search arith)
-    (λ c. search arith)
+    (λ c. c .match .keys5)
+    (λ c. c .match .keys6)
     returns
     returns-2
     returns-3

@@ -40,10 +40,10 @@ read-lines-spec =
     μ-loop
     loop-holds
     advance-requires
-    (λ c. search arith)
+    (λ c. c .match .keys1)
     returns
-    (λ c. search arith)
+    (λ c. c .match .keys2)
     returns-2
-    (λ c. search arith)
+    (λ c. c .match .keys3)
     loop-less
     loop-again)

@@ -1,6 +1,5 @@
 -- The length, then the part that stands in the damaged bytes.
-use borrow.Author.Needs.{needs}
-use mathlib.Core.Path.{sym}
+use mathlib.Core.Path.{sym, _∙_}
 use native.Mathlib.Omega.{arith}
 use Rattle.sheets.proofs.written.Puts.{put-length, room-as, puts-as, room-next, puts-both, long-fits}
 use Rattle.run.proofs.salvage.Considered.{most-considered, modes-there}
@@ -40,5 +39,5 @@ put-fresh-spec =
     (λ c. record { fits = omega (arith, c .before .before .before .pre .1 .0, most-considered (c .before .before .before .args .damaged .now)) })
     put32-requires
     put-part-requires
-    (λ c. search needs)
+    (λ c. c .before .before .put-part .kept .1 .1 .1 .0 ∙ c .before .before .before .before .before .before .put32 .kept .0)
     returns)

@@ -1,11 +1,15 @@
 -- The modes considered are there, and the first marking is accepted.
 use borrow.Author.Needs.{needs}
+use mathlib.Core.Path.{refl, _∙_}
 use native.Mathlib.Omega.{arith}
 use Rattle.opened.proofs.Shapes.{sizes}
 use Rattle.run.proofs.salvage.Considered.{most-considered, modes-there}
 use Rattle.run.proofs.salvage.Answers.{tells}
 use Rattle.run.proofs.salvage.trial.run_from_first.Statement.{statement}
 use Rattle.run.proofs.salvage.trial.run_from_first.Tie as tie
+
+write-numbers-requires : tie.Need-write-numbers-requires
+write-numbers-requires c κs = (c .before .before .before .before .before .before .before .before .before .before .pre .0, (c .before .before .starts .ensures, refl))
 
 run-modes-requires : tie.Need-run-modes-requires
 run-modes-requires c κs =
@@ -35,12 +39,12 @@ pub run-from-first-spec : {M : Type 1} → statement M
 run-from-first-spec =
     tie.close
     (tie.spec
-    (λ c κs. search needs)
-    (λ c κs. search needs)
+    (λ c κs. (c .before .before .before .before .pre .0, c .before .before .before .before .pre .1 .1 .1))
+    (λ c κs. c .before .before .before .before .before .before .before .pre .0)
     (λ c. search needs)
-    (λ c κs. search needs)
+    write-numbers-requires
     (λ c. search needs)
     (λ c κs. search needs)
     run-modes-requires
-    (λ c. search needs)
+    (λ c. c .before .before .run-modes .kept .1 .1 .1 .1 .1 .1 .1 .0 ∙ c .before .before .before .before .before .before .before .before .before .before .before .before .before .before .write-start .kept .1 .1 .0)
     returns)

@@ -39,9 +39,9 @@ read-arc-spec =
     (λ c κs. search arith)
     returns
     (λ c κs. search arith)
-    (λ c. search arith)
+    (λ c. c .match .keys1)
     returns-2
-    (λ c. search arith)
+    (λ c. c .match .keys2)
     (λ c. search arith)
     (λ c κs. search arith)
     returns-3)

@@ -65,9 +65,9 @@ group-fields-spec =
     μ-loop
     loop-holds
     (λ c κs. search arith)
-    (λ c. search arith)
+    (λ c. c .match .keys1)
     returns
-    (λ c. search arith)
+    (λ c. c .match .keys2)
     (λ c. search arith)
     (λ c. search arith)
     (λ c. search arith)

@@ -39,8 +39,8 @@ read-group-arc-spec =
     (λ c κs. search arith)
     returns
     (λ c κs. search arith)
-    (λ c. search arith)
+    (λ c. c .match .keys1)
     returns-2
-    (λ c. search arith)
+    (λ c. c .match .keys2)
     (λ c κs. search arith)
     returns-3)

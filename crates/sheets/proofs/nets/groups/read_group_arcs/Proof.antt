@@ -40,9 +40,9 @@ read-group-arcs-spec =
     μ-loop
     loop-holds
     (λ c κs. search arith)
-    (λ c. search arith)
+    (λ c. c .match .keys1)
     returns
-    (λ c. search arith)
+    (λ c. c .match .keys2)
     (λ c. search arith)
     (λ c. search arith)
     loop-again

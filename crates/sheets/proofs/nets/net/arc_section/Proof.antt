@@ -20,4 +20,4 @@ returns-2 c =
 pub arc-section-spec : {M : Type 1} → statement M
 arc-section-spec =
     tie.close
-    (tie.spec (λ c κs. search arith) (λ c. search arith) (λ c κs. search arith) (λ c. search arith) (λ c κs. search arith) returns returns-2)
+    (tie.spec (λ c κs. search arith) (λ c. c .match .keys1) (λ c κs. search arith) (λ c. c .match .keys2) (λ c κs. search arith) returns returns-2)

@@ -44,9 +44,9 @@ pair-and-arc-fields-spec =
     (λ c κs. search arith)
     (λ c κs. search arith)
     read-pairs-requires
-    (λ c. search arith)
+    (λ c. c .match .keys1)
     returns
-    (λ c. search arith)
+    (λ c. c .match .keys2)
     (λ c κs. search arith)
     (λ c. search arith)
     (λ c. search arith)

@@ -20,4 +20,4 @@ returns-2 c = answer-goes-on _ _ (c .before .before .before .read-head .ensures)
 pub read-net-spec : {M : Type 1} → statement M
 read-net-spec =
     tie.close
-    (tie.spec (λ c κs. search arith) (λ c. search arith) returns (λ c. search arith) net-fields-requires returns-2)
+    (tie.spec (λ c κs. search arith) (λ c. c .match .keys1) returns (λ c. c .match .keys2) net-fields-requires returns-2)

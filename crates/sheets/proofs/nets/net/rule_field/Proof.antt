@@ -15,4 +15,4 @@ returns-2 c = rw (sym (c .before .before .before .version-of .ensures) ∙ c .be
 pub rule-field-spec : {M : Type 1} → statement M
 rule-field-spec =
     tie.close
-    (tie.spec (λ c κs. search arith) (λ c. search arith) (λ c. search arith) (λ c κs. search arith) returns returns-2)
+    (tie.spec (λ c κs. search arith) (λ c. c .match .keys1) (λ c. c .match .keys2) (λ c κs. search arith) returns returns-2)

@@ -35,9 +35,9 @@ claim-answer-spec =
     tie.close
     (tie.spec
     (λ c κs. search needs)
-    (λ c. search needs)
+    (λ c. c .match .keys1)
     returns
-    (λ c. search needs)
+    (λ c. c .match .keys2)
     array-borrow-prefix-counts
     slice-aggregate-compare-figures
     compare-figures-requires

@@ -15,6 +15,11 @@ figure-of-requires c κs =
     let pre = written .before .before .before .before .before .before .pre in
     (pre .0, (pre .1 .0, rw (written .write-start .ensures) (sizes (pre .0) .wellFormed .start)))
 
+figure-of-requires-2 : tie.Need-figure-of-requires-2
+figure-of-requires-2 c κs =
+    let pre = c .before .before .before .before .before .before .before .before .before .before .pre in
+    (pre .0, (pre .1 .0, pre .1 .1 .0))
+
 returns : tie.Need-returns
 unfolding sameFigure
 returns c =
@@ -40,9 +45,9 @@ compare-figures-spec =
     (tie.spec
     (λ c κs. search needs)
     figure-of-requires
+    figure-of-requires-2
     (λ c κs. search needs)
-    (λ c κs. search needs)
-    (λ c. search needs)
+    (λ c. c .before .before .before .before .before .before .before .write-start .kept .1 .1 .0)
     returns
-    (λ c. search needs)
+    (λ c. c .before .before .before .before .before .before .write-start .kept .1 .1 .0)
     returns-2)

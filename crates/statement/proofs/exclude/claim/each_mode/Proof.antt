@@ -22,6 +22,11 @@ loop-holds : tie.Need-loop-holds Inv-loop μ-loop
 unfolding first
 loop-holds c = search needs
 
+mode-answer-requires : tie.Need-mode-answer-requires Inv-loop μ-loop
+mode-answer-requires c κs =
+    let pre = c .before .before .before .before .before .before .pre in
+    (pre .0, (c .before .before .before .starts .ensures, (pre .1, c .before .loop-test .taken)))
+
 returns : tie.Need-returns Inv-loop μ-loop
 returns c =
     let test = c .before .before .before .before in
@@ -49,11 +54,11 @@ each-mode-spec =
     μ-loop
     (λ c κs. search needs)
     loop-holds
-    (λ c κs. search needs)
-    (λ c. search needs)
+    mode-answer-requires
+    (λ c. c .match .keys1)
     returns
+    (λ c. c .match .keys2)
     (λ c. search needs)
-    (λ c. search needs)
-    (λ c. search needs)
+    (λ c. omega (arith, c .before .before .before .before .loop-test .taken))
     loop-again
     returns-2)

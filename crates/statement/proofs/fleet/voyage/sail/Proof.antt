@@ -1,5 +1,6 @@
 -- From the net's first marking: the whole list is run, then weighed.
 use borrow.Author.Needs.{needs}
+use mathlib.Core.Path.{_∙_}
 use Rattle.opened.proofs.Shapes.{sizes}
 use Rattle.statement.proofs.fleet.voyage.sail.Statement.{statement}
 use Rattle.statement.proofs.fleet.voyage.sail.Tie as tie
@@ -22,4 +23,4 @@ weigh-run-requires c κs =
 pub sail-spec : {M : Type 1} → statement M
 sail-spec =
     tie.close
-    (tie.spec (λ c κs. search needs) (λ c κs. search needs) run-list-requires weigh-run-requires (λ c. search needs) (λ c. search needs))
+    (tie.spec (λ c κs. search needs) (λ c κs. search needs) run-list-requires weigh-run-requires (λ c. c .before .before .before .before .run-list .kept .1 .1 .1 .1 .0 ∙ c .before .before .before .before .before .before .before .before .before .before .write-start .kept .1 .1 .0) (λ c. search needs))

@@ -1,10 +1,9 @@
 -- k movements have been weighed: the sums so far are exact.
 use borrow.Author.Needs.{needs}
 use Prim.Native.Nat.{_≤_, _-_}
-use mathlib.Core.Path.{refl, _∙_}
+use mathlib.Core.Path.{refl}
 use mir.Syntax.{w64}
 use mir.Val.{toZ}
-use mir.Facts.{toZ-ofZ}
 use native.Mathlib.Omega.{arith}
 use Rattle.sheets.specs.Decoded.{netOf, weightsOf, movementsOf}
 use Rattle.statement.proofs.fleet.Weighing.{Along, along-none, along-more, along-ends, along-entry, change-small, counted, added-fits, removed-fits}
@@ -47,7 +46,7 @@ add-added c =
     let at = read .before .before in
     let pre = at .before .before .before .before .before .before .before .pre in
     added-fits (pre .0) (pre .1 .1) (read .before .loop-test .taken) (read .movement .ensures) (at .before .before .write-changes .ensures)
-    (toZ-ofZ (record { sfits = c .before .change .given })) (at .loop .inv .1) (toZ-ofZ (record { sfits = c .gained .ok }) ∙ c .gained .ensures)
+    (c .before .change .given) (at .loop .inv .1) (c .gained .ok) (c .gained .ensures)
 
 lost-requires : tie.Need-lost-requires Inv-loop μ-loop
 lost-requires c κs =
@@ -55,7 +54,7 @@ lost-requires c κs =
     let at = read .before .before in
     let pre = at .before .before .before .before .before .before .before .pre in
     change-small (pre .0) (pre .1 .1) (read .before .loop-test .taken) (read .movement .ensures) (at .before .before .write-changes .ensures)
-    (toZ-ofZ (record { sfits = c .before .change .given }))
+    (c .before .change .given)
 
 add-removed : tie.Need-add-removed Inv-loop μ-loop
 add-removed c =
@@ -64,7 +63,7 @@ add-removed c =
     let at = read .before .before in
     let pre = at .before .before .before .before .before .before .before .pre in
     removed-fits (pre .0) (pre .1 .1) (read .before .loop-test .taken) (read .movement .ensures) (at .before .before .write-changes .ensures)
-    (toZ-ofZ (record { sfits = gain .before .change .given })) (at .loop .inv .1) (toZ-ofZ (record { sfits = c .lost .ok }) ∙ c .lost .ensures)
+    (gain .before .change .given) (at .loop .inv .1) (c .lost .ok) (c .lost .ensures)
 
 loop-again : tie.Need-loop-again Inv-loop μ-loop
 loop-again c =
@@ -72,15 +71,10 @@ loop-again c =
     let read = gain .before .before .before in
     let at = read .before .before in
     let pre = at .before .before .before .before .before .before .before .pre in
-    let h = read .before .loop-test .taken in
-    let table = at .before .before .write-changes .ensures in
-    let entry = toZ-ofZ {w = w64} (record { sfits = gain .before .change .given }) in
-    let gains = toZ-ofZ {w = w64} (record { sfits = gain .gained .ok }) ∙ gain .gained .ensures in
-    let loses = toZ-ofZ {w = w64} (record { sfits = c .lost .ok }) ∙ c .lost .ensures in (
-      search needs,
-      along-more (pre .0) (pre .1 .1) h (read .movement .ensures) table entry (at .loop .inv .1) gains loses
-          (toZ-ofZ (added-fits (pre .0) (pre .1 .1) h (read .movement .ensures) table entry (at .loop .inv .1) gains))
-          (toZ-ofZ (removed-fits (pre .0) (pre .1 .1) h (read .movement .ensures) table entry (at .loop .inv .1) loses)),
+    let h = read .before .loop-test .taken in (
+      omega (arith, h),
+      along-more (pre .0) (pre .1 .1) h (read .movement .ensures) (at .before .before .write-changes .ensures) (gain .before .change .given) (at .loop .inv .1)
+          (gain .gained .ok) (gain .gained .ensures) (c .lost .ok) (c .lost .ensures),
     )
 
 returns : tie.Need-returns Inv-loop μ-loop

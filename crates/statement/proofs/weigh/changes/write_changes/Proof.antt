@@ -31,6 +31,11 @@ loop-holds c = (search needs, c .before .before .pre .1 .1 .1, λ u h. absurd (o
 cast-t10 : tie.Need-cast-t10 Inv-loop μ-loop
 cast-t10 c = record { fits = omega (arith, c .loop-test .taken, sizes (c .before .before .before .before .pre .0) .modesWithin) }
 
+change-of-requires : tie.Need-change-of-requires Inv-loop μ-loop
+change-of-requires c κs =
+    let pre = c .before .before .before .before .pre in
+    (pre .0, (pre .1 .0, (pre .1 .1 .0, c .loop-test .taken)))
+
 mul-t12 : tie.Need-mul-t12 Inv-loop μ-loop
 mul-t12 c = record { fits = omega (arith, c .before .loop-test .taken, sizes (c .before .before .before .before .before .pre .0) .modesWithin) }
 
@@ -71,11 +76,11 @@ write-changes-spec =
     μ-loop
     loop-holds
     cast-t10
-    (λ c κs. search needs)
+    change-of-requires
     mul-t12
     slice-set-from-changes
     (λ c. search needs)
-    (λ c. search needs)
+    (λ c. omega (arith, c .before .loop-test .taken))
     loop-again
     same-length
     returns)
