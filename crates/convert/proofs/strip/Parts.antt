@@ -22,10 +22,10 @@ use Rattle.opened.specs.declared.shape.NetShape.{NetShape}
 use Rattle.opened.specs.Shape.{Open}
 use Rattle.opened.proofs.Shapes.{shaped, sizes}
 use Rattle.sheets.specs.written.Written.{bytes16, headBytes, arcBytes, pairsBytes, totalBytes, ownBytes, groupBytes, ofMode, sectionBytes, fieldsOf, lengthOf, sheetOf}
-use Rattle.sheets.specs.written.Puts.{Room, partOf, modeSize, ownSize}
+use Rattle.sheets.specs.written.Puts.{Put, Room, partOf, modeSize, ownSize}
 use Rattle.sheets.proofs.written.Stands.{InTurn, stands-both, in-turn, moved}
 use Rattle.sheets.proofs.written.BigEndian.{length16}
-use Rattle.sheets.proofs.written.Puts.{part-is}
+use Rattle.sheets.proofs.written.Puts.{puts, part-is}
 use Rattle.sheets.proofs.written.Sections.{section-append, section-one}
 use Rattle.sheets.proofs.written.Records.{arc-length}
 use Rattle.sheets.proofs.written.Versions.{own-length}
@@ -76,6 +76,12 @@ module _ (v : Version) (before : ℕ) (p : Pair) (n : ℕ) where
   group-length =
       let a : NetArc = record { mode = modeNo (before + n); pair = p; entry = stripEntry n } in
       omega (arith, length-append (ownBytes v 1) (flatMap (arcBytes v) (a ∷ [])), own-length v 1, ap length (section-one (arcBytes v) a), arc-length v a)
+
+  pub group-put : {l l₁ l₂ : List ℕ} {at k₁ k₂ : ℕ} → Put l at (ownSize v) (ownBytes v 1) l₁ k₁
+      → Put l₁ k₁ (modeSize v + 14) (arcBytes v (record { mode = modeNo (before + n); pair = p; entry = stripEntry n })) l₂ k₂
+      → Put l at (ownSize v + (modeSize v + 14)) (newGroup v before p n) l₂ k₂
+  unfolding newGroup
+  group-put own arc = rw section-one (puts own arc)
 
   pub group-fits : {out : List ℕ} {at : ℕ} → Room out at (newGroup v before p n) → at + (ownSize v + (modeSize v + 14)) ≤ length out
   group-fits h = omega (arith, h .fits, group-length)
