@@ -1,6 +1,5 @@
 -- An arc put field by field: what room is left for its next field, and what stands there after the last.
 use Prim.Native.Nat.{ℕ, _+_, _≤_}
-use mathlib.Core.Path.{_≡_, sym, _∙_, ap}
 use mathlib.Core.List.{List, flatten}
 use lib.ListN.{length}
 use native.Mathlib.Omega.{arith}

@@ -77,6 +77,7 @@ module _ (v : Version) (before : ℕ) (p : Pair) (n : ℕ) where
       let a : NetArc = record { mode = modeNo (before + n); pair = p; entry = stripEntry n } in
       omega (arith, length-append (ownBytes v 1) (flatMap (arcBytes v) (a ∷ [])), own-length v 1, ap length (section-one (arcBytes v) a), arc-length v a)
 
+  -- its own count, then the arc
   pub group-put : {l l₁ l₂ : List ℕ} {at k₁ k₂ : ℕ} → Put l at (ownSize v) (ownBytes v 1) l₁ k₁
       → Put l₁ k₁ (modeSize v + 14) (arcBytes v (record { mode = modeNo (before + n); pair = p; entry = stripEntry n })) l₂ k₂
       → Put l at (ownSize v + (modeSize v + 14)) (newGroup v before p n) l₂ k₂

@@ -2,6 +2,7 @@
 use borrow.Author.Needs.{needs}
 use Prim.Native.Nat.{_≤_, _-_, _+_}
 use mathlib.Core.Path.{sym}
+use native.Mathlib.Omega.{arith}
 use Rattle.model.specs.Lists.{joined}
 use Rattle.sheets.specs.Decoded.{netOf}
 use Rattle.sheets.specs.written.Puts.{Puts}
@@ -28,7 +29,7 @@ put-arc-requires c κs =
 loop-again : tie.Need-loop-again Inv-loop μ-loop
 loop-again c =
     let l = c .before .before .before .before .before .loop in
-    (search needs, puts-more _ (l .i) (l .inv .1) (put-length (c .before .before .put-arc .ensures)))
+    (omega (arith, c .before .before .before .before .loop-test .taken), puts-more _ (l .i) (l .inv .1) (put-length (c .before .before .put-arc .ensures)))
 
 returns : tie.Need-returns Inv-loop μ-loop
 returns c =
@@ -42,10 +43,10 @@ put-mode-arcs-spec =
     (tie.spec
     Inv-loop
     μ-loop
-    (λ c. (search needs, puts-none _))
+    (λ c. (omega arith, puts-none _))
     put-arc-requires
     (λ c. search needs)
-    (λ c. search needs)
+    (λ c. omega (arith, c .before .before .before .before .loop-test .taken))
     loop-again
     (λ c. c .before .loop .inv .1 .kept)
     returns)

@@ -67,5 +67,5 @@ put-records-spec =
     (λ c. omega (arith, numbers (c .before .before .before .before .before .before .before .before .before .before .before .before .before .pre .0), c .before .before .before .before .before .before .before .before .before .before .fields-at .ensures .1))
     (λ c. omega (arith, numbers (c .before .before .before .before .before .before .before .before .before .before .before .before .before .before .pre .0)))
     put-part-requires-2
-    (λ c. search needs)
+    (λ c. returns c .kept)
     returns)
