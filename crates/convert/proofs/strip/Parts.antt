@@ -103,19 +103,20 @@ module _ {s : List ℕ} {net : NetShape} (o : Open s net) where
     abbrev fields : InTurn s (fieldsAt s) (fieldsOf (versionOf s) (netOf s))
     fields = in-turn (fieldsOf (versionOf s) (netOf s)) (fields-stand s byte)
 
-    pub numbers-is : partOf s (fieldsAt s + 4) (2 * net .places + 2 * net .transitions) ≡ numbersBytes (netOf s)
+    pub numbers-is : {at : ℕ} → at ≡ fieldsAt s → partOf s (at + 4) (2 * net .places + 2 * net .transitions) ≡ numbersBytes (netOf s)
     unfolding numbersBytes
-    numbers-is =
+    numbers-is e =
         let counts = moved (fieldsAt s + 4) (omega (arith, length16 (length (netOf s .colours)), length16 (length (netOf s .modesOf)))) (stands-both (fields .1 .1 .0) (fields .1 .1 .1 .0) refl) in
-        part-is counts (2 * net .places + 2 * net .transitions) (sym numbers-length)
+        ap (λ at. partOf s (at + 4) (2 * net .places + 2 * net .transitions)) e ∙ part-is counts (2 * net .places + 2 * net .transitions) (sym numbers-length)
 
-    pub pairs-is : partOf s (fieldsAt s + 4 + (2 * net .places + 2 * net .transitions)) (8 * net .pairs) ≡ pairsBytes (netOf s)
-    pairs-is =
+    pub pairs-is : {at : ℕ} → at ≡ fieldsAt s → partOf s (at + 4 + (2 * net .places + 2 * net .transitions)) (8 * net .pairs) ≡ pairsBytes (netOf s)
+    pairs-is e =
         let z = sizes o in
         let colours = netOf s .colours in
         let modesOf = netOf s .modesOf in
         let at : fieldsAt s + 4 + (2 * net .places + 2 * net .transitions) ≡ fieldsAt s + length (bytes16 (length colours)) + length (bytes16 (length modesOf)) + length (flatMap bytes16 colours) + length (flatMap bytes16 modesOf) = omega (arith, length16 (length colours), length16 (length modesOf), counts-section colours, counts-section modesOf, z .places, z .transitions) in
-        part-is (moved (fieldsAt s + 4 + (2 * net .places + 2 * net .transitions)) at (fields .1 .1 .1 .1 .0)) (8 * net .pairs) (omega (arith, pairs-section (netOf s), z .pairs))
+        ap (λ at. partOf s (at + 4 + (2 * net .places + 2 * net .transitions)) (8 * net .pairs)) e
+        ∙ part-is (moved (fieldsAt s + 4 + (2 * net .places + 2 * net .transitions)) at (fields .1 .1 .1 .1 .0)) (8 * net .pairs) (omega (arith, pairs-section (netOf s), z .pairs))
 
 module _ {s : List ℕ} {net : NetShape} (o : Open s net) (p : Pair) (k : ℕ) where
   pub places-are : net .places ≡ length (strip (netOf s) p k .colours)
