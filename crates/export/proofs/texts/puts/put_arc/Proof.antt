@@ -33,5 +33,5 @@ put-arc-spec =
     (λ c κs. search needs)
     put-any-pre-requires
     put-any-post-requires
-    (λ c. search needs)
+    (λ c. returns c .kept)
     returns)

@@ -56,5 +56,5 @@ put-text-spec =
     put-modes-requires
     (λ c. search needs)
     write-bytes-requires-2
-    (λ c. search needs)
+    (λ c. returns c .kept)
     returns)
