@@ -24,7 +24,7 @@ put-arc-requires c κs =
     let l = c .before .before .loop in
     let start = c .before .before .before .before .before in
     let room = room-more _ (l .i) (l .inv .1) _ (room-as (segment-bytes _ _ _ _ (start .pre .1 .0) _) (start .pre .1 .1)) (c .before .loop-test .taken) in
-    (start .pre .0, (search needs, arc-fits (start .args .version) _ room))
+    (start .pre .0, (record { own = start .pre .1 .0; there = c .before .loop-test .taken }, arc-fits (start .args .version) _ room))
 
 loop-again : tie.Need-loop-again Inv-loop μ-loop
 loop-again c =
