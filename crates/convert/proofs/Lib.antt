@@ -1,3 +1,4 @@
+mod ArcPuts
 mod Segments
 mod Parts
 pub mod Answers

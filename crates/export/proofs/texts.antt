@@ -1,1 +1,2 @@
 pub mod Texts
+mod Whole

@@ -22,10 +22,10 @@ use Rattle.opened.specs.declared.shape.NetShape.{NetShape}
 use Rattle.opened.specs.Shape.{Open}
 use Rattle.opened.proofs.Shapes.{shaped, sizes}
 use Rattle.sheets.specs.written.Written.{bytes16, headBytes, arcBytes, pairsBytes, totalBytes, ownBytes, groupBytes, ofMode, sectionBytes, fieldsOf, lengthOf, sheetOf}
-use Rattle.sheets.specs.written.Puts.{Room, partOf, modeSize, ownSize}
+use Rattle.sheets.specs.written.Puts.{Put, Room, partOf, modeSize, ownSize}
 use Rattle.sheets.proofs.written.Stands.{InTurn, stands-both, in-turn, moved}
 use Rattle.sheets.proofs.written.BigEndian.{length16}
-use Rattle.sheets.proofs.written.Puts.{part-is}
+use Rattle.sheets.proofs.written.Puts.{puts, part-is}
 use Rattle.sheets.proofs.written.Sections.{section-append, section-one}
 use Rattle.sheets.proofs.written.Records.{arc-length}
 use Rattle.sheets.proofs.written.Versions.{own-length}
@@ -77,6 +77,13 @@ module _ (v : Version) (before : ℕ) (p : Pair) (n : ℕ) where
       let a : NetArc = record { mode = modeNo (before + n); pair = p; entry = stripEntry n } in
       omega (arith, length-append (ownBytes v 1) (flatMap (arcBytes v) (a ∷ [])), own-length v 1, ap length (section-one (arcBytes v) a), arc-length v a)
 
+  -- its own count, then the arc
+  pub group-put : {l l₁ l₂ : List ℕ} {at k₁ k₂ : ℕ} → Put l at (ownSize v) (ownBytes v 1) l₁ k₁
+      → Put l₁ k₁ (modeSize v + 14) (arcBytes v (record { mode = modeNo (before + n); pair = p; entry = stripEntry n })) l₂ k₂
+      → Put l at (ownSize v + (modeSize v + 14)) (newGroup v before p n) l₂ k₂
+  unfolding newGroup
+  group-put own arc = rw section-one (puts own arc)
+
   pub group-fits : {out : List ℕ} {at : ℕ} → Room out at (newGroup v before p n) → at + (ownSize v + (modeSize v + 14)) ≤ length out
   group-fits h = omega (arith, h .fits, group-length)
 
@@ -96,19 +103,20 @@ module _ {s : List ℕ} {net : NetShape} (o : Open s net) where
     abbrev fields : InTurn s (fieldsAt s) (fieldsOf (versionOf s) (netOf s))
     fields = in-turn (fieldsOf (versionOf s) (netOf s)) (fields-stand s byte)
 
-    pub numbers-is : partOf s (fieldsAt s + 4) (2 * net .places + 2 * net .transitions) ≡ numbersBytes (netOf s)
+    pub numbers-is : {at : ℕ} → at ≡ fieldsAt s → partOf s (at + 4) (2 * net .places + 2 * net .transitions) ≡ numbersBytes (netOf s)
     unfolding numbersBytes
-    numbers-is =
+    numbers-is e =
         let counts = moved (fieldsAt s + 4) (omega (arith, length16 (length (netOf s .colours)), length16 (length (netOf s .modesOf)))) (stands-both (fields .1 .1 .0) (fields .1 .1 .1 .0) refl) in
-        part-is counts (2 * net .places + 2 * net .transitions) (sym numbers-length)
+        ap (λ at. partOf s (at + 4) (2 * net .places + 2 * net .transitions)) e ∙ part-is counts (2 * net .places + 2 * net .transitions) (sym numbers-length)
 
-    pub pairs-is : partOf s (fieldsAt s + 4 + (2 * net .places + 2 * net .transitions)) (8 * net .pairs) ≡ pairsBytes (netOf s)
-    pairs-is =
+    pub pairs-is : {at : ℕ} → at ≡ fieldsAt s → partOf s (at + 4 + (2 * net .places + 2 * net .transitions)) (8 * net .pairs) ≡ pairsBytes (netOf s)
+    pairs-is e =
         let z = sizes o in
         let colours = netOf s .colours in
         let modesOf = netOf s .modesOf in
         let at : fieldsAt s + 4 + (2 * net .places + 2 * net .transitions) ≡ fieldsAt s + length (bytes16 (length colours)) + length (bytes16 (length modesOf)) + length (flatMap bytes16 colours) + length (flatMap bytes16 modesOf) = omega (arith, length16 (length colours), length16 (length modesOf), counts-section colours, counts-section modesOf, z .places, z .transitions) in
-        part-is (moved (fieldsAt s + 4 + (2 * net .places + 2 * net .transitions)) at (fields .1 .1 .1 .1 .0)) (8 * net .pairs) (omega (arith, pairs-section (netOf s), z .pairs))
+        ap (λ at. partOf s (at + 4 + (2 * net .places + 2 * net .transitions)) (8 * net .pairs)) e
+        ∙ part-is (moved (fieldsAt s + 4 + (2 * net .places + 2 * net .transitions)) at (fields .1 .1 .1 .1 .0)) (8 * net .pairs) (omega (arith, pairs-section (netOf s), z .pairs))
 
 module _ {s : List ℕ} {net : NetShape} (o : Open s net) (p : Pair) (k : ℕ) where
   pub places-are : net .places ≡ length (strip (netOf s) p k .colours)

@@ -42,7 +42,7 @@ pub closing-length : length closing ≡ 29
 unfolding closing
 closing-length = refl
 
-opening-length : length opening ≡ 187
+pub opening-length : length opening ≡ 187
 unfolding opening
 opening-length = refl
 

@@ -1,5 +1,4 @@
 -- Their count where the version has it, then the arcs.
-use borrow.Author.Needs.{needs}
 use mathlib.Core.Path.{sym, ap}
 use native.Mathlib.Omega.{arith}
 use Rattle.opened.proofs.Shapes.{sizes}
@@ -31,4 +30,4 @@ returns c =
     puts-both (puts-as count (put-length (c .before .before .before .before .before .before .put-own .ensures))) (c .before .before .put-mode-arcs .ensures)
 
 pub put-group-spec : {M : Type 1} → statement M
-put-group-spec = tie.close (tie.spec put-own-requires put-mode-arcs-requires (λ c. search needs) returns)
+put-group-spec = tie.close (tie.spec put-own-requires put-mode-arcs-requires (λ c. returns c .kept) returns)

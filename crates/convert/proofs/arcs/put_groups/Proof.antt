@@ -31,7 +31,7 @@ loop-again c =
     let l = c .before .before .before .before .before .before .loop in
     let start = c .before .before .before .before .before .before .before .before .before in
     let group = ap (λ m. modeGroup (start .args .version) (netOf (start .args .s .now)) (m .0)) (c .before .before .before .before .arcs-of .ensures .mode) in
-    (search needs, puts-more _ (l .t) (l .inv .1) (puts-as group (c .before .before .put-group .ensures)))
+    (omega (arith, c .before .before .before .before .before .loop-test .taken), puts-more _ (l .t) (l .inv .1) (puts-as group (c .before .before .put-group .ensures)))
 
 pub put-groups-spec : {M : Type 1} → statement M
 put-groups-spec =
@@ -39,12 +39,12 @@ put-groups-spec =
     (tie.spec
     Inv-loop
     μ-loop
-    (λ c. (search needs, puts-none _))
+    (λ c. (omega arith, puts-none _))
     (λ c. omega (arith, sizes (c .before .before .before .before .pre .0) .modesWithin))
-    (λ c κs. search needs)
+    (λ c κs. let pre = c .before .before .before .before .pre in (pre .0, (pre .1 .0, c .loop-test .taken)))
     put-group-requires
     (λ c. search needs)
-    (λ c. search needs)
+    (λ c. omega (arith, c .before .before .before .before .before .loop-test .taken))
     loop-again
     (λ c. c .before .loop .inv .1 .kept)
     (λ c. puts-end _ (c .before .loop .t) (c .before .loop .inv .1) _ (c .before .loop .inv .0) (c .loop-test .left)))

@@ -2,6 +2,7 @@
 use borrow.Author.Needs.{needs}
 use Prim.Native.Nat.{_≤_, _-_, _+_}
 use mathlib.Core.Path.{sym}
+use native.Mathlib.Omega.{arith}
 use Rattle.model.specs.Lists.{joined}
 use Rattle.sheets.specs.Decoded.{netOf}
 use Rattle.sheets.specs.written.Puts.{Puts}
@@ -23,12 +24,12 @@ put-arc-requires c κs =
     let l = c .before .before .loop in
     let start = c .before .before .before .before .before in
     let room = room-more _ (l .i) (l .inv .1) _ (room-as (segment-bytes _ _ _ _ (start .pre .1 .0) _) (start .pre .1 .1)) (c .before .loop-test .taken) in
-    (start .pre .0, (search needs, arc-fits (start .args .version) _ room))
+    (start .pre .0, (record { own = start .pre .1 .0; there = c .before .loop-test .taken }, arc-fits (start .args .version) _ room))
 
 loop-again : tie.Need-loop-again Inv-loop μ-loop
 loop-again c =
     let l = c .before .before .before .before .before .loop in
-    (search needs, puts-more _ (l .i) (l .inv .1) (put-length (c .before .before .put-arc .ensures)))
+    (omega (arith, c .before .before .before .before .loop-test .taken), puts-more _ (l .i) (l .inv .1) (put-length (c .before .before .put-arc .ensures)))
 
 returns : tie.Need-returns Inv-loop μ-loop
 returns c =
@@ -42,10 +43,10 @@ put-mode-arcs-spec =
     (tie.spec
     Inv-loop
     μ-loop
-    (λ c. (search needs, puts-none _))
+    (λ c. (omega arith, puts-none _))
     put-arc-requires
     (λ c. search needs)
-    (λ c. search needs)
+    (λ c. omega (arith, c .before .before .before .before .loop-test .taken))
     loop-again
     (λ c. c .before .loop .inv .1 .kept)
     returns)

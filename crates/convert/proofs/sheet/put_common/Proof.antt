@@ -1,5 +1,4 @@
 -- The bytes that stand there are those of both versions.
-use borrow.Author.Needs.{needs}
 use mathlib.Core.Path.{sym, _∙_, ap}
 use native.Mathlib.Omega.{arith}
 use Rattle.sheets.proofs.nets.Valid.{headed}
@@ -36,5 +35,5 @@ put-common-spec =
     (λ c. let z = sizes (c .before .before .before .before .before .pre .0) in omega (arith, z .places, z .transitions, z .wellFormed .places .many, z .wellFormed .transitions .many, z .pairsWithin))
     (λ c κs. headed _ (c .before .before .before .before .before .pre .0 .accepted))
     put-part-requires
-    (λ c. search needs)
+    (λ c. returns c .kept)
     returns)

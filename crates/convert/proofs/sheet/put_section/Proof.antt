@@ -25,4 +25,4 @@ returns c =
     puts-as (sym (section-parts (start .pre .0) _)) (puts-both (c .before .before .before .before .before .before .before .put-total .ensures) (c .before .before .put-groups .ensures))
 
 pub put-section-spec : {M : Type 1} → statement M
-put-section-spec = tie.close (tie.spec (λ c κs. search needs) put-total-requires put-groups-requires (λ c. search needs) returns)
+put-section-spec = tie.close (tie.spec (λ c κs. search needs) put-total-requires put-groups-requires (λ c. returns c .kept) returns)

@@ -1,5 +1,4 @@
 -- Three parts in turn.
-use borrow.Author.Needs.{needs}
 use mathlib.Core.Path.{sym, ap₂}
 use native.Mathlib.Omega.{arith}
 use Rattle.sheets.specs.written.Written.{headBytes}
@@ -42,4 +41,4 @@ returns c =
     puts-as (sym (sheet-parts _ _)) (puts-both head (puts-both (c .before .before .before .before .before .before .put-common .ensures) (c .before .before .put-section .ensures)))
 
 pub put-sheet-spec : {M : Type 1} → statement M
-put-sheet-spec = tie.close (tie.spec put-head-requires put-common-requires put-section-requires (λ c. search needs) returns)
+put-sheet-spec = tie.close (tie.spec put-head-requires put-common-requires put-section-requires (λ c. returns c .kept) returns)

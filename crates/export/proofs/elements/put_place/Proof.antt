@@ -1,12 +1,18 @@
 -- The pair, then the count.
 use mathlib.Core.Path.{refl}
 use native.Mathlib.Omega.{arith}
-use Rattle.writes.proofs.Writing.{_and_}
+use Rattle.writes.proofs.Writing.{_and_, length-kept}
 use Rattle.pnml.specs.Pnml.{placeText}
 use Rattle.writes.proofs.Room.{room, room-for}
-use Rattle.export.proofs.elements.Digits.{eight-digits}
+use Rattle.export.proofs.elements.Digits.{three-digits, eight-digits}
 use Rattle.export.proofs.elements.put_place.Statement.{statement}
 use Rattle.export.proofs.elements.put_place.Tie as tie
+
+write-three-requires : tie.Need-write-three-requires
+write-three-requires c κs =
+    let id = c .before .before .before in
+    let pre = id .before .before .before .before .pre .1 in
+    (three-digits (pre .0 .0), room-for 3 65 (id .write-bytes .ensures) (pre .1))
 
 write-bytes-requires-2 : tie.Need-write-bytes-requires-2
 write-bytes-requires-2 c κs =
@@ -43,5 +49,5 @@ returns c =
 pub put-place-spec : {M : Type 1} → statement M
 put-place-spec =
     tie.close
-    (tie.spec (λ c. refl) (λ c κs. search arith) (λ c κs. search arith) (λ c. refl) write-bytes-requires-2 write-to-eight-requires (λ c. refl) write-bytes-requires-3
-    (λ c. search arith) returns)
+    (tie.spec (λ c. refl) (λ c κs. omega (arith, c .before .before .before .pre .1 .1)) write-three-requires (λ c. refl) write-bytes-requires-2 write-to-eight-requires (λ c. refl) write-bytes-requires-3
+    (λ c. length-kept (returns c)) returns)

@@ -26,7 +26,7 @@ put-new-mode-requires c κs =
 loop-again : tie.Need-loop-again Inv-loop μ-loop
 loop-again c =
     let l = c .before .before .before .before .before .loop in
-    (search needs, puts-more _ (l .n) (l .inv .1) (put-length (c .before .before .put-new-mode .ensures)))
+    (omega (arith, c .before .before .before .before .loop-test .taken), puts-more _ (l .n) (l .inv .1) (put-length (c .before .before .put-new-mode .ensures)))
 
 pub put-new-modes-spec : {M : Type 1} → statement M
 put-new-modes-spec =
@@ -34,10 +34,10 @@ put-new-modes-spec =
     (tie.spec
     Inv-loop
     μ-loop
-    (λ c. (search needs, puts-none _))
+    (λ c. (omega arith, puts-none _))
     put-new-mode-requires
     (λ c. search needs)
-    (λ c. search needs)
+    (λ c. omega (arith, c .before .before .before .before .loop-test .taken))
     loop-again
     (λ c. c .before .loop .inv .1 .kept)
     (λ c. puts-end _ (c .before .loop .n) (c .before .loop .inv .1) _ (c .before .loop .inv .0) (c .loop-test .left)))

@@ -1,5 +1,4 @@
 -- The head, the place count, the transition count.
-use borrow.Author.Needs.{needs}
 use mathlib.Core.Path.{sym, ap}
 use native.Mathlib.Omega.{arith}
 use Rattle.sheets.specs.written.Written.{bytes16}
@@ -52,5 +51,5 @@ put-counts-spec =
     put-count-requires
     (λ c. omega (arith, numbers (c .before .before .before .before .before .before .before .before .before .before .before .before .before .pre .0)))
     put-count-requires-2
-    (λ c. search needs)
+    (λ c. returns c .kept)
     returns)

@@ -1,5 +1,4 @@
 -- The arc count where the version says it, the old arcs mode by mode, and the new.
-use borrow.Author.Needs.{needs}
 use mathlib.Core.Path.{sym}
 use native.Mathlib.Omega.{arith}
 use Rattle.sheets.proofs.written.Puts.{room-as, puts-as, room-first, room-next, puts-both}
@@ -40,5 +39,5 @@ put-section-spec =
     put-groups-requires
     (λ c. omega (arith, numbers (c .before .before .before .before .before .before .before .before .before .before .before .before .before .pre .0)))
     put-new-modes-requires
-    (λ c. search needs)
+    (λ c. returns c .kept)
     returns)

@@ -1,5 +1,4 @@
 -- Three parts in turn.
-use borrow.Author.Needs.{needs}
 use mathlib.Core.Path.{sym}
 use Rattle.sheets.proofs.written.Puts.{room-as, puts-as, room-first, room-next, puts-both}
 use Rattle.convert.proofs.strip.Parts.{sheet-parts}
@@ -24,4 +23,4 @@ returns c =
     puts-as (sym (sheet-parts _ _ _ _)) (puts-both (c .before .before .before .before .before .before .before .before .before .before .put-counts .ensures) (puts-both (c .before .before .before .before .before .before .put-records .ensures) (c .before .before .put-section .ensures)))
 
 pub put-sheet-spec : {M : Type 1} → statement M
-put-sheet-spec = tie.close (tie.spec put-counts-requires put-records-requires put-section-requires (λ c. search needs) returns)
+put-sheet-spec = tie.close (tie.spec put-counts-requires put-records-requires put-section-requires (λ c. returns c .kept) returns)

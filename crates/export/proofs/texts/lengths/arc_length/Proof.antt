@@ -1,5 +1,4 @@
 -- Pre, then Post.
-use borrow.Author.Needs.{needs}
 use mathlib.Core.Path.{sym, _∙_, ap, ap₂}
 use Prim.Native.Nat.{_+_}
 use lib.ListN.{length}
@@ -19,8 +18,8 @@ pub arc-length-spec : {M : Type 1} → statement M
 arc-length-spec =
     tie.close
     (tie.spec
-    (λ c κs. search needs)
-    (λ c κs. search needs)
-    (λ c κs. search needs)
-    (λ c. search needs)
+    (λ c κs. c .before .pre)
+    (λ c κs. c .arc .ensures .pre)
+    (λ c κs. c .before .arc .ensures .post)
+    (λ c. omega (arith, c .before .weight-size .ensures .1, c .weight-size2 .ensures .1))
     returns)

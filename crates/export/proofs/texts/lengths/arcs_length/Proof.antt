@@ -27,7 +27,7 @@ add-total c =
 loop-again : tie.Need-loop-again Inv-loop μ-loop
 loop-again c =
     let l = c .before .before .loop in
-    (search needs, more-long _ (l .i) (l .inv .1) (c .arc-length .ensures .0), omega (arith, l .inv .2, c .arc-length .ensures .1))
+    (omega (arith, c .before .loop-test .taken), more-long _ (l .i) (l .inv .1) (c .arc-length .ensures .0), omega (arith, l .inv .2, c .arc-length .ensures .1))
 
 returns : tie.Need-returns Inv-loop μ-loop
 returns c =
@@ -40,10 +40,10 @@ arcs-length-spec =
     (tie.spec
     Inv-loop
     μ-loop
-    (λ c. (search needs, none-long _, omega arith))
-    (λ c κs. search needs)
+    (λ c. (omega arith, none-long _, omega arith))
+    (λ c κs. let pre = c .before .before .before .pre in (pre .0, record { own = pre .1; there = c .loop-test .taken }))
     add-total
     (λ c. search needs)
-    (λ c. search needs)
+    (λ c. omega (arith, c .before .loop-test .taken))
     loop-again
     returns)

@@ -37,7 +37,7 @@ loop-again c =
     let arcs = netOf (c .before .before .before .before .before .args .s .now) .arcs in
     let segment = c .before .arcs-of .ensures in
     let own = ap (λ n. 30 + n) (c .arcs-length .ensures .0 ∙ ap (λ m. length (flatMap arcText (ofMode arcs (m .0)))) (segment .mode)) ∙ sym (mode-long arcs (l .t)) in
-    (search needs, more-long _ (l .t) (l .inv .1) own, omega (arith, segment .own .fits, z .arcs, z .arcsWithin, c .arcs-length .ensures .1, l .inv .2))
+    (omega (arith, c .before .before .loop-test .taken), more-long _ (l .t) (l .inv .1) own, omega (arith, segment .own .fits, z .arcs, z .arcsWithin, c .arcs-length .ensures .1, l .inv .2))
 
 returns : tie.Need-returns Inv-loop μ-loop
 returns c =
@@ -50,13 +50,13 @@ modes-length-spec =
     (tie.spec
     Inv-loop
     μ-loop
-    (λ c. (search needs, none-long _, omega arith))
+    (λ c. (omega arith, none-long _, omega arith))
     (λ c. omega (arith, sizes (c .before .before .before .pre .0) .modesWithin))
-    (λ c κs. search needs)
-    (λ c κs. search needs)
+    (λ c κs. let pre = c .before .before .before .pre in (pre .0, (pre .1, c .loop-test .taken)))
+    (λ c κs. (c .before .before .before .before .pre .0, c .arcs-of .ensures .own))
     add-total
     add-total-2
     (λ c. search needs)
-    (λ c. search needs)
+    (λ c. omega (arith, c .before .before .loop-test .taken))
     loop-again
     returns)

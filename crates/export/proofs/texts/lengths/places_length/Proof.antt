@@ -27,7 +27,7 @@ loop-again : tie.Need-loop-again Inv-loop μ-loop
 loop-again c =
     let l = c .before .before .before .loop in
     let one = c .place-size .ensures .0 ∙ ap placeSize (c .before .start-count .ensures .0) ∙ sym (place-length (l .p) _) in
-    (search needs, more-long _ (l .p) (l .inv .1) one, omega (arith, l .inv .2, c .place-size .ensures .1))
+    (omega (arith, c .before .before .loop-test .taken), more-long _ (l .p) (l .inv .1) one, omega (arith, l .inv .2, c .place-size .ensures .1))
 
 returns : tie.Need-returns Inv-loop μ-loop
 returns c =
@@ -40,12 +40,12 @@ places-length-spec =
     (tie.spec
     Inv-loop
     μ-loop
-    (λ c. (search needs, none-long _, omega arith))
+    (λ c. (omega arith, none-long _, omega arith))
     (λ c. omega (arith, sizes (c .before .before .before .pre) .pairsWithin))
-    (λ c κs. search needs)
-    (λ c κs. search needs)
+    (λ c κs. (c .before .before .before .pre, c .loop-test .taken))
+    (λ c κs. c .start-count .ensures .1)
     add-total
     (λ c. search needs)
-    (λ c. search needs)
+    (λ c. omega (arith, c .before .before .loop-test .taken))
     loop-again
     returns)

@@ -1,5 +1,4 @@
 -- Nothing, or the line of its weight.
-use borrow.Author.Needs.{needs}
 use mathlib.Core.Path.{sym}
 use Rattle.sheets.proofs.written.Puts.{nothing, puts-as}
 use Rattle.pnml.specs.Pnml.{postText}
@@ -28,5 +27,5 @@ put-any-post-spec =
     (tie.spec
     returns
     put-post-requires
-    (λ c. search needs)
+    (λ c. returns-2 c .kept)
     returns-2)

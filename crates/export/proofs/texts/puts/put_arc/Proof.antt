@@ -1,5 +1,4 @@
 -- Pre, then Post.
-use borrow.Author.Needs.{needs}
 use mathlib.Core.Path.{sym}
 use native.Mathlib.Omega.{arith}
 use Rattle.opened.proofs.Shapes.{sizes}
@@ -30,8 +29,8 @@ pub put-arc-spec : {M : Type 1} → statement M
 put-arc-spec =
     tie.close
     (tie.spec
-    (λ c κs. search needs)
+    (λ c κs. (c .before .before .pre .0, c .before .before .pre .1 .0))
     put-any-pre-requires
     put-any-post-requires
-    (λ c. search needs)
+    (λ c. returns c .kept)
     returns)

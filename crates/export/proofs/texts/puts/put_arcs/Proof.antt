@@ -2,6 +2,7 @@
 use borrow.Author.Needs.{needs}
 use Prim.Native.Nat.{_+_, _≤_, _-_}
 use mathlib.Core.Path.{sym}
+use native.Mathlib.Omega.{arith}
 use Rattle.model.specs.Lists.{joined}
 use Rattle.sheets.specs.Decoded.{netOf}
 use Rattle.sheets.specs.written.Puts.{Puts}
@@ -22,12 +23,12 @@ put-arc-requires c κs =
     let l = c .before .before .loop in
     let pre = c .before .before .before .before .before .pre in
     let room = for-more _ (l .i) (l .inv .1) _ (for-as (segment-texts (pre .1 .0)) (pre .1 .1 .1)) (c .before .loop-test .taken) in
-    (pre .0, (search needs, (pre .1 .1 .0, room)))
+    (pre .0, (record { own = pre .1 .0; there = c .before .loop-test .taken }, (pre .1 .1 .0, room)))
 
 loop-again : tie.Need-loop-again Inv-loop μ-loop
 loop-again c =
     let l = c .before .before .before .before .before .loop in
-    (search needs, puts-more _ (l .i) (l .inv .1) (c .before .before .put-arc .ensures))
+    (omega (arith, c .before .before .before .before .loop-test .taken), puts-more _ (l .i) (l .inv .1) (c .before .before .put-arc .ensures))
 
 returns : tie.Need-returns Inv-loop μ-loop
 returns c =
@@ -40,10 +41,10 @@ put-arcs-spec =
     (tie.spec
     Inv-loop
     μ-loop
-    (λ c. (search needs, puts-none _))
+    (λ c. (omega arith, puts-none _))
     put-arc-requires
     (λ c. search needs)
-    (λ c. search needs)
+    (λ c. omega (arith, c .before .before .before .before .loop-test .taken))
     loop-again
     (λ c. c .before .loop .inv .1 .kept)
     returns)

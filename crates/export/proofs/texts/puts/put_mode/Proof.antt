@@ -1,5 +1,4 @@
 -- The transition, then its arcs.
-use borrow.Author.Needs.{needs}
 use mathlib.Core.Path.{sym}
 use Rattle.sheets.proofs.written.Puts.{puts-as, puts-both}
 use Rattle.export.proofs.texts.Texts.{put-of, mode-parts, for-as, for-first, for-next, transition-fits}
@@ -26,5 +25,5 @@ put-mode-spec =
     (tie.spec
     put-transition-requires
     put-arcs-requires
-    (λ c. search needs)
+    (λ c. returns c .kept)
     returns)

@@ -34,7 +34,7 @@ loop-again : tie.Need-loop-again Inv-loop μ-loop
 loop-again c =
     let l = c .before .before .before .before .before .before .loop in
     let text = ap (λ m. modeText (netOf (c .before .before .before .before .before .before .before .before .before .args .s .now) .arcs) (m .0)) (c .before .before .before .before .arcs-of .ensures .mode) in
-    (search needs, puts-more _ (l .t) (l .inv .1) (puts-as text (c .before .before .put-mode .ensures)))
+    (omega (arith, c .before .before .before .before .before .loop-test .taken), puts-more _ (l .t) (l .inv .1) (puts-as text (c .before .before .put-mode .ensures)))
 
 returns : tie.Need-returns Inv-loop μ-loop
 returns c = puts-end _ (c .before .loop .t) (c .before .loop .inv .1) _ (c .before .loop .inv .0) (c .loop-test .left)
@@ -45,12 +45,12 @@ put-modes-spec =
     (tie.spec
     Inv-loop
     μ-loop
-    (λ c. (search needs, puts-none _))
+    (λ c. (omega arith, puts-none _))
     (λ c. omega (arith, sizes (c .before .before .before .before .pre .0) .modesWithin))
-    (λ c κs. search needs)
+    (λ c κs. let pre = c .before .before .before .before .pre in (pre .0, (pre .1 .0, c .loop-test .taken)))
     put-mode-requires
     (λ c. search needs)
-    (λ c. search needs)
+    (λ c. omega (arith, c .before .before .before .before .before .loop-test .taken))
     loop-again
     (λ c. c .before .loop .inv .1 .kept)
     returns)

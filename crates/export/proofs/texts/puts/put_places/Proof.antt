@@ -31,7 +31,7 @@ put-place-requires c κs =
 loop-again : tie.Need-loop-again Inv-loop μ-loop
 loop-again c =
     let l = c .before .before .before .before .before .before .loop in
-    (search needs, puts-more _ (l .p) (l .inv .1) (puts-as (ap (placeText (l .p)) (c .before .before .before .start-count .ensures .0)) (put-of (c .before .before .put-place .ensures))))
+    (omega (arith, c .before .before .before .before .before .loop-test .taken), puts-more _ (l .p) (l .inv .1) (puts-as (ap (placeText (l .p)) (c .before .before .before .start-count .ensures .0)) (put-of (c .before .before .put-place .ensures))))
 
 returns : tie.Need-returns Inv-loop μ-loop
 returns c = puts-end _ (c .before .loop .p) (c .before .loop .inv .1) _ (c .before .loop .inv .0) (c .loop-test .left)
@@ -42,12 +42,12 @@ put-places-spec =
     (tie.spec
     Inv-loop
     μ-loop
-    (λ c. (search needs, puts-none _))
+    (λ c. (omega arith, puts-none _))
     (λ c. omega (arith, sizes (c .before .before .before .before .pre .0) .pairsWithin))
-    (λ c κs. search needs)
+    (λ c κs. (c .before .before .before .before .before .pre .0, c .before .loop-test .taken))
     put-place-requires
     (λ c. search needs)
-    (λ c. search needs)
+    (λ c. omega (arith, c .before .before .before .before .before .loop-test .taken))
     loop-again
     (λ c. c .before .loop .inv .1 .kept)
     returns)
