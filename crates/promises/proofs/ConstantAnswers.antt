@@ -257,7 +257,7 @@ unfolding strippingRefusal stripping.roomRefusal
 strips =
     let room = slice (length (strippedSheet own.net (pairNo 0))) in
     let accepted : stripRefusal (netOf own.net) (pairNo 0) ≡ none = rw (read-back .same) own-strip in
-    let fits : stripping.tooShort own.net (pairNo 0) (length (room .0)) ≡ none = rw (le-ltb (length (room .0)) (length (strippedSheet own.net (pairNo 0))) (room .1)) refl in
+    let fits : emitting.tooShort (strippedSheet own.net (pairNo 0)) (length (room .0)) ≡ none = rw (le-ltb (length (room .0)) (length (strippedSheet own.net (pairNo 0))) (room .1)) refl in
     let none-refused : strippingRefusal own.net (pairNo 0) (length (room .0)) ≡ none = none-then (read-back .accepted) (none-then accepted fits) in
     rw none-refused
 
