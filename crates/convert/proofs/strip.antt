@@ -1,4 +1,5 @@
 mod ByMode
 mod Parts
+mod InTurn
 mod Answers
 pub mod Promises

@@ -50,12 +50,12 @@ pub convert-open-spec : {M : Type 1} → statement M
 convert-open-spec =
     tie.close
     (tie.spec
-    (λ c κs. search needs)
+    (λ c κs. tt)
     (λ c. search needs)
     returns
     (λ c. search needs)
     sheet-size-requires
     returns-2
     put-sheet-requires
-    (λ c. search needs)
+    (λ c. c .before .before .put-sheet .ensures .kept)
     returns-3)

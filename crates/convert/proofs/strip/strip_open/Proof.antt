@@ -45,12 +45,12 @@ pub strip-open-spec : {M : Type 1} → statement M
 strip-open-spec =
     tie.close
     (tie.spec
-    (λ c κs. search needs)
+    (λ c κs. c .before .before .pre)
     (λ c. search needs)
     (λ c. search needs)
     capacity-requires
     (λ c. search needs)
     put-sheet-requires
     returns
-    (λ c. search needs)
+    (λ c. c .before .before .put-sheet .ensures .kept)
     returns-2)

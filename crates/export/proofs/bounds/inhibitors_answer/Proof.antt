@@ -37,7 +37,7 @@ loop-again c =
     let l = c .before .before .before .before .before .loop in
     let segment = c .before .before .before .arcs-of .ensures in
     let here = answer-run-passes (inhibitorRefusal (c .before .before .before .before .before .before .before .args .s .now)) _ _ (l .inv .1 _ (segment .starts)) (c .before .before .mode-answer .ensures) (c .enum-told2 .given .1) in
-    (search needs, λ k f. rw (first-same _ (l .t + 1) k _ f (segment .ends)) here)
+    (omega (arith, c .before .before .before .before .loop-test .taken), λ k f. rw (first-same _ (l .t + 1) k _ f (segment .ends)) here)
 
 returns-2 : tie.Need-returns-2 Inv-loop μ-loop
 returns-2 c =
@@ -54,14 +54,14 @@ inhibitors-answer-spec =
     (tie.spec
     Inv-loop
     μ-loop
-    (λ c. (search needs, λ k f. rw (first-same _ 0 k 0 f (first-arc _)) (sym (first-none _))))
+    (λ c. (omega arith, λ k f. rw (first-same _ 0 k 0 f (first-arc _)) (sym (first-none _))))
     (λ c. omega (arith, sizes (c .before .before .before .pre .0) .modesWithin))
-    (λ c κs. search needs)
-    (λ c κs. search needs)
+    (λ c κs. let pre = c .before .before .before .pre in (pre .0, (pre .1, c .loop-test .taken)))
+    (λ c κs. (c .before .before .before .before .pre .0, c .arcs-of .ensures .own))
     (λ c. search needs)
     returns
     (λ c. search needs)
     (λ c. search needs)
-    (λ c. search needs)
+    (λ c. omega (arith, c .before .before .before .before .loop-test .taken))
     loop-again
     returns-2)
