@@ -2,3 +2,4 @@ mod Names
 pub mod TailsRead
 pub mod GroupsRead
 pub mod Valid
+mod TailTests
