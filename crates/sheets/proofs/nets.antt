@@ -3,3 +3,4 @@ pub mod TailsRead
 pub mod GroupsRead
 pub mod Valid
 mod TailTests
+mod NameTests
