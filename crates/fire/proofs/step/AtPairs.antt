@@ -15,7 +15,7 @@ use Rattle.model.specs.declared.Why.the-variants.{Lacking, OverCapacity, Inhibi
 use Rattle.model.specs.declared.Fault.the-variants.{Stopped}
 use Rattle.model.specs.declared.Answer.{Answer}
 use Rattle.model.specs.declared.Answer.the-variants.{Accepted, Refused}
-use Rattle.model.specs.First.{_▸_, first}
+use Rattle.model.specs.First.{first}
 use Rattle.model.specs.Refusals.{answer, wrong}
 use Rattle.model.specs.Numbers.{ℕ∞, limit}
 use Rattle.model.specs.Rows.{Entry, Row}

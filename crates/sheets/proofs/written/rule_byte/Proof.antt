@@ -1,4 +1,3 @@
-use native.Mathlib.Omega.{arith}
 use Rattle.model.specs.Nets.{ruleNumber}
 use Rattle.sheets.proofs.written.rule_byte.Statement.{statement}
 use Rattle.sheets.proofs.written.rule_byte.Tie as tie
