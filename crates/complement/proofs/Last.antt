@@ -16,11 +16,13 @@ use Rattle.opened.specs.Starts.{StartsAre}
 use Rattle.opened.proofs.Shapes.{sizes}
 use Rattle.sheets.specs.written.Written.{totalBytes, sectionBytes, sheetOf}
 use Rattle.sheets.specs.written.Puts.{Room, Puts, headSize, totalSize, sectionSize}
+use Rattle.sheets.proofs.written.Puts.{put-length, puts-as, puts-before}
 use Rattle.sheets.proofs.written.Versions.{total-length}
 use Rattle.sheets.proofs.written.SheetLength.{section-size}
 use Rattle.complement.specs.sections.Arcs.{rowBytes}
 use Rattle.complement.proofs.sections.Rows.{by-mode}
 use Rattle.complement.specs.Sizes.{countsBytes, recordsBytes}
+use Rattle.complement.proofs.sections.Fields.{ends-as}
 use Rattle.complement.proofs.SheetParts.{sheet-parts, counts-size, modes-kept, arcs-at-most, arc-parts}
 
 -- version 1's arcs are a 16th of their bytes; version 2 has no count of all
@@ -84,3 +86,7 @@ module _ (v : Version) (net : PNet) where
 
   pub ends-sheet : {l m : List ℕ} {at end : ℕ} → at ≡ headSize v + 4 → Puts l at restBytes m end → end ≡ length (sheetOf v net)
   ends-sheet e put = omega (arith, put .next, sheet-length)
+
+  -- what stands before the records is put after them
+  pub whole-sheet : {l m n : List ℕ} {head end k : ℕ} → head ≡ headSize v → Puts l (head + 4) restBytes m end → Puts m 0 (countsBytes v net) n k → Puts l 0 (sheetOf v net) n end
+  whole-sheet e rest counts = puts-as (sym (sheet-parts v net)) (put-length (puts-before rest (ends-as (omega (arith, counts-size v net)) counts)))

@@ -1,1 +1,2 @@
 pub mod LineSizes
+mod Worded

@@ -1,5 +1,6 @@
 -- No output slice of that room is short.
 use borrow.Author.Needs.{needs}
+use mathlib.Core.Path.{refl}
 use native.Mathlib.Omega.{arith}
 use Rattle.opened.proofs.Shapes.{sizes}
 use Rattle.complement.proofs.WithoutOutput.{never-short}
@@ -29,7 +30,7 @@ check-net-spec =
     tie.close
     (tie.spec
     (λ c κs. search needs)
-    (λ c κs. search needs)
+    (λ c κs. (c .before .before .before .before .pre .0, (c .before .before .starts .ensures, refl)))
     (λ c. omega (arith, sizes (c .before .before .before .before .before .before .pre .0) .arcs, sizes (c .before .before .before .before .before .before .pre .0) .arcsWithin))
     complement-sizes-requires
     complement-answer-requires

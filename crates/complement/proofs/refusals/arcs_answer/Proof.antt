@@ -60,7 +60,7 @@ arcs-answer-spec =
     μ-loop
     loop-holds
     (λ c. omega (arith, sizes (c .before .before .before .pre .0) .modesWithin))
-    (λ c κs. search needs)
+    (λ c κs. (c .before .before .before .pre .0, (c .before .before .before .pre .1, c .loop-test .taken)))
     (λ c κs. search needs)
     (λ c. c .match .keys1)
     returns

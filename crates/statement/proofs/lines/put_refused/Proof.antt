@@ -1,9 +1,8 @@
 -- The word, the position, the mode, the answer, the pair and the amount.
-use Rattle.statement.specs.lines.Lines.{line, refusedLine}
 use mathlib.Core.Path.{refl, _∙_}
 use native.Mathlib.Omega.{arith}
-use Rattle.writes.proofs.Writing.{_and_}
 use Rattle.writes.proofs.Room.{room, room-for}
+use Rattle.statement.proofs.lines.Worded.{refused-worded}
 use Rattle.statement.proofs.lines.put_refused.Statement.{statement}
 use Rattle.statement.proofs.lines.put_refused.Tie as tie
 
@@ -50,7 +49,6 @@ same-length c =
     ∙ first .before .before .before .before .write-bytes .kept .0
 
 returns : tie.Need-returns
-unfolding line refusedLine
 returns c =
     let last = c .before .before in
     let fourth = last .before .before .before .before in
@@ -58,9 +56,11 @@ returns c =
     let second = third .before .before .before .before in
     let first = second .before .before .before .before .before in
     let word = first .before .before .before .before in
-    let told = word .before .before .before .line-of .ensures in
-    rw (← told .0, ← told .1, ← told .2)
-    (word .write-bytes .ensures and first .next-decimal .ensures and second .next-decimal2 .ensures and third .next-decimal3 .ensures and fourth .next-decimal4 .ensures and last .last-decimal .ensures)
+    let a = word .before .before .before .before .before .args in
+    let told = word .before .before .before .line-of in
+    refused-worded (a .refusal) (told .result .number) (told .result .position) (told .ensures .0) (told .ensures .1) (a .place) (a .mode) (told .result .amount) (told .ensures .2)
+    (word .write-bytes .ensures) (first .next-decimal .ensures) (second .next-decimal2 .ensures) (third .next-decimal3 .ensures) (fourth .next-decimal4 .ensures)
+    (last .last-decimal .ensures)
 
 pub put-refused-spec : {M : Type 1} → statement M
 put-refused-spec =

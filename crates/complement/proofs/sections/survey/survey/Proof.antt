@@ -62,7 +62,7 @@ survey-spec =
     μ-loop
     loop-holds
     (λ c. omega (arith, sizes (c .before .before .before .pre .0) .modesWithin))
-    (λ c κs. search arith)
+    (λ c κs. (c .before .before .before .pre .0, (c .before .before .before .pre .1 .0, c .loop-test .taken)))
     survey-mode-requires
     (λ c κs. search arith)
     (λ c. omega (arith, sizes (c .before .before .before .before .before .before .pre .0) .modesWithin, c .before .before .before .loop-test .taken, c .before .before .before .before .loop .inv .1))

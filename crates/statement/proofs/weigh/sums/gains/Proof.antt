@@ -25,6 +25,11 @@ loop-holds : tie.Need-loop-holds Inv-loop μ-loop
 unfolding sumTo
 loop-holds c = (search needs, refl)
 
+arc-gain-requires : tie.Need-arc-gain-requires Inv-loop μ-loop
+arc-gain-requires c κs =
+    let pre = c .before .before .before .before .pre in
+    (pre .0, (pre .1 .0, record { own = pre .1 .1; there = c .loop-test .taken }))
+
 add-sum : tie.Need-add-sum Inv-loop μ-loop
 add-sum c =
     let b = c .before .before .before .before .before in
@@ -51,7 +56,7 @@ gains-spec =
     Inv-loop
     μ-loop
     loop-holds
-    (λ c κs. search needs)
+    arc-gain-requires
     add-sum
     (λ c. search needs)
     (λ c. search needs)
