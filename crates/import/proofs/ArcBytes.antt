@@ -41,10 +41,6 @@ in-parts : (t p u v : ℕ) → arcBytes One (arc t p u v) ≡ front t p u ++ (by
 unfolding arcBytes modeBytes tailBytes flatten bytes16 bytes32 front back
 in-parts t p u v = refl
 
-front-length : (t p u : ℕ) → length (front t p u) ≡ 8
-unfolding front bytes16 bytes32
-front-length t p u = refl
-
 rest-length : (v : ℕ) → length (bytes32 v ++ back) ≡ 8
 unfolding back bytes16 bytes32
 rest-length v = refl

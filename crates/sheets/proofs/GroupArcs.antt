@@ -1,5 +1,5 @@
 -- The arcs that a sheet of version 2 means: how many, which stand where, and that they rise.
-use Prim.Native.Nat.{ℕ, zero, suc, _+_, _*_, _-_, _≤_, _<_}
+use Prim.Native.Nat.{ℕ, zero, suc, _+_, _-_, _≤_, _<_}
 use mathlib.Core.Path.{_≡_, refl, _∙_, ap}
 use mathlib.Core.List.{List, [], _∷_, _++_}
 use mathlib.Core.Logic.{inl, inr}
@@ -84,9 +84,6 @@ module _ (s : List ℕ) (base : ℕ) where
       rw (split (suc t) m) (List·getD-append (arcsOf s base (suc t)) ys (arcNo [] 0) (arcsBefore s base t + i) l
       ∙ rw e (getD-append-add xs (groupArcs s base t) i (arcNo [] 0))
       ∙ group-at t i h)
-
-  pub stands-at : (t i : ℕ) → groupArcAt (arcsAfter (groupAt s base t)) i ≡ base + 2 * (t + 1) + 14 * (arcsBefore s base t + i)
-  stands-at t i = omega arith
 
   pub each-arcs : (P : NetArc → Type 0) (n : ℕ)
       → ((t : ℕ) → t < n → (i : ℕ) → i < groupCount s base t → P (netArcIn s t (groupArcAt (arcsAfter (groupAt s base t)) i))) → Each P (arcsOf s base n)

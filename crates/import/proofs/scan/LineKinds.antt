@@ -191,9 +191,6 @@ module _ {q : State} (h : Sound q) where
       back-transition (some (pre p w)) o e = absurd (apart e number (λ z. omega arith))
       back-transition (some (post p w)) o e = absurd (apart e number (λ z. omega arith))
 
-      abbrev modeEnd : List ℕ
-      modeEnd = three (q .modes) ++ ascii "\"/>\n"
-
       pub transition-stands : {next : ℕ} → WholeOf s m (three (q .modes) ++ ascii "\"/>\n") next → Stands (AllowedNext q) (nextText q) s at (some transition) next
       transition-stands w =
           kind-stands Transition (x .whole) (λ (u : Unit {0}). Unit {0}) (λ u. some transition) (λ u. refl) (λ u o. ok-transition) back-transition {j = tt}
