@@ -1,5 +1,5 @@
 mod ByMode
 mod Parts
-mod InTurn
+mod PartRooms
 mod Answers
 pub mod Promises

@@ -67,6 +67,7 @@ room = 262144
 abbrev pub statementRefusal : ℕ → Option Refusal
 statementRefusal length = onlyIf (ltb length room) (wrong Net NoRoom)
 
+-- what it answers, and what it leaves in the slice
 unfoldable pub stated : List ℕ → List ℕ → Emitted
 stated input out = emitted (statementRefusal (length out)) (length (replayText input))
 

@@ -1,7 +1,7 @@
 -- The head, the place count, the transition count.
 use native.Mathlib.Omega.{arith}
 use Rattle.convert.proofs.strip.Parts.{numbers, size-small}
-use Rattle.convert.proofs.strip.InTurn.{head-room, places-room, transitions-room, counts-put}
+use Rattle.convert.proofs.strip.PartRooms.{head-room, places-room, transitions-room, counts-put}
 use Rattle.convert.proofs.strip.sheet.put_counts.Statement.{statement}
 use Rattle.convert.proofs.strip.sheet.put_counts.Tie as tie
 

@@ -3,7 +3,7 @@ use borrow.Author.Needs.{needs}
 use native.Mathlib.Omega.{arith}
 use Rattle.sheets.proofs.nets.Valid.{headed}
 use Rattle.convert.proofs.strip.Parts.{records-there, numbers}
-use Rattle.convert.proofs.strip.InTurn.{numbers-room, count-room, pairs-room, records-put}
+use Rattle.convert.proofs.strip.PartRooms.{numbers-room, count-room, pairs-room, records-put}
 use Rattle.convert.proofs.strip.sheet.put_records.Statement.{statement}
 use Rattle.convert.proofs.strip.sheet.put_records.Tie as tie
 

@@ -1,7 +1,7 @@
 -- The arc count where the version says it, the old arcs mode by mode, and the new.
 use native.Mathlib.Omega.{arith}
 use Rattle.convert.proofs.strip.Parts.{numbers}
-use Rattle.convert.proofs.strip.InTurn.{total-room, old-room, new-room, section-put}
+use Rattle.convert.proofs.strip.PartRooms.{total-room, old-room, new-room, section-put}
 use Rattle.convert.proofs.strip.sheet.put_section.Statement.{statement}
 use Rattle.convert.proofs.strip.sheet.put_section.Tie as tie
 
