@@ -17,7 +17,7 @@ use Rattle.model.specs.declared.Refusal.{Refusal}
 use Rattle.model.specs.declared.Answer.TheVariants.{Refused}
 use Rattle.model.specs.First.{◌▸◌, only_if, first, Lowest, NoneBelow}
 use Rattle.model.specs.Refusals.{thing_number, carries_by, carried}
-use Rattle.model.specs.RefusalTables.{Table, row as tableRow, each, Reads, one_each_table, marking_table, missing_table, mode_table}
+use Rattle.model.specs.RefusalTables.{Table, row as table_row, each, Reads, one_each_table, marking_table, missing_table, mode_table}
 use Rattle.model.specs.Numbers.{ℕ∞, fin, ∞, Above, ◌≤∞◌, limit}
 use Rattle.model.specs.Billington.{Enables}
 use Rattle.model.specs.Rows.{Entry, Row, Capacities, Counts}
@@ -207,13 +207,13 @@ missing-reads about net t = reads_plain _ (by-at-most (modes net) t.0)
 
 module _ (about : Thing) (net : PNet) (t : Mode) (m : List ℕ) where
   abbrev limit_row : ℕ → ℕ → Table
-  limit_row p n = tableRow (limit < n) (carries_by 14 (thing_number about) p (n - limit))
+  limit_row p n = table_row (limit < n) (carries_by 14 (thing_number about) p (n - limit))
 
   abbrev limit_stop : ℕ → Refusal
   limit_stop = stop about (pairs net) (rooms net (row net t)) (row net t) (count m) OverLimit
 
   stop-reads : (why : Why)
-      → Reads (each (pairs net) (λ p. tableRow (Stops why (row net t p) (rooms net (row net t) p) (count m p)) (carried (Refused (stop about (pairs net) (rooms net (row net t)) (row net t) (count m) why p)))))
+      → Reads (each (pairs net) (λ p. table_row (Stops why (row net t p) (rooms net (row net t) p) (count m p)) (carried (Refused (stop about (pairs net) (rooms net (row net t)) (row net t) (count m) why p)))))
       (lowest_stop about (pairs net) (rooms net (row net t)) (row net t) (count m) why)
   stop-reads why =
       reads-each (pairs net) (λ p l. let c = compared why (row net t p) (rooms net (row net t) p) (count m p) in reads_plain _ (by-above c.number c.bound))

@@ -1,18 +1,19 @@
 // The kinds that every crate speaks of: numbers of PLACE and TRANS kept apart, arcs, and answers.
 // Document 01's numbers for them are in specs/Refusals.antt.
+#![tactic(auto)]
 
 // A pair's number: a place with one of its colours, from PLACE (document 01, "Pairs, modes and the firing rule").
 #[repr(C)]
-#[derive(Drop)]
+#[derive(Clone, Copy)]
 pub struct Pair(pub u16);
 
 // A mode's number: a transition with one of its colours, from TRANS.
 #[repr(C)]
-#[derive(Drop)]
+#[derive(Clone, Copy)]
 pub struct Mode(pub u16);
 
 // An arc as a net sheet writes it: an inhibitor of 4,294,967,295 is unbounded.
-#[derive(Drop)]
+#[derive(Clone, Copy)]
 pub struct Arc {
     pub mode: Mode,
     pub pair: Pair,
@@ -22,21 +23,21 @@ pub struct Arc {
 }
 
 // Which layout a net sheet has. "Only net sheets have a version 2." (document 02, P9)
-#[derive(Drop)]
+#[derive(Clone, Copy)]
 pub enum Version {
     One,
     Two,
 }
 
 // Which capacity rule a net has: document 01's own, or "the weak capacity rule" of document 02, P10.
-#[derive(Drop)]
+#[derive(Clone, Copy)]
 pub enum CapacityRule {
     Strong,
     Weak,
 }
 
 // Which thing was at fault: 0 to 3 of document 01, "Refusal numbers".
-#[derive(Drop)]
+#[derive(Clone, Copy)]
 pub enum Thing {
     Net,
     Weights,
@@ -45,7 +46,7 @@ pub enum Thing {
 }
 
 // Why a mode may not fire: refusals 11 to 14, in the order in which they are looked for.
-#[derive(Drop)]
+#[derive(Clone, Copy)]
 pub enum Why {
     Lacking,
     OverCapacity,
@@ -55,7 +56,7 @@ pub enum Why {
 
 // What is wrong: a case for each refusal number and kind of position. A usize is the offset of a byte; 11 to 14 say by how much. Number 16 is reserved and has no
 // case: "show that 16 no longer occurs, and keep its number reserved" (document 02).
-#[derive(Drop)]
+#[derive(Clone, Copy)]
 pub enum Fault {
     CutShort,
     WrongVersion(usize),
@@ -83,13 +84,13 @@ pub enum Fault {
     RecordOutside,
 }
 
-#[derive(Drop)]
+#[derive(Clone, Copy)]
 pub struct Refusal {
     pub thing: Thing,
     pub fault: Fault,
 }
 
-#[derive(Drop)]
+#[derive(Clone, Copy)]
 pub enum Answer {
     Accepted,
     Refused(Refusal),
