@@ -81,13 +81,13 @@ no_arc-passes OverLimit k m h l = false_above (after no_arc m) (fin limit) (omeg
 
 module _ {n c : ℕ} {r : Row} {arc : ℕ → NetArc} (listing : Listing n r c arc) (about : Thing) (K : Capacities) (M : Counts)
     (in_range : (p : ℕ) → p < n → M p ≤ limit) (within : (p : ℕ) → p < n → M p ≤∞ K p)
-    (room : ℕ → ℕ∞) (sameRoom : (k : ℕ) → k < c → K (arc k).pair.0 ≡ room k) where
+    (room : ℕ → ℕ∞) (same_room : (k : ℕ) → k < c → K (arc k).pair.0 ≡ room k) where
   pub arcs-stop : (why : Why) → lowest_stop about n K r M why ≡ arcs_stop about c arc room M why
   arcs-stop why =
       first_sparse n c (λ p. only_if (stops why (r p) (K p) (M p)) (stopped about why p (stopped_by why (r p) (K p) (M p)))) (λ k. (arc k).pair.0)
       listing.inside listing.rising
       (λ p h elsewhere. rw (listing.unwritten p h elsewhere, no_arc-passes why (K p) (M p) (in_range p h) (within p h)))
-      ∙ first_ext c _ _ (λ k h. rw (listing.written k h, sameRoom k h))
+      ∙ first_ext c _ _ (λ k h. rw (listing.written k h, same_room k h))
 
   arcs-refusal : row_refusal about n K r M ≡ arcs_refusal about c arc room M
   unfolding row_refusal rule_refusal arcs_refusal
