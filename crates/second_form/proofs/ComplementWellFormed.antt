@@ -1,4 +1,4 @@
--- The complement of a well_formed_lem net, where 10 is not given, is well formed; its numbers are in range, so 16 never occurs.
+-- The complement of a well-formed net, where 10 is not given, is well formed; its numbers are in range, so 16 never occurs.
 use Prim.Native.Nat.{ℕ, ◌≤◌, ◌<◌}
 use mathlib.Core.Path.{◌≡◌, refl, sym, ◌∙◌}
 use mathlib.Core.Bool.{Bool, true, false, ◌&&◌}

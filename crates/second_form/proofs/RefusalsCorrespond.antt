@@ -1,7 +1,7 @@
 -- "Refusals correspond: 11, 12 and 13 in the net become 11 in its complement; 6 and 14 stay."
 use Prim.Native.Nat.{ℕ, ◌<◌}
 use mathlib.Core.Path.{◌≡◌, refl, sym, ◌∙◌}
-use mathlib.Core.Bool.{true, false, cond, true≢false, or_true}
+use mathlib.Core.Bool.{true, false, cond, true≢false, or-true}
 use mathlib.Core.Logic.{◌⊎◌, ⊎_elim}
 use mathlib.Core.Option.{Option, none, some}
 use Rattle.model.specs.declared.Thing.{Thing}
@@ -71,7 +71,7 @@ module _ (thing : Thing) (n : ℕ) (c k : Capacities) (r : Row) (M : Counts) whe
       rw (row13 thing n k r M f.0 a b f.1)
       (sym
       (none_then (off Lacking a)
-      (crowd-first f.0 f.1.below (rw (stopping Inhibited f) (or_true (stops OverCapacity (r f.0) (k f.0) (M f.0)))) _))))
+      (crowd-first f.0 f.1.below (rw (stopping Inhibited f) (or-true (stops OverCapacity (r f.0) (k f.0) (M f.0)))) _))))
       (λ (c : None Inhibited).
       ⊎_elim
       (λ (f : At OverLimit).

@@ -1,7 +1,7 @@
 -- Arcs that are written from rows, blanks left out: they read back as these rows, and rise.
 use Prim.Native.Nat.{ℕ, zero, suc, ◌<◌}
 use mathlib.Core.Path.{◌≡◌, refl, sym, ◌∙◌, ap}
-use mathlib.Core.Bool.{Bool, true, false, not, ◌&&◌, and_false, true≢false, false≢true}
+use mathlib.Core.Bool.{Bool, true, false, not, ◌&&◌, and-false, true≢false, false≢true}
 use mathlib.Core.List.{List, [], ◌∷◌, ◌++◌, append_assoc, append-nil}
 use mathlib.Core.Logic.{inl, inr, ⊎_elim, ◌≢◌}
 use lib.Dec.{eqb}
@@ -84,7 +84,7 @@ written_row m n rows t p h l =
     ∙ entry-joined t p m t.0 (λ u. joined n (λ q. written (mode_no u) q (rows (mode_no u) q))) h
     (λ u b d. elsewhere-joined t p n _ (λ q c. elsewhere-written t p (mode_no u) q (rows (mode_no u) q) (rw (ne_eqb u t.0 d)))) []
     ∙ entry-joined t p n p (λ q. written t q (rows t q)) l
-    (λ q b d. elsewhere-written t p t q (rows t q) (rw (ne_eqb q p d) (and_false (eqb t.0 t.0)))) []
+    (λ q b d. elsewhere-written t p t q (rows t q) (rw (ne_eqb q p d) (and-false (eqb t.0 t.0)))) []
     ∙ ap (λ xs. entry_at xs t p) (append-nil (written t p (rows t p)))
     ∙ written-here t p (rows t p)
 
