@@ -85,8 +85,8 @@ module _ {A : Type 0} where
   in_joined : {a : A} (n : ℕ) (f : ℕ → List A) → Memᴰ a (joined n f) → (i : ℕ) × (i < n) × Memᴰ a (f i)
   unfolding joined
   in_joined zero f m = absurd (Memᴰ.not-nil m)
-  in_joined (suc n) f m =
-      ⊎_elim (λ l. let r = in_joined n f l in (r.0, omega (arith, r.1), r.2)) (λ l. (n, omega arith, l)) (Memᴰ.append_cases (joined n f) m)
+  in_joined {a} (suc n) f m =
+      ⊎_elim (λ (l : Memᴰ a (joined n f)). let r : (i : ℕ) × (i < n) × Memᴰ a (f i) = in_joined n f l in (r.0, omega (arith, r.1), r.2)) (λ l. (n, omega arith, l)) (Memᴰ.append_cases (joined n f) m)
 
   joined_in : {a : A} (n i : ℕ) (f : ℕ → List A) → i < n → Memᴰ a (f i) → Memᴰ a (joined n f)
   unfolding joined
@@ -97,7 +97,8 @@ module _ {A : Type 0} where
 
   pub in_at : {a : A} (d : A) (xs : List A) → Memᴰ a xs → (k : ℕ) × (k < length xs) × (a ≡ get_or xs k d)
   in_at d [] m = absurd (Memᴰ.not-nil m)
-  in_at d (x ∷ xs) m = ⊎_elim (λ e. (0, omega arith, e)) (λ l. let r = in_at d xs l in (suc r.0, omega (arith, r.1), r.2)) (Memᴰ.cases_cons m)
+  in_at {a} d (x ∷ xs) m =
+      ⊎_elim (λ e. (0, omega arith, e)) (λ (l : Memᴰ a xs). let r : (k : ℕ) × (k < length xs) × (a ≡ get_or xs k d) = in_at d xs l in (suc r.0, omega (arith, r.1), r.2)) (Memᴰ.cases_cons m)
 
 abbrev pub arc_for : Mode → ℕ → Entry → NetArc
 arc_for t p e = record { mode = t; pair = pair_no p; entry = e }
