@@ -1,4 +1,6 @@
 // Bytes written into a slice that the caller lends, where it has room for them: each call hands back the position after what it wrote.
+#![tactic(auto)]
+
 ghost use Rattle.std.specs.Prelude.{[], ◌∷◌, ◌+◌, ◌≤◌, length};
 ghost use Rattle.writes.specs.Writes.{Writes};
 
