@@ -2,6 +2,6 @@ pub mod Ascii
 pub mod Promises
 pub mod Decimals
 pub mod Puts
-pub mod Contracts
+pub mod Allowed
 pub mod LastDigits
 pub mod twos

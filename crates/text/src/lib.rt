@@ -1,4 +1,6 @@
 // Runs of bytes and numbers in decimal, put into a slice that the caller lends: the parts of a line of `replay` (document 01, "`replay`").
+#![tactic(auto)]
+
 pub mod digits;
 pub mod twos;
 
@@ -6,13 +8,13 @@ ghost use Rattle.std.specs.Prelude.{◌≡◌, ◌∷◌};
 ghost use Rattle.writes.specs.Writes.{put_into};
 ghost use Rattle.text.specs.Decimals.{decimal, minus};
 ghost use Rattle.text.specs.Puts.{end_within, put_to};
-ghost use Rattle.text.specs.Contracts.{PutBytesAllows, PutDecimalAllows, PutSignedAllows};
+ghost use Rattle.text.specs.Allowed.{PutBytesAllows, PutDecimalAllows, PutSignedAllows};
 
 use crate::digits::{digit_count, size_of, write_digits};
 use writes::write_bytes;
 
 // The position after what was put, or no room: then nothing is written.
-#[derive(Drop)]
+#[derive(Clone, Copy)]
 pub enum Put {
     To(usize),
     Full,
