@@ -1,4 +1,4 @@
--- An accepted net sheet means a well_formed_lem net.
+-- An accepted net sheet means a well-formed net.
 use Prim.Native.Nat.{ℕ, ◌+◌, ◌-◌, ◌≤◌, ◌<◌}
 use mathlib.Core.Path.{◌≡◌, refl, sym, ◌∙◌, subst}
 use mathlib.Core.Bool.{Bool, true, false, ◌&&◌, ◌||◌}

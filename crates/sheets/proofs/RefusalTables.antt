@@ -19,7 +19,7 @@ use Rattle.model.specs.declared.Version.{Version}
 use Rattle.model.specs.declared.Version.TheVariants.{One, Two}
 use Rattle.model.specs.First.{◌▸◌, first, only_if}
 use Rattle.model.specs.Numbers.{fin, ∞, limit}
-use Rattle.model.specs.RefusalTables.{Reads}
+use Rattle.model.specs.RefusalTables.{row, ◌then◌, Reads}
 use Rattle.model.proofs.First.{then_assoc}
 use Rattle.model.proofs.Decisions.{Decided, by_less, by-at-most, by_equal, by-above, by_not, by_or, by_and, by-other}
 use Rattle.model.proofs.RefusalTables.{reads-row, reads_plain, reads_then, reads-each, reads-either}
@@ -75,15 +75,18 @@ weight-outside (negsuc n) =
     by-other (by_less limit (suc n)) (λ l. inl (lt_z_yes (lt→ltb 999999 n (omega arith))))
     (elim [ inl below ↦ omega (arith, ltb→lt 999999 n below.lt) | inr over ↦ absurd over.lt ])
 
+weight-row : (s : List ℕ) (at : ℕ)
+    → Reads (past_end 1 s at 4 then row (WeightOutside (signed (u32_at s at))) (carries 5 1 at)) (weight_refusal s at)
+unfolding weight_refusal
+weight-row s at = reads_then (past-reads Weights s at 4) (reads_plain _ (weight-outside (signed (u32_at s at))))
+
 weight-reads : (pairs : ℕ) (s : List ℕ) → Reads (weight_table pairs s) (weights_refusal pairs s)
-unfolding weight_table weights_refusal weight_fields weight_refusal known
+unfolding weight_table weights_refusal weight_fields known
 weight-reads pairs s =
     reads_then (head-reads Weights s (by_not (by_equal (version s) 1)))
     (reads_then (past-reads Weights s weight_count_at 2)
     (reads_then (reads_plain _ (by_not (by_equal (weight_count s) pairs)))
-    (reads_then
-    (reads-each (weight_count s)
-    (λ p l. reads_then (past-reads Weights s (weight_at p) 4) (reads_plain _ (weight-outside (signed (u32_at s (weight_at p)))))))
+    (reads_then (reads-each (weight_count s) (λ p l. weight-row s (weight_at p)))
     (left-reads Weights s (weight_at (weight_count s))))))
 
 -- 4,294,967,295 is the one number above the limit that a K or I may have

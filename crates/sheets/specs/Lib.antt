@@ -3,7 +3,7 @@ pub mod Decoded
 pub mod Accepted
 pub mod RefusalTables
 pub mod Listed
-pub mod Contracts
+pub mod Allowed
 pub mod Emitted
 pub mod lists
 pub mod nets

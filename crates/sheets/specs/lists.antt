@@ -1,4 +1,4 @@
 pub mod Movements
 pub mod Weights
-pub mod Contracts
+pub mod Allowed
 pub mod Promises

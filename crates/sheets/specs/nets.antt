@@ -2,4 +2,4 @@ pub mod Names
 pub mod Tails
 pub mod Groups
 pub mod Nets
-pub mod Contracts
+pub mod Allowed

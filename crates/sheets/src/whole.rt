@@ -3,7 +3,7 @@ ghost use Rattle.std.specs.Prelude.{◌≡◌};
 ghost use Rattle.model.specs.Refusals.{answer};
 ghost use Rattle.heads.specs.Held.{Headed};
 ghost use Rattle.sheets.specs.Whole.{bytes_after, rest};
-ghost use Rattle.sheets.specs.Contracts.{WholeNetAllows, WholeWeightsAllows, WholeMovementsAllows, AfterNetAllows, AfterWeightsAllows, AfterMovementsAllows};
+ghost use Rattle.sheets.specs.Allowed.{WholeNetAllows, WholeWeightsAllows, WholeMovementsAllows, AfterNetAllows, AfterWeightsAllows, AfterMovementsAllows};
 
 use crate::lists::movements::read_movements;
 use crate::lists::weights::read_weights;

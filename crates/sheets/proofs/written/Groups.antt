@@ -90,7 +90,7 @@ module _ (s : List ℕ) (base : ℕ) where
         parts_stand (λ t. group_bytes Two (group_arcs s base t)) n
         (λ t k l e. moved k (omega (arith, groups_length t (group_arcs s base), group_arcs-length s base t)) (group_stands t))
 
--- the arcs of a well_formed_lem net, written mode by mode, are read back
+-- the arcs of a well-formed net, written mode by mode, are read back
 pub arcs-read-back : (net : PNet) → WellFormed net → (s : List ℕ) (base : ℕ) → Stands s base (section_bytes Two net) → arcs_of s base (modes net) ≡ net.arcs
 unfolding section_bytes
 arcs-read-back net well s base stands =

@@ -102,7 +102,7 @@ pub largest-sheet : LargestSheet
 largest-sheet =
     record {
       most = λ s e.
-          let well = sheets.well-formed s e in
+          let well = sheets.well_formed_lem s e in
           omega (
             arith,
             fields-end s e,

@@ -1,4 +1,4 @@
--- A sheet is accepted if its net is well_formed_lem and its fields end where it ends.
+-- A sheet is accepted if its net is well formed and its fields end where it ends.
 use Prim.Native.Nat.{ℕ, zero, suc, ◌+◌, ◌-◌, ◌≤◌, ◌<◌}
 use mathlib.Core.Path.{◌≡◌, refl, subst, subst₂}
 use mathlib.Core.Bool.{Bool, true, false}

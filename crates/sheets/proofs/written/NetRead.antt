@@ -1,4 +1,4 @@
--- A run in which a well_formed_lem net's sheet stands reads as that net.
+-- A run in which a well-formed net's sheet stands reads as that net.
 use Prim.Native.Nat.{ℕ, ◌+◌, ◌*◌, ◌≤◌, ◌<◌}
 use mathlib.Core.Path.{◌≡◌, refl, sym, ◌∙◌, ap, subst}
 use mathlib.Core.List.{List, [], ◌++◌, flatten, flat_map}

@@ -6,7 +6,7 @@ use lib.ListN.{length}
 use native.Mathlib.Omega.{arith}
 use Rattle.model.specs.declared.Version.{Version}
 use Rattle.model.specs.declared.Version.TheVariants.{One, Two}
-use Rattle.model.specs.Nets.{rule_number, pairs, modes, K, count}
+use Rattle.model.specs.Nets.{rule_number, modes, K, count}
 use Rattle.model.specs.WellFormed.{WellFormed}
 use Rattle.heads.specs.Bytes.{byte_at, u16_at}
 use Rattle.heads.specs.Layout.{body_length, version, rule_at, counts, fields_at, places_at, transitions_at, colours_at, place_count, transition_count, modes_at, mode_count, pairs_offset, pair_at, arc_count_at, arc_count, arcs_offset, arc_at, group_at}

@@ -54,7 +54,7 @@ module _ {s : List ℕ} where
   unfolding flatten
   in_turn [] h = tt
   in_turn {at} (part ∷ parts) h =
-      (stands-left part (flatten parts) h, in_turn parts (stands-right part (flatten parts) h (at + length part) (omega arith)))
+      (stands-left part (flatten parts) h, in_turn {at = at + length part} parts (stands-right part (flatten parts) h (at + length part) (omega arith)))
 
   pub none_stand : {at : ℕ} → Stands s at (flatten [])
   unfolding flatten

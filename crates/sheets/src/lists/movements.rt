@@ -4,7 +4,7 @@ ghost use Rattle.model.specs.Refusals.{answer};
 ghost use Rattle.heads.specs.Layout.{movement_count};
 ghost use Rattle.heads.specs.Held.{Headed};
 ghost use Rattle.sheets.specs.lists.Movements.{movement_fields};
-ghost use Rattle.sheets.specs.lists.Contracts.{ReadMovementsAllows};
+ghost use Rattle.sheets.specs.lists.Allowed.{ReadMovementsAllows};
 
 use heads::head::{read_head, refused, sheet_end};
 use model::{Answer, Fault, Thing};

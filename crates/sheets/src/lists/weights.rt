@@ -5,7 +5,7 @@ ghost use Rattle.model.specs.Refusals.{answer};
 ghost use Rattle.heads.specs.Layout.{weight_at};
 ghost use Rattle.heads.specs.Held.{Headed};
 ghost use Rattle.sheets.specs.lists.Weights.{signed, weight_refusal, weight_fields};
-ghost use Rattle.sheets.specs.lists.Contracts.{ReadWeightsAllows};
+ghost use Rattle.sheets.specs.lists.Allowed.{ReadWeightsAllows};
 
 use fields::read::{count_at, left_over};
 use heads::bytes::u32_at;

@@ -6,7 +6,7 @@ ghost use Rattle.heads.specs.Layout.{pair_count, mode_count, pairs_offset};
 ghost use Rattle.heads.specs.Version.{version_of};
 ghost use Rattle.heads.specs.Held.{Headed, Counted};
 ghost use Rattle.sheets.specs.nets.Nets.{arc_section, pair_and_arc_fields, rule_field, net_fields};
-ghost use Rattle.sheets.specs.nets.Contracts.{ReadNetAllows};
+ghost use Rattle.sheets.specs.nets.Allowed.{ReadNetAllows};
 
 use crate::nets::arcs::arc_fields;
 use crate::nets::groups::group_fields;
