@@ -36,7 +36,7 @@ pub record Shaped (s : List ℕ) (net : NetShape) : Type 0 where
   pub pairs_offset : net.pairs_at ≡ pairs_offset s
   pub arcs_offset : net.arcs_at ≡ arc_count_at s
 
--- the net that an open sheet means is well_formed_lem, and as large as its shape says
+-- the net that an open sheet means is well formed, and as large as its shape says
 pub record Sizes (s : List ℕ) (net : NetShape) : Type 0 where
   pub places : net.places ≡ length (net_of s).colours
   pub transitions : net.transitions ≡ length (net_of s).modes_of

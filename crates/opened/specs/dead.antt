@@ -1,4 +1,4 @@
 pub mod IsDead
 pub mod FirstDead
 pub mod Promises
-pub mod Contracts
+pub mod Allowed

@@ -6,14 +6,14 @@ ghost use Rattle.model.specs.Numbers.{less_than, least_of};
 ghost use Rattle.model.specs.Nets.{modes, mode_no, K};
 ghost use Rattle.model.specs.declared.Thing.TheVariants.{Argument};
 ghost use Rattle.model.specs.Firing.{absent};
-ghost use Rattle.second_form.specs.Dead.{pre_room, kills as killsHere, is_dead, first_dead};
+ghost use Rattle.second_form.specs.Dead.{pre_room, kills as kills_here, is_dead, first_dead};
 ghost use Rattle.fields.specs.Numbers.{bound};
 ghost use Rattle.sheets.specs.Decoded.{net_of, net_arc};
 ghost use Rattle.opened.specs.Shape.{Open};
 ghost use Rattle.opened.specs.Starts.{StartsAre, ModeArcs, SegmentOf};
 ghost use Rattle.opened.specs.dead.IsDead.{deadness};
 ghost use Rattle.opened.specs.dead.FirstDead.{named};
-ghost use Rattle.opened.specs.dead.Contracts.{IsDeadAllows, FirstDeadAllows};
+ghost use Rattle.opened.specs.dead.Allowed.{IsDeadAllows, FirstDeadAllows};
 
 use crate::arcs::arc;
 use crate::shape::{NetShape, capacity};
@@ -23,7 +23,7 @@ use fields::numbers::{above_bound, least};
 use model::{Arc, CapacityRule, Fault, Mode, Pair, Refusal, Thing};
 
 // "gives yes or no", or why not.
-#[derive(Drop)]
+#[derive(Clone, Copy)]
 pub enum Deadness {
     Dead,
     Alive,
@@ -31,7 +31,7 @@ pub enum Deadness {
 }
 
 // The "lowest locally dead mode with the lowest pair that makes it so, or none".
-#[derive(Drop)]
+#[derive(Clone, Copy)]
 pub enum FirstDead {
     At(Mode, Pair),
     None,
@@ -70,7 +70,7 @@ fn highest_pre(room: u32, inhibitor: u32) -> u32
 
 // "Pre is above the least .., or Post is above K", by a rule, of an arc at a pair of this K.
 fn kills_by(rule: CapacityRule, most: u32, arc: Arc) -> bool
-    ensures { result ≡ killsHere rule (net_arc arc).entry (bound most) }
+    ensures { result ≡ kills_here rule (net_arc arc).entry (bound most) }
 {
     if above_bound(
         arc.pre,
@@ -85,7 +85,7 @@ fn kills_by(rule: CapacityRule, most: u32, arc: Arc) -> bool
 pub fn kills(s: &[u8], net: NetShape, arc: Arc) -> bool
     requires fact { Open s.now net }
     requires pair_lt_pairs { arc.pair.0 < net.pairs }
-    ensures { result ≡ killsHere (net_of s.now).rule (net_arc arc).entry (K (net_of s.now) arc.pair.0) }
+    ensures { result ≡ kills_here (net_of s.now).rule (net_arc arc).entry (K (net_of s.now) arc.pair.0) }
 {
     let rule = net.rule;
     let pair = arc.pair;

@@ -1,4 +1,6 @@
 // A net that a call takes as an argument: the shape of an accepted sheet, or its refusal.
+#![tactic(auto)]
+
 pub mod arcs;
 mod bytes;
 pub mod dead;
@@ -19,7 +21,7 @@ use crate::shape::{NetShape, shape_of};
 use model::{Answer, Refusal};
 use sheets::whole::whole_net;
 
-#[derive(Drop)]
+#[derive(Clone, Copy)]
 pub enum Opened {
     Open(NetShape),
     Refused(Refusal),

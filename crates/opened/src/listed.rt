@@ -3,7 +3,7 @@ ghost use Rattle.std.specs.Prelude.{◌≡◌, ◌+◌, ◌≤◌, ◌<◌, nat_
 ghost use Rattle.std.proofs.Math.Option.{none};
 ghost use Rattle.model.specs.Numbers.{limit};
 ghost use Rattle.model.specs.Nets.{mode_no};
-ghost use Rattle.movement.specs.Figures.{weight as weightOf};
+ghost use Rattle.movement.specs.Figures.{weight as weight_of};
 ghost use Rattle.heads.specs.Layout.{movements_at};
 ghost use Rattle.sheets.specs.lists.Movements.{movements_refusal};
 ghost use Rattle.sheets.specs.lists.Weights.{signed, weights_refusal};
@@ -51,7 +51,7 @@ fn signed_of(x: u32) -> i32
 pub fn weight(s: &[u8], pairs: usize, pair: Pair) -> i32
     requires s_value { weights_refusal pairs s.now ≡ none }
     requires pair_lt_pairs { pair.0 < pairs }
-    ensures { (result ≡ weightOf (weights_of s.now) pair.0) × (nat_abs result ≤ limit) }
+    ensures { (result ≡ weight_of (weights_of s.now) pair.0) × (nat_abs result ≤ limit) }
 {
     signed_of(u32_at(s, 7 + 4 * (pair.0 as usize)))
 }

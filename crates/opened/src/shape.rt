@@ -20,7 +20,7 @@ use sheets::nets::net::{mode_count, pair_count, pairs_at};
 
 // The version of a net's sheet, the net's capacity rule, how many places, transitions, pairs, modes and arcs the net has, and where its pairs, and then its
 // arcs with their counts, stand in the sheet.
-#[derive(Drop)]
+#[derive(Clone, Copy)]
 pub struct NetShape {
     pub version: Version,
     pub rule: CapacityRule,

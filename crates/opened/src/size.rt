@@ -3,13 +3,13 @@ ghost use Rattle.std.specs.Prelude.{◌≡◌};
 ghost use Rattle.sheets.specs.Decoded.{net_of};
 ghost use Rattle.opened.specs.Shape.{Open};
 ghost use Rattle.opened.specs.size.Sizes.{size_of};
-ghost use Rattle.opened.specs.size.Contracts.{SizeAllows};
+ghost use Rattle.opened.specs.size.Allowed.{SizeAllows};
 
 use crate::shape::NetShape;
 use crate::{Opened, open_net};
 use model::Refusal;
 
-#[derive(Drop)]
+#[derive(Clone, Copy)]
 pub struct NetSize {
     pub pairs: usize,
     pub modes: usize,
@@ -17,7 +17,7 @@ pub struct NetSize {
 }
 
 // How large, or why not.
-#[derive(Drop)]
+#[derive(Clone, Copy)]
 pub enum Measured {
     Is(NetSize),
     Refused(Refusal),

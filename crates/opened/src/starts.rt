@@ -12,7 +12,7 @@ use crate::shape::NetShape;
 use model::{Mode, Version};
 
 // The arcs of a mode: `count` of them, in the order of the sheet.
-#[derive(Drop)]
+#[derive(Clone, Copy)]
 pub struct Segment {
     pub mode: Mode,
     pub start: usize,
@@ -97,7 +97,7 @@ pub fn arcs_of(s: &[u8], net: NetShape, starts: &[u16; 257], mode: Mode) -> Segm
 }
 
 // Where the first arc whose mode is at least some `t` stands: not before `low`, and not after `high`.
-#[derive(Drop)]
+#[derive(Clone, Copy)]
 struct Span {
     low: usize,
     high: usize,

@@ -1,0 +1,6 @@
+-- The shape of an open net says how large the net is.
+use Rattle.opened.proofs.Shapes.{sizes}
+use Rattle.opened.proofs.size.size_of.Goals as goal
+
+pub returns : goal.returns
+returns c = let z = sizes c.requires in rw (z.pairs, z.modes, z.arcs)
