@@ -1,5 +1,5 @@
 pub mod Converted
-pub mod Contracts
+pub mod Allowed
 pub mod Parts
 pub mod Promises
 pub mod strip

@@ -1,4 +1,4 @@
 pub mod Stripped
-pub mod Contracts
+pub mod Allowed
 pub mod Parts
 pub mod Promises

@@ -1,4 +1,6 @@
 // The conversions of a net sheet between its two versions (document 02, P9): the same net, written in the other version.
+#![tactic(auto)]
+
 pub mod arcs;
 mod sheet;
 pub mod strip;
@@ -10,7 +12,7 @@ ghost use Rattle.opened.specs.Opened.{opened};
 ghost use Rattle.sheets.specs.written.Written.{version_number};
 ghost use Rattle.sheets.specs.Emitted.{emitted, output};
 ghost use Rattle.convert.specs.Converted.{of_version, lost_rule, converted_sheet, open_refusal, conversion_of, output_of};
-ghost use Rattle.convert.specs.Contracts.{ToVersion1Allows, ToVersion2Allows};
+ghost use Rattle.convert.specs.Allowed.{ToVersion1Allows, ToVersion2Allows};
 
 use crate::sheet::put_sheet;
 use heads::head::{read_head, refused};

@@ -8,7 +8,7 @@ ghost use Rattle.std.specs.Prelude.{◌≡◌, length};
 ghost use Rattle.sheets.specs.Emitted.{emitted, output};
 ghost use Rattle.opened.specs.Shape.{Open};
 ghost use Rattle.convert.specs.strip.Stripped.{stripped_sheet, room_refusal};
-ghost use Rattle.convert.specs.strip.Contracts.{StripAllows};
+ghost use Rattle.convert.specs.strip.Allowed.{StripAllows};
 
 use crate::strip::room::strip_answer;
 use crate::strip::sheet::put_sheet;

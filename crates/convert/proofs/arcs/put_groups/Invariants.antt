@@ -1,0 +1,13 @@
+-- The arcs of the modes passed are put.
+use Prim.Native.Nat.{◌≤◌, ◌-◌}
+use Rattle.model.specs.Lists.{joined}
+use Rattle.sheets.specs.Decoded.{net_of}
+use Rattle.sheets.specs.written.Puts.{Puts}
+use Rattle.convert.specs.Parts.{mode_group}
+use Rattle.convert.proofs.arcs.put_groups.Given as goal
+
+abbrev pub invariant-loop-t : goal.invariant-loop-t
+invariant-loop-t l = (l.t ≤ l.modes) × Puts l.initial.out l.at (joined l.t (mode_group l.version (net_of l.s))) l.out l.next
+
+abbrev pub decreases-loop-t : goal.decreases-loop-t
+decreases-loop-t l = l.modes - l.t
