@@ -1,4 +1,5 @@
 // The constant byte strings of a net's text in PNML, written on export and compared on import (document 02, P5). specs/Pnml.antt has the text that they make.
+#![tactic(auto)]
 
 // Before the first place.
 pub const OPENING: [u8; 187] =
