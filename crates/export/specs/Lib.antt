@@ -1,5 +1,5 @@
 pub mod Exports
-pub mod Contracts
+pub mod Allowed
 pub mod Bounds
 pub mod Promises
 pub mod elements

@@ -1,4 +1,6 @@
 // The exporting call: a net whose K and I are all unbounded as a text in PNML, for tools that read place/transition nets (document 02, P5).
+#![tactic(auto)]
+
 mod bounds;
 pub mod elements;
 pub mod texts;
@@ -10,7 +12,7 @@ ghost use Rattle.sheets.specs.Emitted.{emitted, output};
 ghost use Rattle.opened.specs.Shape.{Open};
 ghost use Rattle.opened.specs.Starts.{StartsAre};
 ghost use Rattle.export.specs.Exports.{export_text, room_refusal};
-ghost use Rattle.export.specs.Contracts.{ExportPnmlAllows};
+ghost use Rattle.export.specs.Allowed.{ExportPnmlAllows};
 
 use crate::bounds::bounds_answer;
 use crate::texts::lengths::text_length;

@@ -1,0 +1,12 @@
+-- A finite I.
+use mathlib.Core.Path.{sym, ◌∙◌, ap}
+use Rattle.second_form.specs.Complement.{finite}
+use Rattle.model.proofs.Refusals.{answer-last-passes, answer-last_fails}
+use Rattle.export.proofs.bounds.inhibitor_answer.Goals as goal
+
+pub returns-then-is_finite : goal.returns-then-is_finite
+returns-then-is_finite c =
+    answer-last_fails (ap (λ a. finite a.entry.inhibitor) (sym c.arc-a.ensures.is) ∙ sym c.is_finite.ensures ∙ c.if-is_finite.true) (rw (← c.inhibitor_offset.ensures) c.refused.ensures)
+
+pub returns : goal.returns
+returns c = answer-last-passes _ (ap (λ a. finite a.entry.inhibitor) (sym c.arc-a.ensures.is) ∙ sym c.is_finite.ensures ∙ c.if-is_finite.false)

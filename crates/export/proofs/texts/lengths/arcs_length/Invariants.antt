@@ -1,0 +1,14 @@
+-- As long as the arcs passed.
+use Prim.Native.Nat.{◌+◌, ◌*◌, ◌≤◌, ◌-◌}
+use mathlib.Core.Path.{◌≡◌}
+use lib.ListN.{length}
+use Rattle.model.specs.Lists.{joined}
+use Rattle.sheets.specs.Decoded.{net_of}
+use Rattle.export.specs.texts.Parts.{arc_no_text}
+use Rattle.export.proofs.texts.lengths.arcs_length.Given as goal
+
+abbrev pub invariant-loop-i : goal.invariant-loop-i
+invariant-loop-i l = (l.i ≤ l.count) × (l.total ≡ length (joined l.i (λ k. arc_no_text (net_of l.s) (l.arcs.start + k)))) × (l.total ≤ 214 * l.i)
+
+abbrev pub decreases-loop-i : goal.decreases-loop-i
+decreases-loop-i l = l.count - l.i
