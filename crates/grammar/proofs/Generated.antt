@@ -163,7 +163,7 @@ arcs-next : (t : ℕ) {n k low : ℕ} {x : List ℕ} {d : Gathered} (bs : List N
 unfolding flat_map
 arcs-next t {k = k} {low = low} {x = x} {d = d} [] r f m = (low, reached_as (sym (add-zero k)) (sym (append-nil x)) (sym (append-nil d.arcs)) r)
 arcs-next t {n} {k} {low} {x} {d} (a ∷ bs) r f m =
-    let s = arcs-next t bs (arc-next t r a f.0 f.1 (omega arith)) f.2 (omega arith) in
+    let s = arcs-next t {k = k + 1} {low = a.pair.0 + 1} {x = x ++ arc_text a} {d = with_arcs d (a ∷ [])} bs (arc-next t r a f.0 f.1 (omega arith)) f.2 (omega arith) in
     (s.0, reached_as (omega arith) (append_assoc x (arc_text a) (flat_map arc_text bs)) (append_assoc d.arcs (a ∷ []) bs) s.1)
 
 -- how many arcs have a mode below t

@@ -19,7 +19,7 @@ use Rattle.model.specs.WellFormed.{Rises, Counted}
 use Rattle.movement.proofs.Each.{Each, Sorted, each_append, each_at, sorted-rising}
 use Rattle.movement.proofs.Joined.{joined_ext}
 use Rattle.sheets.specs.written.Written.{of_mode}
-use Rattle.pnml.specs.Pnml.{opening, closing, pnml, place_text, transition_text, pre_text, post_text, positive, arc_text, mode_text, body, Exportable}
+use Rattle.pnml.specs.Pnml.{opening, closing, pnml, place_text, transition_text, pre_text, post_text, arc_text, mode_text, body, Exportable}
 use Rattle.grammar.specs.declared.State.{State}
 use Rattle.grammar.specs.Lines.{Line, place, transition, pre, post, Allowed, after, up_to, line_text, start, Valid, text_from}
 use Rattle.grammar.specs.Gathered.{Gathered, nothing, with_arcs, arc, last_post, gather}

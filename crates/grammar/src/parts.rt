@@ -6,14 +6,14 @@ pub mod three;
 pub mod valued;
 
 // A number and the position after it.
-#[derive(Drop)]
+#[derive(Clone, Copy)]
 pub enum Numbered {
     Number(u32, usize),
     Stops(usize),
 }
 
 // Constant text: the position after it, or where the text leaves it.
-#[derive(Drop)]
+#[derive(Clone, Copy)]
 pub enum Literal {
     Whole(usize),
     Part(usize),

@@ -34,16 +34,16 @@ module _ {J : Type 0} {ok : J → Type 0} {text : J → List ℕ} {s : List ℕ}
             (below_or i (length (text k)));
       })
 
-module _ {J K : Type 0} (okJ : J → Type 0) (A : J → List ℕ) (okK : J → K → Type 0) (B : J → K → List ℕ) where
+module _ {J K : Type 0} (ok_j : J → Type 0) (A : J → List ℕ) (ok_k : J → K → Type 0) (B : J → K → List ℕ) where
   abbrev pub ok_both : J × K → Type 0
-  ok_both x = okJ x.0 × okK x.0 x.1
+  ok_both x = ok_j x.0 × ok_k x.0 x.1
 
   abbrev pub both : J × K → List ℕ
   both x = A x.0 ++ B x.0 x.1
 
   module _ {s : List ℕ} {at : ℕ} where
     -- where the first text stands, one that agrees with more has it too, and agrees with the rest
-    rest_of : (j : J) (m : ℕ) → Stands okJ A s at j m → (n : ℕ) (x : J × K) (rest : List ℕ) → ok_both x → Agrees s at (length (A j) + n) (both x ++ rest)
+    rest_of : (j : J) (m : ℕ) → Stands ok_j A s at j m → (n : ℕ) (x : J × K) (rest : List ℕ) → ok_both x → Agrees s at (length (A j) + n) (both x ++ rest)
         → (x.0 ≡ j) × Agrees s m n (B x.0 x.1 ++ rest)
     rest_of j m st n x rest ok a =
         let a' : Agrees s at (length (A j) + n) (A x.0 ++ (B x.0 x.1 ++ rest)) = rw append_assoc at a in
@@ -53,7 +53,7 @@ module _ {J K : Type 0} (okJ : J → Type 0) (A : J → List ℕ) (okK : J → K
         go : (k : J) → k ≡ j → Agrees s at (length (A j) + n) (A k ++ (B x.0 x.1 ++ rest)) → Agrees s m n (B x.0 x.1 ++ rest)
         go k e y = rw (← st.place) at (agrees-rest (A j) (B x.0 x.1 ++ rest) (rw e at y))
 
-    pub both_stand : {j : J} {k : K} {m next : ℕ} → Stands okJ A s at j m → Stands (okK j) (B j) s m k next → Stands ok_both both s at (j, k) next
+    pub both_stand : {j : J} {k : K} {m next : ℕ} → Stands ok_j A s at j m → Stands (ok_k j) (B j) s m k next → Stands ok_both both s at (j, k) next
     both_stand {j} {k} {m} {next} st su =
         record {
           is = (st.is, su.is);
@@ -65,13 +65,13 @@ module _ {J K : Type 0} (okJ : J → Type 0) (A : J → List ℕ) (okK : J → K
               pair r.0 f;
         }
       where
-        second : (i : J) (h : K) (rest : List ℕ) → i ≡ j → okK i h → Agrees s m (length (B j k)) (B i h ++ rest) → h ≡ k
+        second : (i : J) (h : K) (rest : List ℕ) → i ≡ j → ok_k i h → Agrees s m (length (B j k)) (B i h ++ rest) → h ≡ k
         second i h rest e o y = su.only h rest (rw e at o) (rw e at y)
 
         pair : {a : J} {b : K} → a ≡ j → b ≡ k → ◌≡◌ {A = J × K} (a, b) (j, k)
         pair e f = cc
 
-    pub both-stop : {j : J} {m p : ℕ} → Stands okJ A s at j m → Stops (okK j) (B j) s m p → Stops ok_both both s at p
+    pub both-stop : {j : J} {m p : ℕ} → Stands ok_j A s at j m → Stops (ok_k j) (B j) s m p → Stops ok_both both s at p
     both-stop {j} {m} {p} st su =
         record {
           count = length (A j) + su.count;
@@ -86,16 +86,16 @@ module _ {J K : Type 0} (okJ : J → Type 0) (A : J → List ℕ) (okK : J → K
               third x.0 x.1 (the_one st x.0 ok.0 h) ok.1 a;
         }
       where
-        second : (i : J) (h : K) (rest : List ℕ) → i ≡ j → okK i h → ¬ Agrees s m (su.count + 1) (B i h ++ rest)
+        second : (i : J) (h : K) (rest : List ℕ) → i ≡ j → ok_k i h → ¬ Agrees s m (su.count + 1) (B i h ++ rest)
         second i h rest e o y = su.never h rest (rw e at o) (rw e at y)
 
-        third : (i : J) (h : K) → i ≡ j → okK i h → ¬ Agrees s at (length (A i ++ B i h)) (A i ++ B i h)
+        third : (i : J) (h : K) → i ≡ j → ok_k i h → ¬ Agrees s at (length (A i ++ B i h)) (A i ++ B i h)
         third i h e o y =
             let y' : Agrees s at (length (A j) + length (B j h)) (A j ++ B j h) = rw (e, length-append) at y in
             su.absent h (rw e at o) (rw (← st.place) at (agrees-rest (A j) (B j h) y'))
 
     -- where the first text stops, all stop
-    pub first_stops : {p : ℕ} → Stops okJ A s at p → ((j : J) → okJ j → (k : K) × (okK j k)) → Stops ok_both both s at p
+    pub first_stops : {p : ℕ} → Stops ok_j A s at p → ((j : J) → ok_j j → (k : K) × (ok_k j k)) → Stops ok_both both s at p
     first_stops st some =
         let j = st.one.0 in
         let k = some j st.one.1 in

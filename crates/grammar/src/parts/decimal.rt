@@ -35,7 +35,7 @@ fn next_value(low: u32, value: u32, begun: bool, b: u8) -> u32
 }
 
 // The longest run of digits from `at` on with which some number of low..1,000,000 begins.
-#[derive(Drop)]
+#[derive(Clone, Copy)]
 struct Digits {
     pub value: u32,
     pub end: usize,
