@@ -25,7 +25,7 @@ use Rattle.pnml.proofs.ImportRefusal.{roomy, Way, many, full, whole, way}
 use Rattle.grammar.proofs.parts.Steps.{agrees-fewer}
 use Rattle.grammar.proofs.Generated.{total-some}
 use Rattle.import.specs.Imports.{import_of, output_of}
-use Rattle.import.specs.Contracts.{ImportPnmlAllows}
+use Rattle.import.specs.Allowed.{ImportPnmlAllows}
 use Rattle.import.specs.Promises.{RefusedExactly, Small, ImportsExactly, ImportedReads}
 use Rattle.import.proofs.Singles.{pairs-same, modes-same, singles-well, no_bound}
 

@@ -17,7 +17,7 @@ use Rattle.sheets.specs.Emitted.{emitted, refusal_of}
 use Rattle.pnml.specs.Pnml.{pnml, Exportable, Refused20}
 use Rattle.pnml.specs.Singles.{imported_sheet, import_refusal}
 use Rattle.pnml.proofs.ImportRefusal.{too_many_lem, Way, many, full, whole, way}
-use Rattle.import.specs.Contracts.{OfExport, OfNone}
+use Rattle.import.specs.Allowed.{OfExport, OfNone}
 use Rattle.import.specs.RefusalTable.{ExportOfSome, import_table, ImportTable}
 use Rattle.import.proofs.Promises.{once, answered}
 

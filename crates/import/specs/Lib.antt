@@ -1,6 +1,6 @@
 pub mod Promises
 pub mod RefusalTable
 pub mod Imports
-pub mod Contracts
+pub mod Allowed
 pub mod Parts
 pub mod scan

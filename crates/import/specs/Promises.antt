@@ -10,7 +10,7 @@ use Rattle.sheets.specs.declared.Emitted.{Emitted}
 use Rattle.sheets.specs.declared.Emitted.TheVariants.{Length, Refused}
 use Rattle.pnml.specs.Pnml.{pnml, Exportable, Refused20}
 use Rattle.pnml.specs.Singles.{singles, imported_sheet}
-use Rattle.import.specs.Contracts.{ImportPnmlAllows}
+use Rattle.import.specs.Allowed.{ImportPnmlAllows}
 
 -- "20 at the first byte (or the end) from which no export agrees with the text": there, and nowhere else
 pub record RefusedExactly : Type 0 where

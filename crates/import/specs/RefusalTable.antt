@@ -8,7 +8,7 @@ use Rattle.sheets.specs.declared.Emitted.{Emitted}
 use Rattle.sheets.specs.Emitted.{refusal_of}
 use Rattle.pnml.specs.Pnml.{pnml, Exportable, Refused20}
 use Rattle.pnml.specs.Singles.{imported_sheet}
-use Rattle.import.specs.Contracts.{ImportPnmlAllows}
+use Rattle.import.specs.Allowed.{ImportPnmlAllows}
 
 -- the text is the export of such a net
 abbrev pub ExportOfSome : List ℕ → (PNet → Type 0) → Type 0

@@ -1,4 +1,6 @@
 // The importing call: a text in PNML that is an export, as a net sheet (document 02, P5). The text is checked whole first, then written: a refused call writes nothing.
+#![tactic(auto)]
+
 mod arcs;
 mod places;
 pub mod scan;
@@ -8,7 +10,7 @@ ghost use Rattle.std.specs.Prelude.{◌≡◌};
 ghost use Rattle.model.specs.Refusals.{wrong};
 ghost use Rattle.sheets.specs.declared.Emitted.TheVariants.{Refused};
 ghost use Rattle.import.specs.scan.Kinds.{ExportOf};
-ghost use Rattle.import.specs.Contracts.{ImportPnmlAllows};
+ghost use Rattle.import.specs.Allowed.{ImportPnmlAllows};
 ghost use Rattle.import.specs.Parts.{ImportedAs};
 
 use crate::scan::{Checked, check_text};
@@ -19,7 +21,7 @@ use sheets::Emitted;
 use sheets::written::sheet_size;
 
 // What was written of a line: the state after it, where it ends, and the place after what was written; or there is no line.
-#[derive(Drop)]
+#[derive(Clone, Copy)]
 enum Wrote {
     On(State, usize, usize),
     End,

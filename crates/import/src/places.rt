@@ -12,7 +12,7 @@ use pnml::OPENING;
 use sheets::written::put_pair;
 
 // Where the text has been read to, and the sheet written to.
-#[derive(Drop)]
+#[derive(Clone, Copy)]
 pub(crate) struct Places {
     pub read: usize,
     pub next: usize,

@@ -16,7 +16,7 @@ use grammar::parts::constant::compare;
 use pnml::OPENING;
 
 // What a line begins with.
-#[derive(Drop)]
+#[derive(Clone, Copy)]
 pub(crate) enum Kind {
     Close,
     Place,
@@ -25,21 +25,21 @@ pub(crate) enum Kind {
     Post,
 }
 
-#[derive(Drop)]
+#[derive(Clone, Copy)]
 pub(crate) enum Headed {
     Head(Kind, usize),
     NoHead(usize),
 }
 
 // The pair, the weight and the end of an arc's line.
-#[derive(Drop)]
+#[derive(Clone, Copy)]
 pub(crate) enum Arced {
     Arc(u32, u32, usize),
     NoArc(usize),
 }
 
 // A line, the closing, or where no line goes on so.
-#[derive(Drop)]
+#[derive(Clone, Copy)]
 pub(crate) enum Step {
     Placed(u32, usize),
     Begun(usize),
@@ -49,7 +49,7 @@ pub(crate) enum Step {
     Stopped(usize),
 }
 
-#[derive(Drop)]
+#[derive(Clone, Copy)]
 pub(crate) enum Moved {
     On(State, usize),
     AtEnd(usize),
@@ -57,7 +57,7 @@ pub(crate) enum Moved {
 }
 
 // The state after the last line and the position after the closing, or where no export agrees any more.
-#[derive(Drop)]
+#[derive(Clone, Copy)]
 pub(crate) enum Checked {
     Ended(State, usize),
     Refused(usize),

@@ -94,14 +94,14 @@ abbrev pub ArcOk : ℕ → ℕ → ℕ × ℕ → Type 0
 ArcOk low high x = Between low high x.0 × Within 1 x.1
 
 abbrev pub arc_rest : Bool → ℕ → ℕ × ℕ → List ℕ
-arc_rest isPre t x = pair_text t x.0 ++ valued (ends_text isPre t x.0) arc_tail x.1
+arc_rest is_pre t x = pair_text t x.0 ++ valued (ends_text is_pre t x.0) arc_tail x.1
 
 abbrev pub ArcedAs : Bool → ℕ → ℕ → ℕ → List ℕ → ℕ → Arced → Type 0
-ArcedAs isPre t low high s at (Arc p w next) = L.Stands (ArcOk low high) (arc_rest isPre t) s at (p, w) next
-ArcedAs isPre t low high s at (NoArc p) = L.Stops (ArcOk low high) (arc_rest isPre t) s at p
+ArcedAs is_pre t low high s at (Arc p w next) = L.Stands (ArcOk low high) (arc_rest is_pre t) s at (p, w) next
+ArcedAs is_pre t low high s at (NoArc p) = L.Stops (ArcOk low high) (arc_rest is_pre t) s at p
 
-pub record ArcAllows (isPre : Bool) (t low high : ℕ) (s : List ℕ) (at : ℕ) (r : Arced) : Type 0 where
-  pub how : ArcedAs isPre t low high s at r
+pub record ArcAllows (is_pre : Bool) (t low high : ℕ) (s : List ℕ) (at : ℕ) (r : Arced) : Type 0 where
+  pub how : ArcedAs is_pre t low high s at r
 
 abbrev pub SteppedAs : State → List ℕ → ℕ → Step → Type 0
 SteppedAs q s at (Placed n next) = L.Stands (AllowedNext q) (next_text q) s at (some (place n)) next
