@@ -1,4 +1,6 @@
 // What a mode meets at one of its pairs: refusals 11 to 14, and the count after firing.
+#![tactic(auto)]
+
 ghost use Rattle.std.specs.Prelude.{◌≡◌, ◌+◌};
 ghost use Rattle.model.specs.Firing.{after, stops};
 ghost use Rattle.fields.specs.Numbers.{bound};
@@ -9,7 +11,7 @@ use fields::numbers::above_bound;
 use model::{Arc, Why};
 
 // An arc, what 12 compares with at its pair, written as a sheet writes K, and the count there.
-#[derive(Drop)]
+#[derive(Clone, Copy)]
 pub struct AtPair {
     pub arc: Arc,
     pub capacity: u32,
