@@ -1,4 +1,6 @@
 // What an arc has at the complement pair of a pair of finite K, in numbers: what its mode takes there, Pre, and gives back, Post.
+#![tactic(auto)]
+
 ghost use Rattle.std.specs.Prelude.{◌≡◌, cond, ◌+◌, ◌-◌, ◌≤◌, max};
 ghost use Rattle.model.specs.Numbers.{limit};
 ghost use Rattle.second_form.specs.Complement.{reserve, claim, complement_pre};
