@@ -1,4 +1,4 @@
 pub mod Calls
 pub mod Sums
 pub mod Parts
-pub mod Contracts
+pub mod Allowed

@@ -1,5 +1,7 @@
 // Movements over a lent marking, one at a time: begin, test, fire.
 // What each call answers, and what it leaves in the marking, is said in specs/Calls.antt.
+#![tactic(auto)]
+
 ghost use Rattle.std.specs.Prelude.{◌≡◌};
 ghost use Rattle.model.specs.Refusals.{answer};
 ghost use Rattle.model.specs.Firing.{fired};
@@ -8,7 +10,7 @@ ghost use Rattle.opened.specs.Shape.{Open};
 ghost use Rattle.fire.specs.Calls.{argument_refusal};
 ghost use Rattle.leaving.specs.Leaving.{Leaves};
 ghost use Rattle.model.specs.Markings.{unequal};
-ghost use Rattle.fire.specs.Contracts.{BeginAllows, TestAllows, FireAllows};
+ghost use Rattle.fire.specs.Allowed.{BeginAllows, TestAllows, FireAllows};
 
 use crate::advance::mode_answer;
 use crate::firing::mode::{fire_arcs, row_answer};

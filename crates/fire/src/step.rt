@@ -9,7 +9,7 @@ ghost use Rattle.opened.specs.Shape.{Open};
 ghost use Rattle.leaving.specs.Leaving.{Leaves};
 ghost use Rattle.fire.specs.step.Calls.{step_modes};
 ghost use Rattle.fire.specs.step.Parts.{Members, argument_refusal, sums_refusal};
-ghost use Rattle.fire.specs.step.Contracts.{TestStepAllows, FireStepAllows};
+ghost use Rattle.fire.specs.step.Allowed.{TestStepAllows, FireStepAllows};
 
 use crate::marking::marking_answer;
 use crate::step::members::members_answer;

@@ -1,7 +1,7 @@
 -- The members of a step: met one by one, and added up one by one.
 use Prim.Native.Nat.{ℕ, ◌+◌, ◌≤◌, ◌<◌}
 use mathlib.Core.Path.{◌≡◌, refl, sym, ◌∙◌, ap}
-use mathlib.Core.Bool.{Bool, ◌||◌, or_true}
+use mathlib.Core.Bool.{Bool, ◌||◌, or-true}
 use mathlib.Core.List.{List}
 use lib.Dec.{eqb, ltb}
 use lib.ListN.{length, take, get_or, replicate, length-map, length-take, get_or-replicate, get_or-map}
@@ -51,7 +51,7 @@ module _ (n : ℕ) (ms : List ℕ) {a : Answer} where
 
   pub long-step : 64 < length ms → a ≡ Refused (wrong Argument (CountOutside 0)) → a ≡ answer (members_refusal n ms)
   unfolding members_refusal
-  long-step h q = answer_fails {t = outside ms} _ (rw (length-map ms mode_no, lt-ltb 64 (length ms) h) (or_true (eqb (length ms) 0))) q
+  long-step h q = answer_fails {t = outside ms} _ (rw (length-map ms mode_no, lt-ltb 64 (length ms) h) (or-true (eqb (length ms) 0))) q
 
   pub fair_step : (length ms ≡ 0 → ⊥) → length ms ≤ 64 → a ≡ answer (first (length ms) (member_absent n ms)) → a ≡ answer (members_refusal n ms)
   unfolding members_refusal

@@ -1,0 +1,14 @@
+-- The arcs before i have been added.
+use Prim.Native.Nat.{◌+◌, ◌≤◌, ◌-◌}
+use Rattle.model.specs.Nets.{arc_no}
+use Rattle.sheets.specs.Decoded.{net_of}
+use Rattle.fire.specs.step.Sums.{Tabled, sums_at}
+use Rattle.fire.proofs.step.Adding.{AddedArcs}
+use Rattle.fire.proofs.step.sums.add_arcs.Given as goal
+
+abbrev pub invariant-loop-i : goal.invariant-loop-i
+invariant-loop-i l =
+    (l.i ≤ l.count) × Tabled l.pre l.post l.low × AddedArcs (λ k. arc_no (net_of l.s).arcs (l.arcs.start + k)) l.i (sums_at l.initial.pre l.initial.post l.initial.low) (sums_at l.pre l.post l.low)
+
+abbrev pub decreases-loop-i : goal.decreases-loop-i
+decreases-loop-i l = l.count - l.i
