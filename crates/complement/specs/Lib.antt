@@ -1,6 +1,6 @@
 pub mod Complemented
 pub mod ArcRefusals
 pub mod Sizes
-pub mod Contracts
+pub mod Allowed
 pub mod sections
 pub mod audit

@@ -1,4 +1,4 @@
 pub mod Audits
 pub mod Parts
 pub mod Promises
-pub mod Contracts
+pub mod Allowed

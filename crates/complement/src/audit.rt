@@ -10,7 +10,7 @@ ghost use Rattle.opened.specs.Shape.{Open, arc_offset};
 ghost use Rattle.halves.specs.Bounded.{BelowAre};
 ghost use Rattle.complement.specs.audit.Audits.{finds};
 ghost use Rattle.complement.specs.audit.Parts.{OneEach};
-ghost use Rattle.complement.specs.audit.Contracts.{AuditAllows};
+ghost use Rattle.complement.specs.audit.Allowed.{AuditAllows};
 
 use crate::audit::excess::pair_excess;
 use crate::audit::refusals::audit_answer;
@@ -20,7 +20,7 @@ use opened::shape::NetShape;
 use opened::{Opened, open_net};
 
 // The lowest pair out of step and its excess, or none, or why not.
-#[derive(Drop)]
+#[derive(Clone, Copy)]
 pub enum Found {
     At(Pair, i64),
     Nothing,
@@ -31,7 +31,7 @@ pub enum Found {
 fn find(s: &[u8], net: NetShape, below: &[u16; 257], marking: &[u32], beside: &[u32]) -> Found
     requires fact { Open s.now net }
     requires below_are { BelowAre (net_of s.now) below.now }
-    requires one_each_lem { OneEach (net_of s.now) marking.now beside.now }
+    requires one_each { OneEach (net_of s.now) marking.now beside.now }
     ensures { result ≡ finds none (audited (net_of s.now) marking.now beside.now) }
 {
     let pairs = net.pairs;

@@ -1,5 +1,7 @@
 // The complementing call: the second form of a net, in which a token left behind shows at once (document 01, "The complemented net").
 // It writes the sheet of the complement straight from the sheet of the net.
+#![tactic(auto)]
+
 pub mod audit;
 pub mod check;
 mod refusals;
@@ -11,7 +13,7 @@ ghost use Rattle.std.specs.Prelude.{◌≡◌, length};
 ghost use Rattle.sheets.specs.Emitted.{emitted, output};
 ghost use Rattle.opened.specs.Shape.{Open};
 ghost use Rattle.complement.specs.Complemented.{complement_sheet, room_refusal};
-ghost use Rattle.complement.specs.Contracts.{ComplementAllows};
+ghost use Rattle.complement.specs.Allowed.{ComplementAllows};
 
 use crate::room::complement_answer;
 use crate::sections::bounded::bounded_below;

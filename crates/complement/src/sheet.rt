@@ -18,7 +18,7 @@ use opened::shape::NetShape;
 use sheets::written::{head_size, put_count, put_head, put_total, total_size};
 
 // How many places and pairs the complement has, and how many arcs: as many as it has, or at most so many.
-#[derive(Drop)]
+#[derive(Clone, Copy)]
 pub(crate) struct Sizes {
     pub places: usize,
     pub pairs: usize,

@@ -26,10 +26,6 @@ use Rattle.halves.proofs.Below.{entry-is}
 use Rattle.fields.specs.Numbers.{bound}
 use Rattle.fields.proofs.Bounds.{by-bound}
 
-pub difference-fits : (a b : ℕ) → a < 8589934592 → b < 8589934592 → SFits w64 (pos a -ℤ pos b)
-difference-fits a b h l =
-    ⊎_elim (λ (q : a < b). rw (minus-below a b q) (record { sfits = omega arith })) (λ (q : b ≤ a). rw (minus_is a b q) (record { sfits = omega arith })) (below_or a b)
-
 -- K as the sheet writes it, where it is unbounded and where it is not
 module _ (x : ℕ) {k : ℕ∞} (m m' c : ℕ) (e : bound x ≡ k) where
   pub unbounded-excess : finite (bound x) ≡ false → pos m -ℤ pos m' ≡ excess_of k m m' c

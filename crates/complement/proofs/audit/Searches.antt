@@ -21,7 +21,7 @@ use Rattle.complement.specs.audit.Audits.{finds}
 
 -- a signed number is 0 where its bits are
 is_zero : (z : ℤ) → mag z < 2 ^ hbits w64 → of_z w64 z ≡ 0 → z ≡ pos 0
-is_zero z fits e = sym (to_z-of_z (record { sfits = fits })) ∙ ap (to_z w64) e ∙ to_z_pos w64 {n = 0} (omega arith)
+is_zero z fits e = sym (to_z-of_z {w = w64} (record { sfits = fits })) ∙ ap (to_z w64) e ∙ to_z_pos w64 {n = 0} (omega arith)
 
 not_zero : (z : ℤ) → (of_z w64 z ≡ 0 → ⊥) → z ≢ pos 0
 not_zero z h e = h (ap (of_z w64) e ∙ refl)
@@ -58,4 +58,4 @@ module _ (net : PNet) (m m' : List ℕ) (i : ℕ) (below : InStepBelow net m m' 
     passes e = in_step-more (sym is ∙ is_zero r fits e)
 
     pub stops : (of_z w64 r ≡ 0 → ⊥) → i < pairs net → At (pair_no i) (to_z w64 (of_z w64 r)) ≡ finds none (audited net m m')
-    stops e h = ap (At (pair_no i)) (to_z-of_z (record { sfits = fits }) ∙ is) ∙ finds-at h (λ z. not_zero r e (is ∙ z))
+    stops e h = ap (At (pair_no i)) (to_z-of_z {w = w64} (record { sfits = fits }) ∙ is) ∙ finds-at h (λ z. not_zero r e (is ∙ z))

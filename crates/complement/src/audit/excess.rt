@@ -47,7 +47,7 @@ pub(crate) fn pair_excess(
 ) -> i64
     requires fact { Open s.now net }
     requires below_are { BelowAre (net_of s.now) below.now }
-    requires one_each_lem { OneEach (net_of s.now) marking.now beside.now }
+    requires one_each { OneEach (net_of s.now) marking.now beside.now }
     requires p_lt_pairs { (p < net.pairs) × (net.pairs ≤ 256) }
     ensures { result ≡ excess (net_of s.now) marking.now beside.now p }
 {

@@ -2,7 +2,7 @@
 ghost use Rattle.std.specs.Prelude.{◌≡◌, true, false, not, ◌&&◌, ◌||◌, ◌++◌, ◌+◌, ◌*◌, ◌≤◌, length};
 ghost use Rattle.model.specs.Numbers.{limit};
 ghost use Rattle.model.specs.declared.CapacityRule.TheVariants.{Strong};
-ghost use Rattle.second_form.specs.Dead.{kills as killsHere, is_dead};
+ghost use Rattle.second_form.specs.Dead.{kills as kills_here, is_dead};
 ghost use Rattle.second_form.specs.Complement.{finite, complement};
 ghost use Rattle.fields.specs.Numbers.{bound};
 ghost use Rattle.sheets.specs.Decoded.{net_of, net_arc};
@@ -24,7 +24,7 @@ use opened::shape::{NetShape, capacity};
 use opened::starts::{Segment, arcs_of};
 
 // Whether 15 stops no arc of a mode, and whether the mode is dead.
-#[derive(Drop)]
+#[derive(Clone, Copy)]
 struct Faults {
     clear: bool,
     dead: bool,
@@ -83,7 +83,7 @@ fn find_faults(s: &[u8], net: NetShape, arcs: Segment) -> Faults
 // An arc that by no rule makes its mode dead, and that 15 does not stop.
 fn is_plain(most: u32, arc: Arc) -> bool
     requires { (arc.pre ≤ limit) × (arc.post ≤ limit) }
-    ensures { result ≡ true → (killsHere Strong (net_arc arc).entry (bound most) ≡ false) × (finite (bound arc.inhibitor) && not (finite (bound most)) ≡ false) }
+    ensures { result ≡ true → (kills_here Strong (net_arc arc).entry (bound most) ≡ false) × (finite (bound arc.inhibitor) && not (finite (bound most)) ≡ false) }
 {
     if arc.inhibitor < arc.pre {
         return false;

@@ -1,0 +1,16 @@
+-- No output slice of that room is short.
+use mathlib.Core.Path.{refl}
+use native.Mathlib.Omega.{arith}
+use Rattle.opened.proofs.Shapes.{sizes}
+use Rattle.complement.proofs.WithoutOutput.{never-short}
+use Rattle.complement.proofs.check.check_net.Goals as goal
+
+pub complement_sizes-most-requires : goal.complement_sizes-most-requires
+complement_sizes-most-requires c = let z = sizes c.requires.fact in record { fact = c.requires.fact; below_are = c.requires.below_are; arcs_bound = omega (arith, z.arcs, z.arcs_within) }
+
+pub returns : goal.returns
+returns c =
+    never-short c.requires.fact c.starts-starts.ensures c.complement_sizes-most.ensures.0 c.complement_sizes-most.ensures.1 c.complement_answer.ensures
+
+pub overflow_mul-net : goal.overflow_mul-net
+overflow_mul-net c = omega (arith, (sizes c.requires.fact).arcs, (sizes c.requires.fact).arcs_within)

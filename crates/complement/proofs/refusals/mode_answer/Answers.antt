@@ -1,0 +1,21 @@
+use borrow.Author.Rules.{rules}
+use Prim.Native.Nat.{◌-◌}
+use mathlib.Core.Path.{sym}
+use Rattle.model.proofs.First.{first-none}
+use Rattle.model.proofs.Refusals.{answer-first-at, answer-first-end, answer-first-more}
+use Rattle.complement.proofs.refusals.mode_answer.Goals as goal
+
+pub returns-in-Refused : goal.returns-in-Refused
+returns-in-Refused c =
+    let l = c.loop-i in
+    answer-first-at _ l.i _ c.loop-i-test.true l.invariant.1 c.arc_answer-answer.ensures c.in-Refused.is
+
+pub loop-i-preserved : goal.loop-i-preserved
+loop-i-preserved c =
+    (search rules, answer-first-more _ _ c.loop-i.invariant.1 c.arc_answer-answer.ensures c.in_default.is)
+
+pub returns : goal.returns
+returns c = answer-first-end _ _ _ c.loop-i.invariant.0 c.loop-i-test.false c.loop-i.invariant.1
+
+pub loop-i-init : goal.loop-i-init
+loop-i-init c = (search rules, sym (first-none _))

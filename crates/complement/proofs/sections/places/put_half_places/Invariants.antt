@@ -1,0 +1,16 @@
+-- The bytes of the places passed are put, and the next one's pairs start at `first`.
+use Prim.Native.Nat.{◌≤◌, ◌-◌}
+use mathlib.Core.Path.{◌≡◌}
+use Rattle.model.specs.Lists.{joined}
+use Rattle.sheets.specs.Decoded.{net_of}
+use Rattle.complement.specs.sections.Places.{place_bytes}
+use Rattle.model.specs.Nets.{first_pair_of}
+use Rattle.sheets.specs.written.Puts.{Puts}
+use Rattle.complement.proofs.sections.places.put_half_places.Given as goal
+
+abbrev pub invariant-loop-place : goal.invariant-loop-place
+invariant-loop-place l =
+    (l.place ≤ l.places) × (l.first ≡ first_pair_of (net_of l.s) l.place) × Puts l.initial.out l.at (joined l.place (place_bytes (net_of l.s) l.half)) l.out l.next
+
+abbrev pub decreases-loop-place : goal.decreases-loop-place
+decreases-loop-place l = l.places - l.place

@@ -1,0 +1,15 @@
+-- The arcs before the i-th are plain: none makes the mode dead, and each is clear.
+use Prim.Native.Nat.{◌+◌, ◌≤◌, ◌-◌}
+use mathlib.Core.Path.{◌≡◌}
+use mathlib.Core.Bool.{true}
+use Rattle.second_form.proofs.Dead.{Passed}
+use Rattle.sheets.specs.Decoded.{net_of}
+use Rattle.complement.specs.sections.Arcs.{clear_at, every}
+use Rattle.complement.proofs.sections.survey.all_plain.Given as goal
+
+abbrev pub invariant-loop-i : goal.invariant-loop-i
+invariant-loop-i l =
+    (l.i ≤ l.count) × Passed (net_of l.s) l.arcs.start (l.arcs.start + l.i) × (true ≡ every l.i (λ k. clear_at (net_of l.s) (l.arcs.start + k)))
+
+abbrev pub decreases-loop-i : goal.decreases-loop-i
+decreases-loop-i l = l.count - l.i
