@@ -1,4 +1,6 @@
 // Firing a mode in one pass writes arc by arc: where an arc does not let its mode pass, what those before it have written is taken back.
+#![tactic(auto)]
+
 ghost use Rattle.std.specs.Prelude.{◌≡◌, List, ℕ};
 ghost use Rattle.sheets.specs.Decoded.{net_of};
 ghost use Rattle.opened.specs.Shape.{Open};
