@@ -1,5 +1,7 @@
 // One number for each arc of a net, made once for a run by the net's rule: a count passes all four tests when it is at least Pre and below that number.
 // And firing a mode of a list in one pass over its arcs.
+#![tactic(auto)]
+
 pub mod trying;
 
 ghost use Rattle.std.specs.Prelude.{◌≡◌, true, ◌↔◌, ◌+◌, ◌≤◌, length};

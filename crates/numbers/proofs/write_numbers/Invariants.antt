@@ -1,0 +1,11 @@
+-- The numbers of the modes below t.
+use Prim.Native.Nat.{◌≤◌, ◌-◌}
+use Rattle.sheets.specs.Decoded.{net_of}
+use Rattle.numbers.specs.Numbers.{NumbersBelow}
+use Rattle.numbers.proofs.write_numbers.Given as goal
+
+abbrev pub invariant-loop-t : goal.invariant-loop-t
+invariant-loop-t l = (l.t ≤ l.modes) × NumbersBelow (net_of l.s) l.numbers l.t
+
+abbrev pub decreases-loop-t : goal.decreases-loop-t
+decreases-loop-t l = l.modes - l.t
