@@ -1,4 +1,6 @@
 // How far a list of movements comes: mode by mode, up to the first that is refused.
+#![tactic(auto)]
+
 ghost use Rattle.std.specs.Prelude.{◌≤◌};
 ghost use Rattle.model.specs.Markings.{Marking};
 ghost use Rattle.sheets.specs.Decoded.{net_of};
@@ -11,7 +13,7 @@ use opened::listed::mode_at;
 use opened::shape::NetShape;
 
 // How far a run has come: the movements accepted, and the arcs visited, those of a refused movement too.
-#[derive(Drop)]
+#[derive(Clone, Copy)]
 pub struct Progress {
     pub accepted: usize,
     pub visited: usize,
