@@ -1,4 +1,6 @@
 // The damaged bytes of a movement sheet: how many modes of them are considered.
+#![tactic(auto)]
+
 ghost use Rattle.std.specs.Prelude.{◌≡◌, min};
 ghost use Rattle.damaged.specs.Damaged.{considered};
 ghost use Rattle.damaged.specs.Parts.{Legible};
