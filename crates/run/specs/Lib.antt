@@ -1,5 +1,5 @@
 pub mod Calls
 pub mod Parts
 pub mod Promises
-pub mod Contracts
+pub mod Allowed
 pub mod salvage

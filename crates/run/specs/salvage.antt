@@ -1,5 +1,5 @@
 pub mod MovementSheet
 pub mod Salvaged
-pub mod Contracts
+pub mod Allowed
 pub mod Parts
 pub mod Promises

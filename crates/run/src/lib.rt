@@ -1,16 +1,18 @@
 // Lists of movements: run over a lent marking, certify from the net's first marking.
 // What each call answers, and what a run leaves in the marking, is said in specs/Calls.antt.
+#![tactic(auto)]
+
 ghost use Rattle.std.specs.Prelude.{◌≡◌};
 ghost use Rattle.model.specs.First.{◌▸◌};
 ghost use Rattle.model.specs.Refusals.{answer};
 ghost use Rattle.model.specs.Markings.{marking_refusal};
-ghost use Rattle.movement.specs.Runs.{run as modelRun, certificate_refusal};
+ghost use Rattle.movement.specs.Runs.{run as model_run, certificate_refusal};
 ghost use Rattle.both_forms.specs.Visits.{visited};
 ghost use Rattle.sheets.specs.Whole.{whole_movements};
 ghost use Rattle.sheets.specs.Decoded.{net_of, movements_of};
 ghost use Rattle.opened.specs.Shape.{Open};
 ghost use Rattle.run.specs.Parts.{Begins};
-ghost use Rattle.run.specs.Contracts.{RunAllows, CertifyAllows};
+ghost use Rattle.run.specs.Allowed.{RunAllows, CertifyAllows};
 
 use crate::certificate::certificate_answer;
 use crate::movements::run_sheet;
@@ -25,7 +27,7 @@ pub mod movements;
 pub mod salvage;
 
 // How many movements of a run were accepted, how many arcs it visited, and the answer to the first movement that was not accepted.
-#[derive(Drop)]
+#[derive(Clone, Copy)]
 pub struct Ran {
     pub accepted: usize,
     pub visited: usize,
@@ -34,7 +36,7 @@ pub struct Ran {
 
 fn run_open(s: &[u8], net: NetShape, movements: &[u8], marking: &mut [u32]) -> Ran
     requires { Open s.now net }
-    ensures { Begins (whole_movements movements.now ▸ marking_refusal (net_of s.now) marking.old) marking.old (modelRun (net_of s.now) (movements_of movements.now) marking.old) (visited (net_of s.now) (movements_of movements.now) marking.old) result marking.new }
+    ensures { Begins (whole_movements movements.now ▸ marking_refusal (net_of s.now) marking.old) marking.old (model_run (net_of s.now) (movements_of movements.now) marking.old) (visited (net_of s.now) (movements_of movements.now) marking.old) result marking.new }
 {
     let sheet = whole_movements(movements);
     if let Answer::Refused(_) = sheet {

@@ -9,8 +9,8 @@ ghost use Rattle.sheets.specs.Emitted.{output, too_short};
 ghost use Rattle.opened.specs.Shape.{Open};
 ghost use Rattle.damaged.specs.Damaged.{damaged_refusal, considered};
 ghost use Rattle.damaged.specs.Parts.{Legible};
-ghost use Rattle.run.specs.salvage.Salvaged.{sheet_of_first, report_of, salvaged, kept as keptBy, report, fresh_sheet};
-ghost use Rattle.run.specs.salvage.Contracts.{SalvageAllows};
+ghost use Rattle.run.specs.salvage.Salvaged.{sheet_of_first, report_of, salvaged, kept as kept_by, report, fresh_sheet};
+ghost use Rattle.run.specs.salvage.Allowed.{SalvageAllows};
 
 use crate::salvage::damage::read_damaged;
 use crate::salvage::fresh::put_fresh;
@@ -21,7 +21,7 @@ use opened::shape::NetShape;
 use opened::{Opened, open_net};
 
 // How long the fresh sheet is, how many movements it keeps, how many more were considered, and the first refusal among these.
-#[derive(Drop)]
+#[derive(Clone, Copy)]
 pub struct Report {
     pub length: usize,
     pub kept: usize,
@@ -30,7 +30,7 @@ pub struct Report {
 }
 
 // What was written, or why nothing.
-#[derive(Drop)]
+#[derive(Clone, Copy)]
 pub enum Salvaged {
     Written(Report),
     Refused(Refusal),

@@ -14,7 +14,7 @@ use Rattle.damaged.specs.Damaged.{considered, modes_in}
 use Rattle.run.specs.declared.salvage.Report.{Report}
 use Rattle.run.specs.declared.salvage.Salvaged.TheVariants.{Written}
 use Rattle.run.specs.salvage.MovementSheet.{movement_sheet}
-use Rattle.run.specs.salvage.Contracts.{SalvageAllows}
+use Rattle.run.specs.salvage.Allowed.{SalvageAllows}
 
 abbrev pub AllBytes : List ℕ → Type 0
 AllBytes s = (i : ℕ) → i < length s → byte_at s i < 256
