@@ -1,9 +1,11 @@
 // The fleet statement as definitions (document 02, P13): no functions, but what the call keeps. What a ship is and adds to the record stands in specs/.
+#![tactic(auto)]
+
 use model::Answer;
 
 // "one running record that the caller lends": ships counted, movements accepted, movements refused by each number, kilograms added and removed.
 #[repr(C)]
-#[derive(Drop)]
+#[derive(Clone, Copy)]
 pub struct Fleet {
     pub ships: u64,
     pub movements: u64,
@@ -17,7 +19,7 @@ pub struct Fleet {
 }
 
 // A ship's run: how many movements were accepted, the answer to the first that was not, and the kilograms added and removed.
-#[derive(Drop)]
+#[derive(Clone, Copy)]
 pub struct Voyage {
     pub accepted: usize,
     pub answer: Answer,
@@ -26,7 +28,7 @@ pub struct Voyage {
 }
 
 // The record with one ship more, or as it was found, and the answer.
-#[derive(Drop)]
+#[derive(Clone, Copy)]
 pub struct Entered {
     pub fleet: Fleet,
     pub answer: Answer,
