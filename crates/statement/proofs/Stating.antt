@@ -15,7 +15,7 @@ use Rattle.writes.specs.Writes.{Writes}
 use Rattle.writes.proofs.Into.{into_within}
 use Rattle.sheets.specs.declared.Emitted.{Emitted}
 use Rattle.sheets.specs.declared.Emitted.TheVariants.{Length, Refused}
-use Rattle.statement.specs.Contracts.{StatementAllows}
+use Rattle.statement.specs.Allowed.{StatementAllows}
 use Rattle.statement.specs.Replay.{replay_text, room, stated, stated_in}
 
 pub too_short_lem : (input out : List ℕ) → length out < room → StatementAllows input out (Refused (wrong Net NoRoom), out)

@@ -1,16 +1,15 @@
 -- The lines of a run on their way: what is written and the lines that are left from here are the whole.
-use Prim.Native.Nat.{ℕ, ◌+◌, ◌*◌, ◌≤◌, ◌<◌, ◌^◌}
+use Prim.Native.Nat.{ℕ, ◌+◌, ◌*◌, ◌≤◌, ◌<◌}
 use mathlib.Core.Path.{◌≡◌, refl, sym, ◌∙◌, ap, ap₂}
 use mathlib.Core.List.{List, [], ◌∷◌, ◌++◌, append_assoc, append-nil}
 use mathlib.Core.Option.{none, some}
 use lib.IntN.{ℤ, pos, nat_abs, ◌+ℤ◌}
-use lib.Signed.{mag}
 use lib.ListN.{length, take, drop, get_or, drop_of_length-le}
 use lib.Seq.{drop-cons, get_or-take, length-take-le}
 use native.Mathlib.Numerals.{add-one}
 use native.Mathlib.Omega.{arith}
 use mir.Syntax.{w64}
-use mir.Val.{SFits, to_z, of_z, hbits}
+use mir.Val.{SFits, to_z, of_z}
 use mir.Facts.{to_z-of_z}
 use Rattle.model.specs.declared.Mode.{Mode}
 use Rattle.model.specs.declared.Thing.TheVariants.{Movements}
@@ -151,13 +150,13 @@ module _ {s : List ℕ} {shape : NetShape} {w movements : List ℕ} (read : Read
       kept = marking-kept Movements net t along.now along.marking onward.0
 
       -- the figure before and the entry of the mode, as it is read, are the figure after
-      module _ {changes : List ℤ} (table : ChangesAre net weights changes) (given : mag (get_or changes t.0 (pos 0)) < 2 ^ hbits w64) where
+      module _ {changes : List ℤ} (table : ChangesAre net weights changes) (given : SFits w64 (get_or changes t.0 (pos 0))) where
         abbrev x : ℤ
         x = to_z w64 (of_z w64 (get_or changes t.0 (pos 0)))
 
         next-weighs : z +ℤ x ≡ figure net weights (fired net t along.now)
         next-weighs =
-            ap₂ ◌+ℤ◌ along.weighs (to_z-of_z (record { sfits = given }) ∙ table.each t.0 along-mode)
+            ap₂ ◌+ℤ◌ along.weighs (to_z-of_z given ∙ table.each t.0 along-mode)
             ∙ sym (figure-fired net weights t along.now (accepted-enough Movements net t along.now onward.0))
 
         next-size : nat_abs (z +ℤ x) ≤ 256000000000000

@@ -47,7 +47,7 @@ module _ {out : List ℕ} {after : ℕ} {now : List ℕ} where
 -- of the marking that a run starts from, where that is the first: its figure, and what the run tells
 module _ (net : PNet) {m : List ℕ} (e : m ≡ net.start) where
   pub started_weighs : (weights : List ℤ) {z : ℤ} → mag z < 2 ^ hbits w64 → z ≡ figure net weights m → to_z w64 (of_z w64 z) ≡ figure net weights net.start
-  started_weighs weights fits f = to_z-of_z (record { sfits = fits }) ∙ f ∙ ap (figure net weights) e
+  started_weighs weights fits f = to_z-of_z {w = w64} (record { sfits = fits }) ∙ f ∙ ap (figure net weights) e
 
   pub started_tells : (ts : List Mode) {accepted : ℕ} {a : Answer} → RunTells (run net ts m) accepted a → RunTells (run net ts net.start) accepted a
   started_tells ts t = rw e at t

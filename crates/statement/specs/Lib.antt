@@ -1,4 +1,4 @@
-pub mod Contracts
+pub mod Allowed
 pub mod Example
 pub mod Promises
 pub mod Replay

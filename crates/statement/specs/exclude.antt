@@ -1,3 +1,3 @@
 pub mod Calls
 pub mod Promises
-pub mod Contracts
+pub mod Allowed

@@ -1,4 +1,4 @@
 pub mod Calls
 pub mod Parts
 pub mod Promises
-pub mod Contracts
+pub mod Allowed

@@ -3,13 +3,13 @@
 ghost use Rattle.std.specs.Prelude.{◌≡◌};
 ghost use Rattle.model.specs.First.{◌▸◌};
 ghost use Rattle.model.specs.Refusals.{answer};
-ghost use Rattle.model.specs.Nets.{pairs as pairsOf};
+ghost use Rattle.model.specs.Nets.{pairs as pairs_of};
 ghost use Rattle.model.specs.Markings.{marking_refusal};
 ghost use Rattle.movement.specs.Exclusion.{claim_refusal};
 ghost use Rattle.sheets.specs.Whole.{whole_weights};
 ghost use Rattle.sheets.specs.Decoded.{net_of, weights_of};
 ghost use Rattle.opened.specs.Shape.{Open};
-ghost use Rattle.statement.specs.exclude.Contracts.{ExcludeAllows};
+ghost use Rattle.statement.specs.exclude.Allowed.{ExcludeAllows};
 
 use crate::exclude::claim::claim_answer;
 use fire::marking::marking_answer;
@@ -22,7 +22,7 @@ mod claim;
 
 fn exclude_open(s: &[u8], net: NetShape, weights: &[u8], claim: &[u32]) -> Answer
     requires { Open s.now net }
-    ensures { result ≡ answer (whole_weights (pairsOf (net_of s.now)) weights.now ▸ marking_refusal (net_of s.now) claim.now ▸ claim_refusal (net_of s.now) (weights_of weights.now) claim.now) }
+    ensures { result ≡ answer (whole_weights (pairs_of (net_of s.now)) weights.now ▸ marking_refusal (net_of s.now) claim.now ▸ claim_refusal (net_of s.now) (weights_of weights.now) claim.now) }
 {
     let sheet = whole_weights(weights, net.pairs);
     if let Answer::Refused(_) = sheet {

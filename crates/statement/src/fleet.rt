@@ -6,13 +6,13 @@ mod voyage;
 
 ghost use Rattle.std.specs.Prelude.{◌≡◌};
 ghost use Rattle.model.specs.First.{◌▸◌};
-ghost use Rattle.model.specs.Nets.{pairs as pairsOf};
+ghost use Rattle.model.specs.Nets.{pairs as pairs_of};
 ghost use Rattle.sheets.specs.Whole.{whole_weights, whole_movements};
 ghost use Rattle.sheets.specs.Decoded.{net_of};
 ghost use Rattle.opened.specs.Shape.{Open};
 ghost use Rattle.ships.specs.Ships.{ship};
 ghost use Rattle.ships.specs.Entered.{InBounds, figure_refusal, entered_by, entered};
-ghost use Rattle.statement.specs.fleet.Contracts.{AddShipAllows};
+ghost use Rattle.statement.specs.fleet.Allowed.{AddShipAllows};
 
 use crate::fleet::bounds::{is_out_of_bounds, is_past};
 use crate::fleet::entry::with_voyage;
@@ -27,7 +27,7 @@ use ships::{Entered, Fleet};
 fn count_open(found: Fleet, s: &[u8], net: NetShape, weights: &[u8], movements: &[u8]) -> Entered
     requires fact { Open s.now net }
     requires in_bounds { InBounds found }
-    ensures { result ≡ entered_by (whole_weights (pairsOf (net_of s.now)) weights.now ▸ whole_movements movements.now ▸ figure_refusal found (ship s.now weights.now movements.now)) found (ship s.now weights.now movements.now) }
+    ensures { result ≡ entered_by (whole_weights (pairs_of (net_of s.now)) weights.now ▸ whole_movements movements.now ▸ figure_refusal found (ship s.now weights.now movements.now)) found (ship s.now weights.now movements.now) }
 {
     let sheet = whole_weights(weights, net.pairs);
     if let Answer::Refused(_) = sheet {

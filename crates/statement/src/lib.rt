@@ -1,4 +1,6 @@
 // From replay's input to replay's output (document 01, "`replay`").
+#![tactic(auto)]
+
 pub mod exclude;
 pub mod fleet;
 mod input;
@@ -9,7 +11,7 @@ pub mod weigh;
 
 ghost use Rattle.std.specs.Prelude.{◌≤◌, length};
 ghost use Rattle.writes.specs.Writes.{Writes};
-ghost use Rattle.statement.specs.Contracts.{StatementAllows};
+ghost use Rattle.statement.specs.Allowed.{StatementAllows};
 ghost use Rattle.statement.specs.Replay.{replay_text, room};
 
 use crate::input::put_sheets;

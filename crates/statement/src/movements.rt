@@ -3,7 +3,7 @@ ghost use Rattle.std.specs.Prelude.{◌≡◌, ◌++◌, ◌+◌, ◌*◌, ◌�
 ghost use Rattle.std.proofs.Math.Option.{none};
 ghost use Rattle.model.specs.Nets.{mode_no};
 ghost use Rattle.model.specs.Markings.{Marking};
-ghost use Rattle.movement.specs.Figures.{figure as figureAt};
+ghost use Rattle.movement.specs.Figures.{figure as figure_at};
 ghost use Rattle.movement.specs.Runs.{run};
 ghost use Rattle.sheets.specs.lists.Movements.{movements_refusal};
 ghost use Rattle.sheets.specs.Decoded.{net_of, weights_of, movements_of};
@@ -79,7 +79,7 @@ pub(crate) fn put_movements(
     requires read { Read s.now net weights.now movements.now }
     requires starts_are { StartsAre (net_of s.now).arcs starts.now }
     requires run_tells { RunTells (run (net_of s.now) (movements_of movements.now) (net_of s.now).start) accepted answer }
-    requires first_value { first ≡ figureAt (net_of s.now) (weights_of weights.now) (net_of s.now).start }
+    requires first_value { first ≡ figure_at (net_of s.now) (weights_of weights.now) (net_of s.now).start }
     requires at_in_bounds { at + (28 * 8192 + 159) ≤ length out.old }
     ensures { Writes (28 * 8192 + 159) out.old at (lines_from (net_of s.now) (weights_of weights.now) 0 (movements_of movements.now) (net_of s.now).start) result out.new }
 {

@@ -6,7 +6,7 @@ ghost use Rattle.model.specs.Refusals.{line, always_net, thing, thing_number};
 
 use model::{Fault, Pair, Refusal, Thing, Why};
 
-#[derive(Drop)]
+#[derive(Clone, Copy)]
 pub struct Line {
     pub number: u64,
     pub position: u64,

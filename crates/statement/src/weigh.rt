@@ -6,15 +6,15 @@ pub mod sums;
 ghost use Rattle.std.specs.Prelude.{◌≡◌};
 ghost use Rattle.model.specs.declared.Thing.TheVariants.{Argument};
 ghost use Rattle.model.specs.First.{◌▸◌};
-ghost use Rattle.model.specs.Nets.{pairs as pairsOf, modes};
+ghost use Rattle.model.specs.Nets.{pairs as pairs_of, modes};
 ghost use Rattle.model.specs.Markings.{marking_refusal};
 ghost use Rattle.model.specs.Firing.{absent};
-ghost use Rattle.movement.specs.Figures.{figure as figureAt, change as changeBy};
+ghost use Rattle.movement.specs.Figures.{figure as figure_at, change as change_by};
 ghost use Rattle.sheets.specs.Whole.{whole_weights};
 ghost use Rattle.sheets.specs.Decoded.{net_of, weights_of};
 ghost use Rattle.opened.specs.Shape.{Open};
 ghost use Rattle.statement.specs.weigh.Calls.{figured};
-ghost use Rattle.statement.specs.weigh.Contracts.{FigureAllows, ChangeAllows};
+ghost use Rattle.statement.specs.weigh.Allowed.{FigureAllows, ChangeAllows};
 
 use crate::weigh::sums::{figure_of, gains};
 use fire::marking::marking_answer;
@@ -25,7 +25,7 @@ use opened::{Opened, open_net};
 use sheets::whole::whole_weights;
 
 // A figure or a change in kilograms, or why there is none.
-#[derive(Drop)]
+#[derive(Clone, Copy)]
 pub enum Figured {
     Is(i64),
     Refused(Refusal),
@@ -33,7 +33,7 @@ pub enum Figured {
 
 fn figure_answer(s: &[u8], net: NetShape, weights: &[u8], marking: &[u32]) -> Figured
     requires { Open s.now net }
-    ensures { result ≡ figured (whole_weights (pairsOf (net_of s.now)) weights.now ▸ marking_refusal (net_of s.now) marking.now) (figureAt (net_of s.now) (weights_of weights.now) marking.now) }
+    ensures { result ≡ figured (whole_weights (pairs_of (net_of s.now)) weights.now ▸ marking_refusal (net_of s.now) marking.now) (figure_at (net_of s.now) (weights_of weights.now) marking.now) }
 {
     let sheet = whole_weights(weights, net.pairs);
     if let Answer::Refused(refusal) = sheet {
@@ -48,7 +48,7 @@ fn figure_answer(s: &[u8], net: NetShape, weights: &[u8], marking: &[u32]) -> Fi
 
 fn change_answer(s: &[u8], net: NetShape, weights: &[u8], mode: Mode) -> Figured
     requires { Open s.now net }
-    ensures { result ≡ figured (whole_weights (pairsOf (net_of s.now)) weights.now ▸ absent Argument (modes (net_of s.now)) mode) (changeBy (net_of s.now) (weights_of weights.now) mode) }
+    ensures { result ≡ figured (whole_weights (pairs_of (net_of s.now)) weights.now ▸ absent Argument (modes (net_of s.now)) mode) (change_by (net_of s.now) (weights_of weights.now) mode) }
 {
     let sheet = whole_weights(weights, net.pairs);
     if let Answer::Refused(refusal) = sheet {

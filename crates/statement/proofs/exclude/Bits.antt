@@ -15,7 +15,7 @@ module _ {a b x y : ℤ} (fits : mag a < 2 ^ hbits w64) (fits' : mag b < 2 ^ hbi
   pub bits_equal : of_z w64 a ≡ of_z w64 b → equal x y ≡ true
   bits_equal q =
       (by-same x y).complete
-      (sym e ∙ sym (to_z-of_z (record { sfits = fits })) ∙ ap (to_z w64) q ∙ to_z-of_z (record { sfits = fits' }) ∙ e')
+      (sym e ∙ sym (to_z-of_z {w = w64} (record { sfits = fits })) ∙ ap (to_z w64) q ∙ to_z-of_z {w = w64} (record { sfits = fits' }) ∙ e')
 
   pub bits_differ : (of_z w64 a ≡ of_z w64 b → ⊥) → equal x y ≡ false
   bits_differ differ = go (equal x y) refl

@@ -1,13 +1,12 @@
 -- One ship into the record: the chain of its refusals, and what 25 leaves of a record.
-use Prim.Native.Nat.{ℕ, ◌+◌, ◌≤◌, ◌<◌, ◌^◌}
+use Prim.Native.Nat.{ℕ, ◌+◌, ◌≤◌, ◌<◌}
 use mathlib.Core.Path.{◌≡◌, refl, sym, ◌∙◌, ap, ap₂}
 use mathlib.Core.Bool.{Bool, true, false, cond, false≢true, true≢false, ◌||◌}
 use mathlib.Core.Option.{Option, none, some}
 use lib.Dec.{ltb, eqb}
 use lib.IntN.{ℤ, pos, negsuc, nat_abs, ◌+ℤ◌}
-use lib.Signed.{mag}
 use mir.Syntax.{w64}
-use mir.Val.{to_z, of_z, hbits}
+use mir.Val.{SFits, to_z, of_z}
 use mir.Facts.{to_z-of_z}
 use native.Mathlib.Omega.{arith}
 use borrow.Author.Tests.{ltb-true, ltb-false, lt-ltb, le-ltb}
@@ -120,8 +119,9 @@ module _ (f : Fleet) where
   room-passes h = rw (le-ltb 1000 (f.ships + 1) h)
 
 -- a sum of two figures that are read, as it is read
-pub read-sum : (a b r : ℤ) → mag a < 2 ^ hbits w64 → mag b < 2 ^ hbits w64 → mag r < 2 ^ hbits w64 → r ≡ to_z w64 (of_z w64 a) +ℤ to_z w64 (of_z w64 b) → to_z w64 (of_z w64 r) ≡ a +ℤ b
-read-sum a b r p q fits e = to_z-of_z {w = w64} {z = r} (record { sfits = fits }) ∙ e ∙ ap₂ ◌+ℤ◌ (to_z-of_z {w = w64} {z = a} (record { sfits = p })) (to_z-of_z {w = w64} {z = b} (record { sfits = q }))
+pub read-sum : {a b r : ℤ} → SFits w64 a → SFits w64 b → SFits w64 r → r ≡ to_z w64 (of_z w64 a) +ℤ to_z w64 (of_z w64 b)
+    → to_z w64 (of_z w64 r) ≡ a +ℤ b
+read-sum p q fits e = to_z-of_z fits ∙ e ∙ ap₂ ◌+ℤ◌ (to_z-of_z p) (to_z-of_z q)
 
 -- nine sums, each made apart, are the record with one ship more
 pub summed : (f : Fleet) (v : Voyage) {n by6 by11 by12 by13 by14 : ℕ} {added removed : ℤ} → n ≡ number v.answer

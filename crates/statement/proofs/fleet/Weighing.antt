@@ -122,12 +122,12 @@ module _ {s : List ℕ} {shape : NetShape} {w movements : List ℕ} (read : Read
     there = omega (arith, counted)
 
     -- the entry of the mode, as it is read
-    module _ {changes : List ℤ} (table : ChangesAre net weights changes) (given : mag (get_or changes t.0 (pos 0)) < 2 ^ hbits w64) where
+    module _ {changes : List ℤ} (table : ChangesAre net weights changes) (given : SFits w64 (get_or changes t.0 (pos 0))) where
       abbrev x : ℤ
       x = to_z w64 (of_z w64 (get_or changes t.0 (pos 0)))
 
       change-is : x ≡ change net weights t
-      change-is = to_z-of_z (record { sfits = given }) ∙ table.each t.0 along-mode
+      change-is = to_z-of_z given ∙ table.each t.0 along-mode
 
       pub change-small : nat_abs x ≤ heaviest_mode
       change-small = rw change-is (change-size read.opened w read.weighed t)
@@ -144,14 +144,14 @@ module _ {s : List ℕ} {shape : NetShape} {w movements : List ℕ} (read : Read
         -- with what the calls have given
         module _ {g : ℤ} (fits : mag g < 2 ^ hbits w64) (e : g ≡ pos (gained x)) where
           adds-next : a +ℤ to_z w64 (of_z w64 g) ≡ pos (added_by net weights (take (k + 1) ts))
-          adds-next = ap (◌+ℤ◌ a) (to_z-of_z (record { sfits = fits }) ∙ e) ∙ added_next
+          adds-next = ap (◌+ℤ◌ a) (to_z-of_z {w = w64} (record { sfits = fits }) ∙ e) ∙ added_next
 
           pub added-fits : SFits w64 (a +ℤ to_z w64 (of_z w64 g))
           added-fits = rw adds-next (fits-size w64 (pos (added_by net weights (take (k + 1) ts))) (omega (arith, added-small (k + 1) (omega arith))))
 
         module _ {l : ℤ} (fits : mag l < 2 ^ hbits w64) (e : l ≡ pos (lost x)) where
           removes-next : b +ℤ to_z w64 (of_z w64 l) ≡ pos (removed_by net weights (take (k + 1) ts))
-          removes-next = ap (◌+ℤ◌ b) (to_z-of_z (record { sfits = fits }) ∙ e) ∙ removed-next
+          removes-next = ap (◌+ℤ◌ b) (to_z-of_z {w = w64} (record { sfits = fits }) ∙ e) ∙ removed-next
 
           pub removed-fits : SFits w64 (b +ℤ to_z w64 (of_z w64 l))
           removed-fits = rw removes-next (fits-size w64 (pos (removed_by net weights (take (k + 1) ts))) (omega (arith, removed-small (k + 1) (omega arith))))

@@ -39,7 +39,7 @@ figured-refused z e = rw e
 
 pub figured-is : {o : Option Refusal} {r z : ℤ} → mag r < 2 ^ hbits w64 → r ≡ z → o ≡ none → Is (to_z w64 (of_z w64 r)) ≡ figured o z
 unfolding figured
-figured-is fits e q = rw q (ap Is (to_z-of_z (record { sfits = fits }) ∙ e))
+figured-is fits e q = rw q (ap Is (to_z-of_z {w = w64} (record { sfits = fits }) ∙ e))
 
 -- the weight sheet of a call, given the pairs of an open net
 module _ {s : List ℕ} {net : NetShape} (o : Open s net) (w : List ℕ) {a : Answer} (e : a ≡ answer (whole_weights net.pairs w)) where

@@ -34,7 +34,7 @@ pub record Terms (n : ℕ) (f : ℕ → ℤ) : Type 0 where
 -- one term more, r, which a call has given
 module _ {n : ℕ} {f : ℕ → ℤ} (terms : Terms n f) (i : ℕ) (h : i < n) {a r : ℤ} (fits : mag r < 2 ^ hbits w64) (p : a ≡ sum i f) (q : r ≡ f i) where
   next : a +ℤ to_z w64 (of_z w64 r) ≡ sum i f +ℤ f i
-  next = ap₂ ◌+ℤ◌ p (to_z-of_z (record { sfits = fits }) ∙ q)
+  next = ap₂ ◌+ℤ◌ p (to_z-of_z {w = w64} (record { sfits = fits }) ∙ q)
 
   pub next_fits : SFits w64 (a +ℤ to_z w64 (of_z w64 r))
   next_fits =

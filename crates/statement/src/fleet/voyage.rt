@@ -9,7 +9,7 @@ ghost use Rattle.opened.specs.Read.{Read};
 ghost use Rattle.opened.specs.Shape.{Open};
 ghost use Rattle.opened.specs.Starts.{StartsAre};
 ghost use Rattle.run.specs.Parts.{RunTells};
-ghost use Rattle.ships.specs.Ships.{ship, gained as gainedBy, lost as lostBy, voyage_of};
+ghost use Rattle.ships.specs.Ships.{ship, gained as gained_by, lost as lost_by, voyage_of};
 ghost use Rattle.statement.specs.fleet.Parts.{heaviest_mode, Light};
 
 use crate::weigh::changes::write_changes;
@@ -25,14 +25,14 @@ use ships::Voyage;
 
 // "the sizes of positive and of negative weight changes"
 fn gained(change: i64) -> i64
-    ensures { result ≡ pos (gainedBy change) }
+    ensures { result ≡ pos (gained_by change) }
 {
     if change < 0 { 0 } else { change }
 }
 
 fn lost(change: i64) -> i64
     requires { nat_abs change ≤ heaviest_mode }
-    ensures { result ≡ pos (lostBy change) }
+    ensures { result ≡ pos (lost_by change) }
 {
     if change < 0 { 0 - change } else { 0 }
 }

@@ -3,8 +3,8 @@ ghost use Rattle.std.specs.Prelude.{◌≡◌, ◌+◌, ◌≤◌, ◌<◌, pos,
 ghost use Rattle.std.proofs.Math.Option.{none};
 ghost use Rattle.model.specs.Nets.{arc_no};
 ghost use Rattle.model.specs.Markings.{Marking};
-ghost use Rattle.movement.specs.Figures.{sum as sum_to, weight as weightOf, figure, change};
-ghost use Rattle.movement.proofs.Figures.{gain as arcGain};
+ghost use Rattle.movement.specs.Figures.{sum as sum_to, weight as weight_of, figure, change};
+ghost use Rattle.movement.proofs.Figures.{gain as gain_by_arc};
 ghost use Rattle.sheets.specs.lists.Weights.{weights_refusal};
 ghost use Rattle.sheets.specs.Decoded.{net_of, weights_of};
 ghost use Rattle.opened.specs.Shape.{Open};
@@ -27,7 +27,7 @@ fn gain(weight: i32, pre: u32, post: u32) -> i64
 fn term(weights: &[u8], pairs: usize, p: usize, count: u32) -> i64
     requires weights_value { weights_refusal pairs weights.now ≡ none }
     requires p_lt_pairs { (p < pairs) × (pairs ≤ 256) }
-    ensures { result ≡ weightOf (weights_of weights.now) p *ℤ pos count }
+    ensures { result ≡ weight_of (weights_of weights.now) p *ℤ pos count }
 {
     gain(weight(weights, pairs, Pair(p as u16)), 0, count)
 }
@@ -54,7 +54,7 @@ fn arc_gain(s: &[u8], net: NetShape, weights: &[u8], arcs: Segment, i: usize) ->
     requires fact { Open s.now net }
     requires weights_value { weights_refusal net.pairs weights.now ≡ none }
     requires own_arc { OwnArc (net_of s.now).arcs arcs i }
-    ensures { result ≡ arcGain (weights_of weights.now) (arc_no (net_of s.now).arcs (arcs.start + i)) }
+    ensures { result ≡ gain_by_arc (weights_of weights.now) (arc_no (net_of s.now).arcs (arcs.start + i)) }
 {
     let arc = arc(s, net, arcs, i);
     let pair = arc.pair;
@@ -65,7 +65,7 @@ pub(crate) fn gains(s: &[u8], net: NetShape, weights: &[u8], arcs: Segment) -> i
     requires fact { Open s.now net }
     requires weights_value { weights_refusal net.pairs weights.now ≡ none }
     requires mode_arcs { ModeArcs (net_of s.now).arcs arcs.mode arcs.start arcs.count }
-    ensures { result ≡ sum_to arcs.count (λ k. arcGain (weights_of weights.now) (arc_no (net_of s.now).arcs (arcs.start + k))) }
+    ensures { result ≡ sum_to arcs.count (λ k. gain_by_arc (weights_of weights.now) (arc_no (net_of s.now).arcs (arcs.start + k))) }
 {
     let count = arcs.count;
     let mut sum: i64 = 0;
