@@ -1,15 +1,17 @@
 // What a call tells C, as structs by value: document 01's number, thing and position, document 02's amount, and the value, 0 where a refused call has none.
+#![tactic(auto)]
+
 ghost use Rattle.std.specs.Prelude.{◌≡◌};
 ghost use Rattle.std.proofs.Math.Option.{none};
 ghost use Rattle.model.specs.declared.Answer.TheVariants.{Refused};
 ghost use Rattle.model.specs.Replies.{yields, refuses};
-ghost use Rattle.sheets.specs.Emitted.{told as emittedTold};
-ghost use Rattle.complement.specs.audit.Audits.{told as auditTold};
-ghost use Rattle.opened.specs.dead.FirstDead.{told as firstDeadTold};
-ghost use Rattle.opened.specs.dead.IsDead.{told as deadnessTold};
-ghost use Rattle.run.specs.salvage.Salvaged.{told as salvageTold};
-ghost use Rattle.opened.specs.size.Sizes.{told as measuredTold};
-ghost use Rattle.statement.specs.weigh.Calls.{told as figuredTold};
+ghost use Rattle.sheets.specs.Emitted.{told as emitted_told};
+ghost use Rattle.complement.specs.audit.Audits.{told as audit_told};
+ghost use Rattle.opened.specs.dead.FirstDead.{told as first_dead_told};
+ghost use Rattle.opened.specs.dead.IsDead.{told as deadness_told};
+ghost use Rattle.run.specs.salvage.Salvaged.{told as salvage_told};
+ghost use Rattle.opened.specs.size.Sizes.{told as measured_told};
+ghost use Rattle.statement.specs.weigh.Calls.{told as figured_told};
 ghost use Rattle.answers.specs.Told.{answered, counted, weighed, decided, naming, named, sized, finding, audited, reported};
 
 use complement::audit::Found;
@@ -22,7 +24,7 @@ use statement::told::{line_of, thing_of};
 use statement::weigh::Figured;
 
 #[repr(C)]
-#[derive(Drop)]
+#[derive(Clone, Copy)]
 pub struct Answered {
     pub number: u64,
     pub thing: u64,
@@ -32,7 +34,7 @@ pub struct Answered {
 
 // How many bytes.
 #[repr(C)]
-#[derive(Drop)]
+#[derive(Clone, Copy)]
 pub struct Counted {
     pub answer: Answered,
     pub value: u64,
@@ -40,7 +42,7 @@ pub struct Counted {
 
 // How many movements were accepted, and how many arcs were visited.
 #[repr(C)]
-#[derive(Drop)]
+#[derive(Clone, Copy)]
 pub struct Tallied {
     pub answer: Answered,
     pub accepted: u64,
@@ -49,7 +51,7 @@ pub struct Tallied {
 
 // Kilograms.
 #[repr(C)]
-#[derive(Drop)]
+#[derive(Clone, Copy)]
 pub struct Weighed {
     pub answer: Answered,
     pub value: i64,
@@ -57,7 +59,7 @@ pub struct Weighed {
 
 // Yes or no.
 #[repr(C)]
-#[derive(Drop)]
+#[derive(Clone, Copy)]
 pub struct Decided {
     pub answer: Answered,
     pub value: bool,
@@ -65,7 +67,7 @@ pub struct Decided {
 
 // A mode and a pair, where there is one.
 #[repr(C)]
-#[derive(Drop)]
+#[derive(Clone, Copy)]
 pub struct Named {
     pub answer: Answered,
     pub found: bool,
@@ -75,7 +77,7 @@ pub struct Named {
 
 // How many pairs, modes and arcs.
 #[repr(C)]
-#[derive(Drop)]
+#[derive(Clone, Copy)]
 pub struct Sized {
     pub answer: Answered,
     pub pairs: u64,
@@ -85,7 +87,7 @@ pub struct Sized {
 
 // A pair and its excess, where there is one.
 #[repr(C)]
-#[derive(Drop)]
+#[derive(Clone, Copy)]
 pub struct Audited {
     pub answer: Answered,
     pub found: bool,
@@ -95,7 +97,7 @@ pub struct Audited {
 
 // How long the fresh sheet is, how many movements it keeps and how many were dropped, and the answer to the first of these.
 #[repr(C)]
-#[derive(Drop)]
+#[derive(Clone, Copy)]
 pub struct Reported {
     pub answer: Answered,
     pub length: u64,
@@ -157,7 +159,7 @@ fn wrote_nothing(refusal: Refusal) -> Counted
 }
 
 pub fn tell_emitted(emitted: Emitted) -> Counted
-    ensures { result ≡ counted (emittedTold emitted) }
+    ensures { result ≡ counted (emitted_told emitted) }
 {
     match emitted {
         Emitted::Length(length) => wrote(length),
@@ -166,7 +168,7 @@ pub fn tell_emitted(emitted: Emitted) -> Counted
 }
 
 pub fn tell_kilograms(figured: Figured) -> Weighed
-    ensures { result ≡ weighed (figuredTold figured) }
+    ensures { result ≡ weighed (figured_told figured) }
 {
     match figured {
         Figured::Is(value) => Weighed {
@@ -181,7 +183,7 @@ pub fn tell_kilograms(figured: Figured) -> Weighed
 }
 
 pub fn tell_deadness(deadness: Deadness) -> Decided
-    ensures { result ≡ decided (deadnessTold deadness) }
+    ensures { result ≡ decided (deadness_told deadness) }
 {
     match deadness {
         Deadness::Dead => Decided {
@@ -212,7 +214,7 @@ fn nothing_found(answer: Answered) -> Named
 }
 
 pub fn tell_first_dead(first: FirstDead) -> Named
-    ensures { result ≡ named (firstDeadTold first) }
+    ensures { result ≡ named (first_dead_told first) }
 {
     match first {
         FirstDead::At(mode, pair) => Named {
@@ -227,7 +229,7 @@ pub fn tell_first_dead(first: FirstDead) -> Named
 }
 
 pub fn tell_size(measured: Measured) -> Sized
-    ensures { result ≡ sized (measuredTold measured) }
+    ensures { result ≡ sized (measured_told measured) }
 {
     match measured {
         Measured::Is(size) => Sized {
@@ -258,7 +260,7 @@ fn none_out(answer: Answered) -> Audited
 }
 
 pub fn tell_audit(found: Found) -> Audited
-    ensures { result ≡ audited (auditTold found) }
+    ensures { result ≡ audited (audit_told found) }
 {
     match found {
         Found::At(pair, excess) => Audited {
@@ -273,7 +275,7 @@ pub fn tell_audit(found: Found) -> Audited
 }
 
 pub fn tell_salvage(salvaged: Salvaged) -> Reported
-    ensures { result ≡ reported (salvageTold salvaged) }
+    ensures { result ≡ reported (salvage_told salvaged) }
 {
     match salvaged {
         Salvaged::Written(report) => {
