@@ -1,11 +1,10 @@
 // The complement of a net.
-ghost use Rattle.abi.specs.Contracts.{ComplementAllows};
+ghost use Rattle.abi.specs.Allowed.{ComplementAllows};
 
 use answers::{Counted, tell_emitted};
 use complement::complement;
 
-#[unsafe(no_mangle)]
-pub extern "C" fn pnet_complement(net: &[u8], out: &mut [u8]) -> Counted
+pub fn pnet_complement(net: &[u8], out: &mut [u8]) -> Counted
     ensures { ComplementAllows net.now out.old (result, out.new) }
 {
     tell_emitted(complement(net, out))

@@ -1,18 +1,16 @@
 // A net's sheet in the other version.
-ghost use Rattle.abi.specs.Contracts.{ToVersion1Allows, ToVersion2Allows};
+ghost use Rattle.abi.specs.Allowed.{ToVersion1Allows, ToVersion2Allows};
 
 use answers::{Counted, tell_emitted};
 use convert::{to_version_1, to_version_2};
 
-#[unsafe(no_mangle)]
-pub extern "C" fn pnet_to_version_2(net: &[u8], out: &mut [u8]) -> Counted
+pub fn pnet_to_version_2(net: &[u8], out: &mut [u8]) -> Counted
     ensures { ToVersion2Allows net.now out.old (result, out.new) }
 {
     tell_emitted(to_version_2(net, out))
 }
 
-#[unsafe(no_mangle)]
-pub extern "C" fn pnet_to_version_1(net: &[u8], out: &mut [u8]) -> Counted
+pub fn pnet_to_version_1(net: &[u8], out: &mut [u8]) -> Counted
     ensures { ToVersion1Allows net.now out.old (result, out.new) }
 {
     tell_emitted(to_version_1(net, out))

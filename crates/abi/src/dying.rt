@@ -1,19 +1,17 @@
 // Locally dead modes.
-ghost use Rattle.abi.specs.Contracts.{IsDeadAllows, FirstDeadAllows};
+ghost use Rattle.abi.specs.Allowed.{IsDeadAllows, FirstDeadAllows};
 
 use answers::{Decided, Named, tell_deadness, tell_first_dead};
 use model::Mode;
 use opened::dead::{first_dead, is_dead};
 
-#[unsafe(no_mangle)]
-pub extern "C" fn pnet_is_dead(net: &[u8], mode: Mode) -> Decided
+pub fn pnet_is_dead(net: &[u8], mode: Mode) -> Decided
     ensures { IsDeadAllows net.now mode result }
 {
     tell_deadness(is_dead(net, mode))
 }
 
-#[unsafe(no_mangle)]
-pub extern "C" fn pnet_first_dead(net: &[u8]) -> Named
+pub fn pnet_first_dead(net: &[u8]) -> Named
     ensures { FirstDeadAllows net.now result }
 {
     tell_first_dead(first_dead(net))

@@ -1,11 +1,10 @@
 // Weights that show a marking to be out of reach.
-ghost use Rattle.abi.specs.Contracts.{ExcludeAllows};
+ghost use Rattle.abi.specs.Allowed.{ExcludeAllows};
 
 use answers::{Answered, tell};
 use statement::exclude::exclude;
 
-#[unsafe(no_mangle)]
-pub extern "C" fn pnet_exclude(net: &[u8], weights: &[u8], claim: &[u32]) -> Answered
+pub fn pnet_exclude(net: &[u8], weights: &[u8], claim: &[u32]) -> Answered
     ensures { ExcludeAllows net.now weights.now claim.now result }
 {
     tell(exclude(net, weights, claim))

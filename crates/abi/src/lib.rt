@@ -1,4 +1,6 @@
-// The public calls for C (include/pnet.h). Each hands its arguments to its library's call, and its answer back as a struct by value.
+// The calls of include/pnet.h, as library functions (crate `abi_c` exports them). Each hands its arguments to its library's call, and its answer back as a struct by value.
+#![tactic(auto)]
+
 pub mod adding;
 pub mod auditing;
 pub mod complementing;

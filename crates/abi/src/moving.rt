@@ -1,5 +1,5 @@
 // Movements over a lent marking.
-ghost use Rattle.abi.specs.Contracts.{BeginAllows, TestAllows, FireAllows, TestStepAllows, FireStepAllows, RunAllows, CertifyAllows};
+ghost use Rattle.abi.specs.Allowed.{BeginAllows, TestAllows, FireAllows, TestStepAllows, FireStepAllows, RunAllows, CertifyAllows};
 
 use answers::{Answered, Tallied, tell};
 use fire::step::{fire_step, test_step};
@@ -7,44 +7,38 @@ use fire::{begin, fire, test};
 use model::Mode;
 use run::{certify, run};
 
-#[unsafe(no_mangle)]
-pub extern "C" fn pnet_begin(net: &[u8], marking: &mut [u32]) -> Answered
+pub fn pnet_begin(net: &[u8], marking: &mut [u32]) -> Answered
     ensures { BeginAllows net.now marking.old (result, marking.new) }
 {
     tell(begin(net, marking))
 }
 
-#[unsafe(no_mangle)]
-pub extern "C" fn pnet_test(net: &[u8], marking: &[u32], mode: Mode) -> Answered
+pub fn pnet_test(net: &[u8], marking: &[u32], mode: Mode) -> Answered
     ensures { TestAllows net.now marking.now mode result }
 {
     tell(test(net, marking, mode))
 }
 
-#[unsafe(no_mangle)]
-pub extern "C" fn pnet_fire(net: &[u8], marking: &mut [u32], mode: Mode) -> Answered
+pub fn pnet_fire(net: &[u8], marking: &mut [u32], mode: Mode) -> Answered
     ensures { FireAllows net.now marking.old mode (result, marking.new) }
 {
     tell(fire(net, marking, mode))
 }
 
 // C lends modes: a `struct pnet_mode` is its number.
-#[unsafe(no_mangle)]
-pub extern "C" fn pnet_test_step(net: &[u8], marking: &[u32], modes: &[u16]) -> Answered
+pub fn pnet_test_step(net: &[u8], marking: &[u32], modes: &[u16]) -> Answered
     ensures { TestStepAllows net.now marking.now modes.now result }
 {
     tell(test_step(net, marking, modes))
 }
 
-#[unsafe(no_mangle)]
-pub extern "C" fn pnet_fire_step(net: &[u8], marking: &mut [u32], modes: &[u16]) -> Answered
+pub fn pnet_fire_step(net: &[u8], marking: &mut [u32], modes: &[u16]) -> Answered
     ensures { FireStepAllows net.now marking.old modes.now (result, marking.new) }
 {
     tell(fire_step(net, marking, modes))
 }
 
-#[unsafe(no_mangle)]
-pub extern "C" fn pnet_run(net: &[u8], movements: &[u8], marking: &mut [u32]) -> Tallied
+pub fn pnet_run(net: &[u8], movements: &[u8], marking: &mut [u32]) -> Tallied
     ensures { RunAllows net.now movements.now marking.old (result, marking.new) }
 {
     let outcome = run(net, movements, marking);
@@ -56,8 +50,7 @@ pub extern "C" fn pnet_run(net: &[u8], movements: &[u8], marking: &mut [u32]) ->
     }
 }
 
-#[unsafe(no_mangle)]
-pub extern "C" fn pnet_certify(net: &[u8], movements: &[u8], claim: &[u32]) -> Answered
+pub fn pnet_certify(net: &[u8], movements: &[u8], claim: &[u32]) -> Answered
     ensures { CertifyAllows net.now movements.now claim.now result }
 {
     tell(certify(net, movements, claim))

@@ -2,7 +2,7 @@
 ghost use Rattle.std.specs.Prelude.{◌≡◌};
 ghost use Rattle.heads.specs.Held.{Headed};
 ghost use Rattle.abi.specs.Told.{taken};
-ghost use Rattle.abi.specs.Contracts.{ReadNetAllows, ReadWeightsAllows, ReadMovementsAllows};
+ghost use Rattle.abi.specs.Allowed.{ReadNetAllows, ReadWeightsAllows, ReadMovementsAllows};
 
 use answers::{Counted, tell};
 use heads::head::sheet_end;
@@ -25,22 +25,19 @@ fn bytes_taken(s: &[u8], sheet: Answer) -> Counted
     }
 }
 
-#[unsafe(no_mangle)]
-pub extern "C" fn pnet_read_net(bytes: &[u8]) -> Counted
+pub fn pnet_read_net(bytes: &[u8]) -> Counted
     ensures { ReadNetAllows bytes.now result }
 {
     bytes_taken(bytes, read_net(bytes))
 }
 
-#[unsafe(no_mangle)]
-pub extern "C" fn pnet_read_weights(bytes: &[u8], pairs: usize) -> Counted
+pub fn pnet_read_weights(bytes: &[u8], pairs: usize) -> Counted
     ensures { ReadWeightsAllows bytes.now pairs result }
 {
     bytes_taken(bytes, read_weights(bytes, pairs))
 }
 
-#[unsafe(no_mangle)]
-pub extern "C" fn pnet_read_movements(bytes: &[u8]) -> Counted
+pub fn pnet_read_movements(bytes: &[u8]) -> Counted
     ensures { ReadMovementsAllows bytes.now result }
 {
     bytes_taken(bytes, read_movements(bytes))

@@ -1,11 +1,10 @@
 // What can be kept of a damaged movement sheet.
-ghost use Rattle.abi.specs.Contracts.{SalvageAllows};
+ghost use Rattle.abi.specs.Allowed.{SalvageAllows};
 
 use answers::{Reported, tell_salvage};
 use run::salvage::salvage;
 
-#[unsafe(no_mangle)]
-pub extern "C" fn pnet_salvage(net: &[u8], damaged: &[u8], out: &mut [u8]) -> Reported
+pub fn pnet_salvage(net: &[u8], damaged: &[u8], out: &mut [u8]) -> Reported
     ensures { SalvageAllows net.now damaged.now out.old (result, out.new) }
 {
     tell_salvage(salvage(net, damaged, out))

@@ -1,11 +1,10 @@
 // How large a net is.
-ghost use Rattle.abi.specs.Contracts.{SizeAllows};
+ghost use Rattle.abi.specs.Allowed.{SizeAllows};
 
 use answers::{Sized, tell_size};
 use opened::size::size;
 
-#[unsafe(no_mangle)]
-pub extern "C" fn pnet_size(net: &[u8]) -> Sized
+pub fn pnet_size(net: &[u8]) -> Sized
     ensures { SizeAllows net.now result }
 {
     tell_size(size(net))

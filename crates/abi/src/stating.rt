@@ -1,11 +1,10 @@
 // The text of `replay`.
-ghost use Rattle.abi.specs.Contracts.{StatementAllows};
+ghost use Rattle.abi.specs.Allowed.{StatementAllows};
 
 use answers::{Counted, tell_emitted};
 use statement::statement;
 
-#[unsafe(no_mangle)]
-pub extern "C" fn pnet_statement(input: &[u8], out: &mut [u8]) -> Counted
+pub fn pnet_statement(input: &[u8], out: &mut [u8]) -> Counted
     ensures { StatementAllows input.now out.old (result, out.new) }
 {
     tell_emitted(statement(input, out))

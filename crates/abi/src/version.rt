@@ -2,8 +2,7 @@
 // another version's header does not link.
 ghost use Rattle.std.specs.Prelude.{◌≡◌};
 
-#[unsafe(no_mangle)]
-pub extern "C" fn pnet_abi_3() -> u64
+pub fn pnet_abi_3() -> u64
     ensures { result ≡ 3 }
 {
     3

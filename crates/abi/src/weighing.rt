@@ -1,19 +1,17 @@
 // Kilograms: the figure of a marking, a mode's weight change.
-ghost use Rattle.abi.specs.Contracts.{FigureAllows, ChangeAllows};
+ghost use Rattle.abi.specs.Allowed.{FigureAllows, ChangeAllows};
 
 use answers::{Weighed, tell_kilograms};
 use model::Mode;
 use statement::weigh::{change, figure};
 
-#[unsafe(no_mangle)]
-pub extern "C" fn pnet_figure(net: &[u8], weights: &[u8], marking: &[u32]) -> Weighed
+pub fn pnet_figure(net: &[u8], weights: &[u8], marking: &[u32]) -> Weighed
     ensures { FigureAllows net.now weights.now marking.now result }
 {
     tell_kilograms(figure(net, weights, marking))
 }
 
-#[unsafe(no_mangle)]
-pub extern "C" fn pnet_change(net: &[u8], weights: &[u8], mode: Mode) -> Weighed
+pub fn pnet_change(net: &[u8], weights: &[u8], mode: Mode) -> Weighed
     ensures { ChangeAllows net.now weights.now mode result }
 {
     tell_kilograms(change(net, weights, mode))

@@ -21,7 +21,7 @@ use Rattle.complement.specs.Complemented as complement
 use Rattle.convert.specs.Converted as convert
 use Rattle.convert.specs.strip.Stripped as strip
 use Rattle.export.specs.Exports as export
-use Rattle.import.specs.Contracts as importing
+use Rattle.import.specs.Allowed as importing
 use Rattle.complement.specs.audit.Audits as audit
 use Rattle.run.specs.salvage.Salvaged as salvage
 use Rattle.ships.specs.declared.Fleet.{Fleet}

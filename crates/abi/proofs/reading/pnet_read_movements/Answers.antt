@@ -1,0 +1,10 @@
+-- A sheet that is accepted has its head.
+use Rattle.model.proofs.Refusals.{answer-none}
+use Rattle.sheets.proofs.Listed.{movements-headed}
+use Rattle.abi.proofs.reading.pnet_read_movements.Goals as goal
+
+pub bytes_taken-requires : goal.bytes_taken-requires
+bytes_taken-requires c = λ e. movements-headed _ (answer-none _ c.read_movements.ensures e)
+
+pub returns : goal.returns
+returns c = rw c.read_movements.ensures at c.bytes_taken.ensures
