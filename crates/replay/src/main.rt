@@ -1,21 +1,38 @@
 // Standard input to standard output (document 01, "`replay`"): what was read, one call, what it wrote. "Input above 65,536 bytes" is told by one byte more.
-use libc::{STDERR_FILENO, STDIN_FILENO, STDOUT_FILENO};
+#![tactic(auto)]
+
+ghost use Rattle.std.specs.Prelude.{◌≤◌, length};
+
 use sheets::Emitted;
 use statement::statement;
+use std::io::{Read, Write};
 
-fn main() {
+// Reads until the slice is full, the input ends or a read fails, and returns how many bytes stand at the slice's start.
+fn read_full<R: Read>(from: &mut R, into: &mut [u8]) -> usize
+    ensures { result ≤ length into.new }
+{
+    let mut done = 0;
+    for _ in 0..into.len() {
+        match from.read(&mut into[done..]) {
+            Ok(0) | Err(_) => return done,
+            Ok(more) => done += more,
+        }
+    }
+    done
+}
+
+fn main(rt: HostRuntime) {
     let mut input = [0u8; 65_537];
-    let read = io::read_full(STDIN_FILENO, &mut input);
+    let read = read_full(&mut rt.stdin(), &mut input);
     let mut out = [0u8; 262_144];
     let stated = statement(&input[..read], &mut out);
     let mut whole = false;
     if let Emitted::Length(length) = stated {
-        whole = io::write_all(STDOUT_FILENO, &out[..length]);
+        whole = rt.stdout().write_all(&out[..length]).is_ok();
     }
     if !whole {
-        io::write_all(
-            STDERR_FILENO,
-            b"replay: the text could not be written whole\n",
-        );
+        let _said = rt
+            .stderr()
+            .write_all(b"replay: the text could not be written whole\n");
     }
 }
