@@ -21,9 +21,9 @@ use Rattle.movement.proofs.Runs.{runs}
 use Rattle.both_forms.proofs.Visits.{visits-bounded}
 use Rattle.sheets.specs.Decoded.{net_of, movements_of}
 use Rattle.run.specs.Calls.{before_run, run_of, visited_by}
-use Rattle.run.specs.Contracts.{RunAllows}
+use Rattle.run.specs.Allowed.{RunAllows}
 use Rattle.progress.proofs.Visiting.{one_more_lem}
-use Rattle.abi.specs.Contracts as c
+use Rattle.abi.specs.Allowed as c
 use Rattle.promises.specs.ArcsVisited.{Reported, ArcsVisited}
 use Rattle.promises.specs.ConstantAnswers.{Varies}
 use Rattle.promises.specs.Frauds.{VisitFrauds}

@@ -16,7 +16,7 @@ use Rattle.model.specs.declared.Thing.{Thing}
 use Rattle.model.specs.declared.Thing.TheVariants.{Net, Weights, Movements, Argument}
 use Rattle.model.specs.declared.Why.{Why}
 use Rattle.model.specs.declared.Why.TheVariants.{Lacking, OverCapacity, Inhibited, OverLimit}
-use Rattle.model.specs.declared.Fault.TheVariants.{CutShort, WrongVersion, WrongLength, NotThere, EndsElsewhere, RuleLost}
+use Rattle.model.specs.declared.Fault.TheVariants.{CutShort, WrongVersion, WrongLength, NotThere, EndsElsewhere, NotUnbounded, RuleLost}
 use Rattle.model.specs.declared.CapacityRule.{CapacityRule}
 use Rattle.model.specs.declared.CapacityRule.TheVariants.{Strong, Weak}
 use Rattle.model.specs.declared.Version.{Version}
@@ -27,7 +27,7 @@ use Rattle.model.specs.First.{◌▸◌, first, only_if}
 use Rattle.model.specs.Refusals.{carries, carried, wrong, thing_number}
 use Rattle.model.specs.RefusalTables.{Table, row, ◌then◌, each, Reads}
 use Rattle.model.specs.Numbers.{ℕ∞, fin, ∞, above_by, limit}
-use Rattle.model.specs.Nets.{PNet, pairs, pair_no, mode_no, count, modes, K}
+use Rattle.model.specs.Nets.{PNet, arc_no, pairs, pair_no, mode_no, count, modes, K}
 use Rattle.model.specs.Firing.{stops, stopped_by, stopped, lowest_stop, rule_refusal, row_refusal, rooms, mode_refusal, fired}
 use Rattle.both_forms.specs.Steps.{together, step_refusal}
 use Rattle.movement.specs.Runs.{Outcome, go_on, run_from, run, elsewhere, ends_at, certificate_refusal}
@@ -52,14 +52,14 @@ use Rattle.sheets.specs.RefusalTables.{head_table}
 use Rattle.sheets.proofs.RefusalTables.{sheet_tables}
 use Rattle.sheets.specs.written.Written.{version_number}
 use Rattle.sheets.proofs.written.Versions.{version-known}
-use Rattle.opened.specs.Shape.{arc_offset}
+use Rattle.opened.specs.Shape.{arc_offset, inhibitor_offset}
 use Rattle.fire.specs.Calls.{begin_refusal, test_refusal}
 use Rattle.run.specs.Calls.{before_run, run_of, certify_refusal}
 use Rattle.fire.specs.step.Calls.{step_modes, test_step_refusal}
 use Rattle.statement.specs.weigh.Calls.{figure_refusal, change_refusal}
 use Rattle.ships.specs.declared.Fleet.{Fleet}
 use Rattle.ships.specs.Ships.{Ship, voyage_of, with_voyage}
-use Rattle.ships.specs.Entered.{record_refusal, room_refusal as shipRoom, figure_refusal as shipFigures, ship_refusal}
+use Rattle.ships.specs.Entered.{record_refusal, room_refusal as ship_room, figure_refusal as ship_figures, ship_refusal}
 use Rattle.statement.proofs.fleet.Entering.{by_bounds, by-past}
 use Rattle.statement.specs.exclude.Calls.{exclude_refusal}
 use Rattle.opened.specs.dead.IsDead.{dead_refusal}
@@ -68,7 +68,7 @@ use Rattle.convert.specs.Converted.{of_version, converted_sheet, lost_rule, open
 use Rattle.bare.specs.Strip.{bound_of, strip_refusal}
 use Rattle.convert.specs.strip.Stripped.{stripped_net, stripped_sheet, stripping_refusal}
 use Rattle.convert.specs.strip.Stripped as stripping
-use Rattle.export.specs.Exports.{bounded_capacity, bounded_inhibitor, refusal19, room_refusal as exportRoom, export_refusal, export_text}
+use Rattle.export.specs.Exports.{capacity_offset, bounded_capacity, bounded_inhibitor, refusal19, room_refusal as export_room, export_refusal, export_text}
 use Rattle.import.proofs.RefusalTable.{import_table_lem}
 use Rattle.complement.specs.audit.Audits.{auditing_refusal}
 use Rattle.promises.specs.CallTables.{bytes_left, whole_net_table, whole_weight_table, whole_movement_table, marking_after, moves_table, certificate_table, step_table, room_table, convert_table, strip_table, export_table, RunReads, SalvageReads, CallTables, claim_table, add_ship_table}
@@ -173,7 +173,7 @@ module _ (net : PNet) (ts : List Mode) (m : List ℕ) where
       (reads_then
       (sums-read OverCapacity
       (λ p. rw (← post_is net p ts, ← pre_is net p ts) (by-above (count m p + (together net ts p).post) (rooms net (together net ts) p)))
-      (λ p. rw (← post_is net p ts, ← pre_is net p ts)))
+      (λ p. cc (post_is net p ts, pre_is net p ts)))
       (reads_then (sums-read Inhibited (λ p. by-some net p (count m p) ts) (λ p. ap (above_by (count m p)) (sym (low-is net p ts))))
       (sums-read OverLimit
       (λ p. rw (← pre_is net p ts, ← post_is net p ts) (by_less limit (count m p - (together net ts p).pre + (together net ts p).post)))
@@ -188,7 +188,7 @@ claim-reads net weights claim =
 
 -- a ship: the record, the room for it, its sheets, then the figures
 ship-reads : (found : Fleet) (s : Ship) → Reads (add_ship_table found s) (ship_refusal found s)
-unfolding ship_refusal record_refusal shipRoom shipFigures with_voyage voyage_of
+unfolding ship_refusal record_refusal ship_room ship_figures with_voyage voyage_of
 ship-reads found s =
     reads_then (reads_plain _ (by_bounds found))
     (reads_then (reads_plain _ (by_less 1000 (found.ships + 1)))
@@ -249,12 +249,16 @@ strip-reads s p room =
 
 -- an export: each K, then each I, then the output slice
 export-reads : (s : List ℕ) (room : ℕ) → Reads (export_table s room) (export_refusal s room)
-unfolding export_refusal exportRoom refusal19 bounded_capacity bounded_inhibitor
+unfolding export_refusal export_room refusal19 bounded_capacity bounded_inhibitor
 export-reads s room =
+    let net = net_of s in
+    let at_pair = λ (p : ℕ). wrong Net (NotUnbounded (capacity_offset s p)) in
+    let at_arc = λ (k : ℕ). wrong Net (NotUnbounded (inhibitor_offset s k)) in
     reads_then (net-reads s)
     (subst (Reads _) (sym (then_assoc _ _ _))
-    (reads_then (reads-each (pairs (net_of s)) (λ p l. reads_plain _ (by-finite _)))
-    (reads_then (reads-each (length (net_of s).arcs) (λ k l. reads_plain _ (by-finite _))) (reads_plain _ (by_less room (length (export_text s)))))))
+    (reads_then (reads-each (pairs net) (λ p l. reads_plain (at_pair p) (by-finite (K net p))))
+    (reads_then (reads-each (length net.arcs) (λ k l. reads_plain (at_arc k) (by-finite (arc_no net.arcs k).entry.inhibitor)))
+    (reads_plain _ (by_less room (length (export_text s)))))))
 
 -- an audit: where the room is the sheet's own length, complementing is never short of it
 room-refusal : (s : List ℕ) → room_refusal s (length (complement_sheet s)) ≡ complement_refusal (arc_offset s) (net_of s)

@@ -9,18 +9,18 @@ use Rattle.model.specs.declared.Refusal.{Refusal}
 use Rattle.model.specs.declared.Answer.{Answer}
 use Rattle.model.specs.Refusals.{answer, amount}
 use Rattle.model.specs.Nets.{mode_no}
-use Rattle.fire.specs.Contracts.{TestAllows, FireAllows}
-use Rattle.fire.specs.step.Contracts.{TestStepAllows, FireStepAllows}
-use Rattle.run.specs.Contracts.{RunAllows, CertifyAllows}
+use Rattle.fire.specs.Allowed.{TestAllows, FireAllows}
+use Rattle.fire.specs.step.Allowed.{TestStepAllows, FireStepAllows}
+use Rattle.run.specs.Allowed.{RunAllows, CertifyAllows}
 use Rattle.answers.specs.declared.Answered.{Answered}
 use Rattle.run.specs.declared.salvage.Salvaged.{Salvaged}
 use Rattle.run.specs.declared.salvage.Salvaged.TheVariants.{Written, Refused}
 use Rattle.run.specs.salvage.Salvaged as salvaging
-use Rattle.run.specs.salvage.Contracts.{SalvageAllows}
+use Rattle.run.specs.salvage.Allowed.{SalvageAllows}
 use Rattle.answers.specs.declared.Tallied.{Tallied}
 use Rattle.answers.specs.declared.Reported.{Reported}
 use Rattle.answers.specs.Told.{reported}
-use Rattle.abi.specs.Contracts as c
+use Rattle.abi.specs.Allowed as c
 use Rattle.statement.specs.Example as sheets
 use Rattle.promises.specs.OwnExample as own
 use Rattle.promises.specs.ConstantAnswers.{Only, NotConstant, Varies}
@@ -29,8 +29,8 @@ use Rattle.promises.proofs.ConstantAnswers.{accepts_and_refuses}
 use Rattle.promises.proofs.ConstantAnswersForC.{tells}
 use Rattle.promises.proofs.OwnExample.{tests, lacks, steps, lacks-together, runs-whole, run_is, certifies, lacks-certified, salvages-whole, salvages-three}
 
-module _ {I O : Type 0} (Allows : I → O → Type 0) (amountOf : O → ℕ) where
-  varies : (n : ℕ) (i j : I) → 0 < n → Only Allows amountOf 0 i → Only Allows amountOf n j → Varies Allows amountOf
+module _ {I O : Type 0} (Allows : I → O → Type 0) (amount_of : O → ℕ) where
+  varies : (n : ℕ) (i j : I) → 0 < n → Only Allows amount_of 0 i → Only Allows amount_of n j → Varies Allows amount_of
   varies n i j h here there = accepts_and_refuses _ _ i j here (λ o a e. omega (arith, there o a))
 
 by : {o o' : Option Refusal} → o ≡ o' → (told : Answer) → told ≡ answer o → amount told ≡ amount (answer o')
@@ -71,8 +71,8 @@ stop-told : (x : Salvaged) → (reported (salvaging.told x)).stop.amount ≡ sto
 stop-told (Written report) = refl
 stop-told (Refused r) = refl
 
-module _ {I O P : Type 0} {Allows : I → O → Type 0} {amountOf : O → ℕ} (Tells : I → P → Type 0) (told : P → ℕ) where
-  told-varies : Varies Allows amountOf → ((i : I) (p : P) → Tells i p → (o : O) × Allows i o × (told p ≡ amountOf o)) → NotConstant Tells told
+module _ {I O P : Type 0} {Allows : I → O → Type 0} {amount_of : O → ℕ} (Tells : I → P → Type 0) (told : P → ℕ) where
+  told-varies : Varies Allows amount_of → ((i : I) (p : P) → Tells i p → (o : O) × Allows i o × (told p ≡ amount_of o)) → NotConstant Tells told
   told-varies v back = (tells v back).not_constant
 
 for_c_lem : ConstantAmountsForC

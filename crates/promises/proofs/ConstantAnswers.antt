@@ -60,10 +60,10 @@ use Rattle.run.specs.salvage.Salvaged as salvaging
 use Rattle.text.specs.declared.Put.{Put}
 use Rattle.text.specs.Decimals.{digit, decimal, decimal_within, signed_decimal}
 use Rattle.text.specs.Puts.{end_within, put_to}
-use Rattle.text.specs.Contracts.{PutBytesAllows}
+use Rattle.text.specs.Allowed.{PutBytesAllows}
 use Rattle.sheets.specs.declared.Emitted.{Emitted}
 use Rattle.statement.specs.Replay.{room, stated}
-use Rattle.statement.specs.Contracts.{StatementAllows}
+use Rattle.statement.specs.Allowed.{StatementAllows}
 use Rattle.promises.specs.OwnExample as own
 use Rattle.statement.specs.Example as sheets
 use Rattle.promises.specs.ConstantAnswers.{Only, Never, NotConstant, Varies, PartVaries, full, ConstantAnswers}

@@ -37,7 +37,7 @@ use Rattle.fire.specs.step.Calls.{test_step_refusal}
 use Rattle.statement.specs.weigh.Calls.{figure_refusal, change_refusal}
 use Rattle.ships.specs.declared.Fleet.{Fleet}
 use Rattle.ships.specs.Ships.{ship, voyage_of}
-use Rattle.ships.specs.Entered.{figure_refusal as shipFigures, ship_refusal, entered}
+use Rattle.ships.specs.Entered.{figure_refusal as ship_figures, ship_refusal, entered}
 use Rattle.statement.specs.exclude.Calls.{exclude_refusal}
 use Rattle.opened.specs.dead.IsDead.{dead_refusal}
 use Rattle.complement.specs.Complemented as complementing
@@ -250,7 +250,7 @@ module _ (a b : List ℕ) (one : OneNet a b) where
       }
 
   pub ships : (found : Fleet) (weights movements : List ℕ) → entered found (ship b weights movements) ≡ entered found (ship a weights movements)
-  unfolding entered ship_refusal shipFigures voyage_of
+  unfolding entered ship_refusal ship_figures voyage_of
   ships found weights movements = rw (whole, net)
 
   alike : Alike a b

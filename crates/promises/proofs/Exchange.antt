@@ -26,11 +26,11 @@ use Rattle.pnml.specs.Pnml.{body, pnml, Exportable}
 use Rattle.pnml.specs.Singles.{singles, imported_sheet}
 use Rattle.pnml.proofs.ImportRefusal.{too_many_lem, short}
 use Rattle.export.specs.Exports.{export_text, room_refusal, export_refusal}
-use Rattle.export.specs.Contracts.{ExportPnmlAllows}
+use Rattle.export.specs.Allowed.{ExportPnmlAllows}
 use Rattle.export.proofs.Promises.{exports-exactly, complements-exportable}
 use Rattle.import.specs.Imports as importing
 use Rattle.import.specs.Promises.{Small}
-use Rattle.import.specs.Contracts.{ImportPnmlAllows}
+use Rattle.import.specs.Allowed.{ImportPnmlAllows}
 use Rattle.import.proofs.Singles.{pairs-same, modes-same, singles-well, no_bound, size_is}
 use Rattle.import.proofs.Promises.{of-net, imports-exactly, imported_reads_lem}
 use Rattle.promises.specs.Exchange.{single_bytes, ComesBack, ImportAnswers, ExportThenImport, ExportAnswers, ImportThenExport, ComplementThenExport}

@@ -14,9 +14,9 @@ use Rattle.pnml.specs.Agrees.{Agrees}
 use Rattle.pnml.specs.Pnml.{opening, closing, pnml}
 use Rattle.pnml.proofs.ImportRefusal.{Way, many, full, whole, way}
 use Rattle.import.specs.Imports as importing
-use Rattle.import.specs.Contracts.{ImportPnmlAllows}
+use Rattle.import.specs.Allowed.{ImportPnmlAllows}
 use Rattle.import.proofs.Promises.{of-net, answered, between}
-use Rattle.abi.specs.Contracts as c
+use Rattle.abi.specs.Allowed as c
 use Rattle.promises.specs.ConstantAnswers.{Varies}
 use Rattle.promises.specs.Frauds.{ExchangeFrauds}
 use Rattle.promises.proofs.ConstantAnswers.{accepts_and_refuses}

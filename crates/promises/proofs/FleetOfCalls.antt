@@ -17,10 +17,10 @@ use Rattle.movement.specs.Figures.{change}
 use Rattle.ships.specs.declared.Fleet.{Fleet}
 use Rattle.ships.specs.Ships.{Ship, lost, removed_by, ship_removed, voyage_of, with_voyage}
 use Rattle.ships.specs.Entered.{ship_refusal, entered}
-use Rattle.ships.specs.Promises.{after_all, counted as countedBy}
+use Rattle.ships.specs.Promises.{after_all, counted as counted_by}
 use Rattle.ships.proofs.Totals.{fleet_statement_lem}
-use Rattle.statement.specs.fleet.Contracts.{AddShipAllows}
-use Rattle.promises.specs.FleetOfCalls.{Calls, none as noShip, counts, refuses, FleetOfCalls}
+use Rattle.statement.specs.fleet.Allowed.{AddShipAllows}
+use Rattle.promises.specs.FleetOfCalls.{Calls, none as no_ship, counts, refuses, FleetOfCalls}
 use Rattle.promises.specs.Frauds.{FleetFrauds}
 use Rattle.promises.proofs.Accepting.{number-none}
 
@@ -35,12 +35,12 @@ module _ (f : Fleet) (s : Ship) {o : Answer × Fleet} (allowed : AddShipAllows f
 
 -- what the calls have counted and leave is what the definition counts and leaves
 record Same (f : Fleet) (ships counted : List Ship) (last : Fleet) : Type 0 where
-  counts : counted ≡ countedBy f ships
+  counts : counted ≡ counted_by f ships
   leaves : last ≡ after_all f ships
 
 same : {f last : Fleet} {ships counted : List Ship} → Calls f ships counted last → Same f ships counted last
-unfolding after_all countedBy entered
-same noShip = record { counts = refl; leaves = refl }
+unfolding after_all counted_by entered
+same no_ship = record { counts = refl; leaves = refl }
 same (counts {f} {last} {s} {ships} o a e c) =
     let rest = rw (entered-is f s a e) at (same c) in
     let accepted = was_accepted f s a e in

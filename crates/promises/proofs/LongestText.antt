@@ -111,7 +111,7 @@ unfolding whole_net bytes_after
 limits s v e l =
     let accepted : net_refusal s ≡ none = left-none _ _ e in
     let net = net_of s in
-    let w = sheets.well-formed s accepted in
+    let w = sheets.well_formed_lem s accepted in
     let after : length s ≤ sheet_end s = ltb-false _ _ (only_if_none _ _ (right-none _ _ e)) in
     record {
       well = w;

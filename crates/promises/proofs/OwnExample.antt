@@ -55,13 +55,13 @@ use Rattle.sheets.specs.Emitted.{output}
 use Rattle.sheets.specs.Emitted as emitting
 use Rattle.fire.specs.Calls.{begin_refusal, test_refusal}
 use Rattle.run.specs.declared.Ran.{Ran}
-use Rattle.run.specs.Contracts.{RunAllows}
+use Rattle.run.specs.Allowed.{RunAllows}
 use Rattle.run.specs.Calls.{ran_of, before_run, run_of, visited_by, certify_refusal}
 use Rattle.fire.specs.step.Calls.{step_modes, test_step_refusal}
 use Rattle.statement.specs.weigh.Calls as weigh
 use Rattle.statement.specs.weigh.Calls.{figured, figure_refusal, change_refusal}
 use Rattle.ships.specs.Ships.{ship, added_by, removed_by, voyage_of, with_voyage}
-use Rattle.ships.specs.Entered.{record_refusal, room_refusal as shipRoom, figure_refusal as shipFigures, ship_refusal, entered}
+use Rattle.ships.specs.Entered.{record_refusal, room_refusal as ship_room, figure_refusal as ship_figures, ship_refusal, entered}
 use Rattle.ships.specs.Promises.{zeros}
 use Rattle.statement.specs.exclude.Calls.{exclude_refusal}
 use Rattle.opened.specs.dead.IsDead as one
@@ -72,10 +72,10 @@ use Rattle.complement.specs.Complemented.{room_refusal, complementing_refusal}
 use Rattle.text.specs.Decimals.{decimal_within, decimal}
 use Rattle.pnml.specs.Pnml.{opening, closing, three, place_text, transition_text, weight_text, pre_text, post_text, arc_text, mode_text, body, pnml, Exportable}
 use Rattle.pnml.specs.Singles.{singles, imported_sheet}
-use Rattle.export.specs.Contracts.{ExportPnmlAllows}
+use Rattle.export.specs.Allowed.{ExportPnmlAllows}
 use Rattle.export.proofs.Promises.{complements-exportable}
 use Rattle.import.specs.Promises.{Small}
-use Rattle.import.specs.Contracts.{ImportPnmlAllows}
+use Rattle.import.specs.Allowed.{ImportPnmlAllows}
 use Rattle.import.proofs.Singles.{size_is}
 use Rattle.import.proofs.Promises.{imports-exactly}
 use Rattle.complement.specs.audit.Audits as auditing
@@ -87,7 +87,7 @@ use Rattle.run.specs.declared.salvage.Salvaged.TheVariants.{Written}
 use Rattle.run.specs.salvage.MovementSheet.{movement_sheet}
 use Rattle.run.specs.salvage.Salvaged.{sheet_of_first, report_of, salvaged, trial, kept, report, fresh_sheet, salvage_refusal, salvage_of}
 use Rattle.run.specs.salvage.Salvaged as salvaging
-use Rattle.run.specs.salvage.Contracts.{SalvageAllows}
+use Rattle.run.specs.salvage.Allowed.{SalvageAllows}
 use Rattle.run.proofs.salvage.Answers.{kept-part, first-length, roomy}
 use Rattle.run.proofs.salvage.Promises.{all-considered, same-modes, not_damaged}
 use Rattle.promises.specs.OwnExample.{example, RunsTo, SalvagesTo, OwnExample}
@@ -253,7 +253,7 @@ unfolding voyage_of added_by removed_by change sum weights_of movements_of table
 sailed = rw (read_back_lem.same, runs)
 
 ship-accepted : ship_refusal zeros (ship own.net sheets.weights sheets.movements) ≡ none
-unfolding ship_refusal record_refusal shipRoom shipFigures with_voyage
+unfolding ship_refusal record_refusal ship_room ship_figures with_voyage
 ship-accepted =
     none_then refl
     (none_then refl (none_then read_back_lem.accepted (rw read_back_lem.same (none_then weights-read (none_then movements-read (rw sailed))))))

@@ -18,7 +18,7 @@ use Rattle.movement.proofs.Runs.{runs}
 use Rattle.sheets.specs.Decoded.{net_of, movements_of}
 use Rattle.run.specs.declared.Ran.{Ran}
 use Rattle.run.specs.Calls.{before_run, run_of}
-use Rattle.run.specs.Contracts.{RunAllows}
+use Rattle.run.specs.Allowed.{RunAllows}
 use Rattle.run.proofs.Promises.{runs_leave_lem}
 use Rattle.promises.specs.Frauds.{taken, given, AcceptsFirst, RunFrauds}
 
@@ -58,7 +58,7 @@ unfolding run_from
 counts-once [] zero j h l next = omega arith
 counts-once [] (suc k) j h l next = absurd (omega arith)
 counts-once {net} (t ∷ ts) zero j h (stays {m = m}) next = stops_at_lem net t m j (run_from net (j + 1) ts (fired net t m)) (next (omega arith))
-counts-once (t ∷ ts) (suc k) j h (moves e l) next = rw e (counts-once ts k (j + 1) (omega arith) l (λ b. next (omega arith)) ∙ omega arith)
+counts-once {net} {m} (t ∷ ts) (suc k) j h (moves e l) next = rw e (counts-once {m = fired net t m} ts k (j + 1) (omega arith) l (λ b. next (omega arith)) ∙ omega arith)
 
 module _ (net movements marking : List ℕ) (e : before_run net movements marking ≡ none) where
   begun-run : run_of net movements marking ≡ run (net_of net) (movements_of movements) marking

@@ -19,7 +19,7 @@ use Rattle.run.specs.declared.salvage.Report.{Report}
 use Rattle.run.specs.declared.salvage.Salvaged.{Salvaged}
 use Rattle.run.specs.declared.salvage.Salvaged.TheVariants.{Written}
 use Rattle.run.specs.salvage.Salvaged.{trial, kept, salvage_refusal}
-use Rattle.run.specs.salvage.Contracts.{SalvageAllows}
+use Rattle.run.specs.salvage.Allowed.{SalvageAllows}
 use Rattle.run.proofs.salvage.Promises.{report-told}
 use Rattle.promises.specs.Frauds.{SalvageFrauds}
 use Rattle.promises.proofs.DemandOne.{stays-is}

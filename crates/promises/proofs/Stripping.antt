@@ -36,7 +36,7 @@ use Rattle.sheets.specs.written.Written.{sheet_of}
 use Rattle.sheets.specs.written.Promises.{HasSheet}
 use Rattle.sheets.specs.Emitted.{told as answered}
 use Rattle.fire.specs.Calls.{begin_refusal, test_refusal}
-use Rattle.fire.specs.Contracts.{FireAllows}
+use Rattle.fire.specs.Allowed.{FireAllows}
 use Rattle.run.specs.Calls.{before_run, run_of, visited_by, certify_refusal}
 use Rattle.fire.specs.step.Calls.{step_modes, test_step_refusal}
 use Rattle.statement.specs.weigh.Calls.{figure_refusal, change_refusal}
@@ -44,7 +44,7 @@ use Rattle.damaged.specs.Damaged.{modes_in}
 use Rattle.run.specs.salvage.Salvaged.{trial}
 use Rattle.ships.specs.declared.Fleet.{Fleet}
 use Rattle.ships.specs.Ships.{gained, lost, added_by, removed_by, ship, voyage_of}
-use Rattle.ships.specs.Entered.{figure_refusal as shipFigures, ship_refusal, entered}
+use Rattle.ships.specs.Entered.{figure_refusal as ship_figures, ship_refusal, entered}
 use Rattle.opened.specs.dead.IsDead.{dead_refusal}
 use Rattle.statement.specs.Replay.{lines_from, run_text, movements_text, weights_text, replay_text, stated, stated_in}
 use Rattle.bare.specs.Strip.{new_mode, strip, bound_of, strip_refusal}
@@ -146,7 +146,7 @@ module _ (net sheet : List ℕ) (p : Pair) (k : ℕ) (w : whole_net net ≡ none
 
   ship-same : (found : Fleet) (weights movements : List ℕ) → Old (net_of net) (movements_of movements)
       → entered found (ship sheet weights movements) ≡ entered found (ship net weights movements)
-  unfolding entered ship_refusal shipFigures
+  unfolding entered ship_refusal ship_figures
   ship-same found weights movements old = rw (w, w', same, kept.pairs, voyage_same weights movements old)
 
   figure-same : (weights m : List ℕ) → figure_refusal sheet weights m ≡ figure_refusal net weights m

@@ -5,7 +5,7 @@ use mathlib.Core.List.{List}
 use Rattle.sheets.specs.Emitted.{told}
 use Rattle.import.proofs.Promises.{import_once}
 use Rattle.answers.specs.Told.{counted}
-use Rattle.abi.specs.Contracts as c
+use Rattle.abi.specs.Allowed as c
 use Rattle.promises.specs.Uniqueness.{Unique, UniqueForC, Uniqueness}
 
 one_answer : {A : Type 0} (given : A) → Unique (λ o. o ≡ given)

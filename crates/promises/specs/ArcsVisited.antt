@@ -6,9 +6,9 @@ use Rattle.both_forms.specs.Visits.{tried, visited, most_arcs}
 use Rattle.sheets.specs.Decoded.{net_of, movements_of}
 use Rattle.run.specs.declared.Ran.{Ran}
 use Rattle.run.specs.Calls.{before_run}
-use Rattle.run.specs.Contracts.{RunAllows}
+use Rattle.run.specs.Allowed.{RunAllows}
 use Rattle.answers.specs.declared.Tallied.{Tallied}
-use Rattle.abi.specs.Contracts as c
+use Rattle.abi.specs.Allowed as c
 
 pub record Reported (net movements marking : List ℕ) (arcs : ℕ) : Type 0 where
   pub equal : before_run net movements marking ≡ none → arcs ≡ visited (net_of net) (movements_of movements) marking

@@ -10,7 +10,7 @@ use Rattle.model.specs.declared.Version.TheVariants.{One, Two}
 use Rattle.model.specs.Refusals.{carries_by, carries}
 use Rattle.model.specs.RefusalTables.{Table, row, ◌then◌, each, Reads, one_each_table, marking_table, missing_table, mode_table}
 use Rattle.model.specs.Numbers.{ℕ∞, fin, ∞, Above, above_by, least_of_all, limit}
-use Rattle.model.specs.Nets.{NetArc, PNet, total, pairs, modes, mode_no, K, count, arc_no, row as modeRow}
+use Rattle.model.specs.Nets.{NetArc, PNet, total, pairs, modes, mode_no, K, count, arc_no, row as mode_row}
 use Rattle.model.specs.Firing.{room_for, fired}
 use Rattle.second_form.specs.Complement.{complement}
 use Rattle.movement.specs.Figures.{figure, change}
@@ -76,17 +76,17 @@ module _ (net : PNet) (ts : List Mode) (m : List ℕ) where
   member i = get_or ts i (mode_no 0)
 
   abbrev summed_pre : ℕ → ℕ
-  summed_pre p = total (map (λ t. (modeRow net t p).pre) ts)
+  summed_pre p = total (map (λ t. (mode_row net t p).pre) ts)
 
   abbrev summed_post : ℕ → ℕ
-  summed_post p = total (map (λ t. (modeRow net t p).post) ts)
+  summed_post p = total (map (λ t. (mode_row net t p).post) ts)
 
   -- "P1's steps take the rule with summed Pre and Post"
   abbrev room : ℕ → ℕ∞
   room p = room_for net.rule (K net p) (summed_pre p)
 
   abbrev least_inhibitor : ℕ → ℕ∞
-  least_inhibitor p = least_of_all (map (λ t. (modeRow net t p).inhibitor) ts)
+  least_inhibitor p = least_of_all (map (λ t. (mode_row net t p).inhibitor) ts)
 
   abbrev pub step_table : Table
   step_table =
@@ -97,7 +97,7 @@ module _ (net : PNet) (ts : List Mode) (m : List ℕ) where
       then each (pairs net) (λ p.
       row (Above (count m p + summed_post p) (room p)) (carries_by 12 3 p (above_by (count m p + summed_post p) (room p))))
       then each (pairs net) (λ p.
-      row ((i : ℕ) × (i < length ts) × Above (count m p) (modeRow net (member i) p).inhibitor)
+      row ((i : ℕ) × (i < length ts) × Above (count m p) (mode_row net (member i) p).inhibitor)
       (carries_by 13 3 p (above_by (count m p) (least_inhibitor p))))
       then each (pairs net) (λ p.
       row (limit < count m p - summed_pre p + summed_post p) (carries_by 14 3 p (count m p - summed_pre p + summed_post p - limit)))

@@ -3,13 +3,13 @@
 use Rattle.std.specs.Prelude.{ℕ, List}
 use Rattle.model.specs.declared.Mode.{Mode}
 use Rattle.model.specs.Refusals.{amount}
-use Rattle.fire.specs.Contracts.{TestAllows, FireAllows}
-use Rattle.fire.specs.step.Contracts.{TestStepAllows, FireStepAllows}
-use Rattle.run.specs.Contracts.{RunAllows, CertifyAllows}
+use Rattle.fire.specs.Allowed.{TestAllows, FireAllows}
+use Rattle.fire.specs.step.Allowed.{TestStepAllows, FireStepAllows}
+use Rattle.run.specs.Allowed.{RunAllows, CertifyAllows}
 use Rattle.run.specs.declared.salvage.Salvaged.{Salvaged}
 use Rattle.run.specs.declared.salvage.Salvaged.TheVariants.{Written, Refused}
-use Rattle.run.specs.salvage.Contracts.{SalvageAllows}
-use Rattle.abi.specs.Contracts as c
+use Rattle.run.specs.salvage.Allowed.{SalvageAllows}
+use Rattle.abi.specs.Allowed as c
 use Rattle.promises.specs.ConstantAnswers.{NotConstant}
 
 -- the amount of the first refusal that a salvage reports, 0 where the call is refused

@@ -3,7 +3,7 @@ use Rattle.std.specs.Prelude.{ℕ, List}
 use Rattle.model.specs.declared.Pair.{Pair}
 use Rattle.model.specs.declared.Mode.{Mode}
 use Rattle.ships.specs.declared.Fleet.{Fleet}
-use Rattle.abi.specs.Contracts as c
+use Rattle.abi.specs.Allowed as c
 use Rattle.promises.specs.ConstantAnswers.{Varies}
 
 pub record ConstantAnswersForC : Type 0 where

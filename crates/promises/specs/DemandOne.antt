@@ -9,29 +9,29 @@ use Rattle.movement.specs.Promises.{Leads}
 use Rattle.sheets.specs.Decoded.{net_of, movements_of}
 use Rattle.sheets.specs.declared.Emitted.{Emitted}
 use Rattle.sheets.specs.Emitted.{told}
-use Rattle.fire.specs.Contracts.{BeginAllows, FireAllows}
+use Rattle.fire.specs.Allowed.{BeginAllows, FireAllows}
 use Rattle.run.specs.declared.Ran.{Ran}
-use Rattle.run.specs.Contracts.{RunAllows}
-use Rattle.fire.specs.step.Contracts.{FireStepAllows}
+use Rattle.run.specs.Allowed.{RunAllows}
+use Rattle.fire.specs.step.Allowed.{FireStepAllows}
 use Rattle.ships.specs.declared.Fleet.{Fleet}
-use Rattle.statement.specs.fleet.Contracts.{AddShipAllows}
-use Rattle.complement.specs.Contracts.{ComplementAllows}
-use Rattle.convert.specs.Contracts.{ToVersion1Allows, ToVersion2Allows}
-use Rattle.convert.specs.strip.Contracts.{StripAllows}
-use Rattle.export.specs.Contracts.{ExportPnmlAllows}
-use Rattle.import.specs.Contracts.{ImportPnmlAllows}
+use Rattle.statement.specs.fleet.Allowed.{AddShipAllows}
+use Rattle.complement.specs.Allowed.{ComplementAllows}
+use Rattle.convert.specs.Allowed.{ToVersion1Allows, ToVersion2Allows}
+use Rattle.convert.specs.strip.Allowed.{StripAllows}
+use Rattle.export.specs.Allowed.{ExportPnmlAllows}
+use Rattle.import.specs.Allowed.{ImportPnmlAllows}
 use Rattle.run.specs.declared.salvage.Salvaged.{Salvaged}
 use Rattle.run.specs.salvage.Salvaged as salvaging
-use Rattle.run.specs.salvage.Contracts.{SalvageAllows}
+use Rattle.run.specs.salvage.Allowed.{SalvageAllows}
 use Rattle.text.specs.declared.Put.{Put}
 use Rattle.text.specs.declared.Put.TheVariants.{Full}
-use Rattle.text.specs.Contracts.{PutBytesAllows}
-use Rattle.statement.specs.Contracts.{StatementAllows}
+use Rattle.text.specs.Allowed.{PutBytesAllows}
+use Rattle.statement.specs.Allowed.{StatementAllows}
 use Rattle.answers.specs.declared.Answered.{Answered}
 use Rattle.answers.specs.declared.Counted.{Counted}
 use Rattle.answers.specs.declared.Reported.{Reported}
 use Rattle.answers.specs.declared.Tallied.{Tallied}
-use Rattle.abi.specs.Contracts as for_c
+use Rattle.abi.specs.Allowed as for_c
 
 -- refused: any number but 0
 abbrev pub Refused : Answer → Type 0

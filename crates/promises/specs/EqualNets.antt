@@ -7,31 +7,31 @@ use Rattle.model.specs.declared.Mode.{Mode}
 use Rattle.model.specs.Refusals.{Carried}
 use Rattle.model.specs.Replies.{Reply, yields}
 use Rattle.heads.specs.Bytes.{byte_at}
-use Rattle.sheets.specs.nets.Contracts.{ReadNetAllows}
+use Rattle.sheets.specs.nets.Allowed.{ReadNetAllows}
 use Rattle.sheets.specs.Whole.{whole_net}
 use Rattle.sheets.specs.Decoded.{net_of}
-use Rattle.sheets.specs.Contracts.{AfterNetAllows, WholeNetAllows}
+use Rattle.sheets.specs.Allowed.{AfterNetAllows, WholeNetAllows}
 use Rattle.sheets.specs.declared.Emitted.{Emitted}
 use Rattle.sheets.specs.Emitted as emitting
-use Rattle.fire.specs.Contracts.{BeginAllows, TestAllows, FireAllows}
-use Rattle.run.specs.Contracts.{RunAllows, CertifyAllows}
-use Rattle.fire.specs.step.Contracts.{TestStepAllows, FireStepAllows}
-use Rattle.statement.specs.weigh.Contracts.{FigureAllows, ChangeAllows}
+use Rattle.fire.specs.Allowed.{BeginAllows, TestAllows, FireAllows}
+use Rattle.run.specs.Allowed.{RunAllows, CertifyAllows}
+use Rattle.fire.specs.step.Allowed.{TestStepAllows, FireStepAllows}
+use Rattle.statement.specs.weigh.Allowed.{FigureAllows, ChangeAllows}
 use Rattle.ships.specs.declared.Fleet.{Fleet}
-use Rattle.statement.specs.fleet.Contracts.{AddShipAllows}
-use Rattle.statement.specs.exclude.Contracts.{ExcludeAllows}
-use Rattle.opened.specs.dead.Contracts.{IsDeadAllows, FirstDeadAllows}
-use Rattle.opened.specs.size.Contracts.{SizeAllows}
+use Rattle.statement.specs.fleet.Allowed.{AddShipAllows}
+use Rattle.statement.specs.exclude.Allowed.{ExcludeAllows}
+use Rattle.opened.specs.dead.Allowed.{IsDeadAllows, FirstDeadAllows}
+use Rattle.opened.specs.size.Allowed.{SizeAllows}
 use Rattle.complement.specs.Complemented as complementing
-use Rattle.complement.specs.Contracts.{ComplementAllows}
+use Rattle.complement.specs.Allowed.{ComplementAllows}
 use Rattle.convert.specs.strip.Stripped as stripping
-use Rattle.convert.specs.strip.Contracts.{StripAllows}
-use Rattle.export.specs.Contracts.{ExportPnmlAllows}
+use Rattle.convert.specs.strip.Allowed.{StripAllows}
+use Rattle.export.specs.Allowed.{ExportPnmlAllows}
 use Rattle.complement.specs.declared.audit.Found.{Found}
 use Rattle.complement.specs.audit.Audits as auditing
-use Rattle.complement.specs.audit.Contracts.{AuditAllows}
-use Rattle.run.specs.salvage.Contracts.{SalvageAllows}
-use Rattle.statement.specs.Contracts.{StatementAllows}
+use Rattle.complement.specs.audit.Allowed.{AuditAllows}
+use Rattle.run.specs.salvage.Allowed.{SalvageAllows}
+use Rattle.statement.specs.Allowed.{StatementAllows}
 
 -- two net sheets that are accepted and mean one net
 pub record OneNet (a b : List ℕ) : Type 0 where

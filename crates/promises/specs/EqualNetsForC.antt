@@ -7,7 +7,7 @@ use Rattle.answers.specs.declared.Answered.{Answered}
 use Rattle.answers.specs.declared.Counted.{Counted}
 use Rattle.answers.specs.declared.Audited.{Audited}
 use Rattle.ships.specs.declared.Fleet.{Fleet}
-use Rattle.abi.specs.Contracts as c
+use Rattle.abi.specs.Allowed as c
 use Rattle.promises.specs.EqualNets.{OneNet, Within, OffsetAside, Fits, StripFits, Bytes}
 
 -- what an answer carries, as C is told it

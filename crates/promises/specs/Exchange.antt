@@ -11,11 +11,11 @@ use Rattle.sheets.specs.Whole.{whole_net}
 use Rattle.sheets.specs.Decoded.{net_of}
 use Rattle.sheets.specs.declared.Emitted.{Emitted}
 use Rattle.sheets.specs.Emitted as emitting
-use Rattle.complement.specs.Contracts.{ComplementAllows}
+use Rattle.complement.specs.Allowed.{ComplementAllows}
 use Rattle.pnml.specs.Pnml.{pnml}
-use Rattle.export.specs.Contracts.{ExportPnmlAllows}
+use Rattle.export.specs.Allowed.{ExportPnmlAllows}
 use Rattle.import.specs.Promises.{SameNumbers}
-use Rattle.import.specs.Contracts.{ImportPnmlAllows}
+use Rattle.import.specs.Allowed.{ImportPnmlAllows}
 
 -- how many bytes the sheet of version 1 takes, with one colour to a place and one mode to a transition
 abbrev pub single_bytes : PNet → ℕ

@@ -6,7 +6,7 @@ use Rattle.ships.specs.declared.Fleet.{Fleet}
 use Rattle.ships.specs.Ships.{Ship, start_figure, last_figure, totals}
 use Rattle.ships.specs.Entered.{InBounds}
 use Rattle.ships.specs.Promises.{zeros, sum_of}
-use Rattle.statement.specs.fleet.Contracts.{AddShipAllows}
+use Rattle.statement.specs.fleet.Allowed.{AddShipAllows}
 
 -- calls for the ships of a list, by outcomes that the contract allows: the record that the first is given, those of the ships that were counted, and the record
 -- that the last leaves

@@ -19,34 +19,34 @@ use Rattle.movement.specs.Figures.{change}
 use Rattle.sheets.specs.Decoded.{net_of, weights_of, movements_of}
 use Rattle.sheets.specs.declared.Emitted.{Emitted}
 use Rattle.sheets.specs.Emitted as emitting
-use Rattle.fire.specs.Contracts.{FireAllows}
+use Rattle.fire.specs.Allowed.{FireAllows}
 use Rattle.run.specs.declared.Ran.{Ran}
 use Rattle.run.specs.Calls.{before_run, run_of}
-use Rattle.run.specs.Contracts.{RunAllows, CertifyAllows}
+use Rattle.run.specs.Allowed.{RunAllows, CertifyAllows}
 use Rattle.fire.specs.step.Calls.{step_modes}
-use Rattle.fire.specs.step.Contracts.{FireStepAllows}
+use Rattle.fire.specs.step.Allowed.{FireStepAllows}
 use Rattle.ships.specs.declared.Fleet.{Fleet}
 use Rattle.ships.specs.Ships.{Ship, accepted}
-use Rattle.statement.specs.fleet.Contracts.{AddShipAllows}
+use Rattle.statement.specs.fleet.Allowed.{AddShipAllows}
 use Rattle.statement.specs.exclude.Promises.{Excluded}
-use Rattle.statement.specs.exclude.Contracts.{ExcludeAllows}
-use Rattle.complement.specs.Contracts.{ComplementAllows}
-use Rattle.convert.specs.Contracts.{ToVersion1Allows, ToVersion2Allows}
-use Rattle.convert.specs.strip.Contracts.{StripAllows}
+use Rattle.statement.specs.exclude.Allowed.{ExcludeAllows}
+use Rattle.complement.specs.Allowed.{ComplementAllows}
+use Rattle.convert.specs.Allowed.{ToVersion1Allows, ToVersion2Allows}
+use Rattle.convert.specs.strip.Allowed.{StripAllows}
 use Rattle.pnml.specs.Pnml.{opening, closing}
-use Rattle.export.specs.Contracts.{ExportPnmlAllows}
-use Rattle.import.specs.Contracts.{ImportPnmlAllows}
+use Rattle.export.specs.Allowed.{ExportPnmlAllows}
+use Rattle.import.specs.Allowed.{ImportPnmlAllows}
 use Rattle.complement.specs.declared.audit.Found.{Found}
 use Rattle.complement.specs.declared.audit.Found.TheVariants.{Nothing}
 use Rattle.complement.specs.audit.Audits as audits
-use Rattle.complement.specs.audit.Contracts.{AuditAllows}
+use Rattle.complement.specs.audit.Allowed.{AuditAllows}
 use Rattle.damaged.specs.Damaged.{considered, modes_in}
 use Rattle.run.specs.declared.salvage.Report.{Report}
 use Rattle.run.specs.declared.salvage.Salvaged.{Salvaged}
 use Rattle.run.specs.declared.salvage.Salvaged.TheVariants.{Written}
 use Rattle.run.specs.salvage.Salvaged.{trial}
-use Rattle.run.specs.salvage.Contracts.{SalvageAllows}
-use Rattle.abi.specs.Contracts as c
+use Rattle.run.specs.salvage.Allowed.{SalvageAllows}
+use Rattle.abi.specs.Allowed as c
 use Rattle.promises.specs.ConstantAnswers.{NotConstant, ConstantAnswers}
 use Rattle.promises.specs.ConstantAnswersForC.{ConstantAnswersForC}
 use Rattle.promises.specs.ConstantAmounts.{ConstantAmounts}

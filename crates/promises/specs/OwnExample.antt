@@ -10,36 +10,36 @@ use Rattle.both_forms.specs.WorkedExamples.{own_example}
 use Rattle.sheets.specs.written.Written.{sheet_of}
 use Rattle.sheets.specs.declared.Emitted.{Emitted}
 use Rattle.sheets.specs.Emitted as emitting
-use Rattle.fire.specs.Contracts.{BeginAllows, TestAllows, FireAllows}
+use Rattle.fire.specs.Allowed.{BeginAllows, TestAllows, FireAllows}
 use Rattle.run.specs.declared.Ran.{Ran}
-use Rattle.run.specs.Contracts.{RunAllows, CertifyAllows}
-use Rattle.fire.specs.step.Contracts.{TestStepAllows, FireStepAllows}
+use Rattle.run.specs.Allowed.{RunAllows, CertifyAllows}
+use Rattle.fire.specs.step.Allowed.{TestStepAllows, FireStepAllows}
 use Rattle.statement.specs.declared.weigh.Figured.{Figured}
 use Rattle.statement.specs.weigh.Calls as weigh
-use Rattle.statement.specs.weigh.Contracts.{FigureAllows, ChangeAllows}
+use Rattle.statement.specs.weigh.Allowed.{FigureAllows, ChangeAllows}
 use Rattle.ships.specs.declared.Fleet.{Fleet}
 use Rattle.ships.specs.Promises.{zeros}
-use Rattle.statement.specs.fleet.Contracts.{AddShipAllows}
-use Rattle.statement.specs.exclude.Contracts.{ExcludeAllows}
+use Rattle.statement.specs.fleet.Allowed.{AddShipAllows}
+use Rattle.statement.specs.exclude.Allowed.{ExcludeAllows}
 use Rattle.opened.specs.declared.dead.Deadness.{Deadness}
 use Rattle.opened.specs.declared.dead.FirstDead.{FirstDead}
 use Rattle.opened.specs.dead.IsDead as one
 use Rattle.opened.specs.dead.FirstDead as first
-use Rattle.opened.specs.dead.Contracts.{IsDeadAllows, FirstDeadAllows}
+use Rattle.opened.specs.dead.Allowed.{IsDeadAllows, FirstDeadAllows}
 use Rattle.opened.specs.declared.size.Measured.{Measured}
 use Rattle.opened.specs.size.Sizes as sizing
-use Rattle.opened.specs.size.Contracts.{SizeAllows}
-use Rattle.complement.specs.Contracts.{ComplementAllows}
+use Rattle.opened.specs.size.Allowed.{SizeAllows}
+use Rattle.complement.specs.Allowed.{ComplementAllows}
 use Rattle.pnml.specs.Pnml.{opening, closing}
-use Rattle.export.specs.Contracts.{ExportPnmlAllows}
-use Rattle.import.specs.Contracts.{ImportPnmlAllows}
+use Rattle.export.specs.Allowed.{ExportPnmlAllows}
+use Rattle.import.specs.Allowed.{ImportPnmlAllows}
 use Rattle.complement.specs.declared.audit.Found.{Found}
 use Rattle.complement.specs.audit.Audits as auditing
-use Rattle.complement.specs.audit.Contracts.{AuditAllows}
+use Rattle.complement.specs.audit.Allowed.{AuditAllows}
 use Rattle.run.specs.declared.salvage.Report.{Report}
 use Rattle.run.specs.declared.salvage.Salvaged.{Salvaged}
 use Rattle.run.specs.salvage.Salvaged as salvaging
-use Rattle.run.specs.salvage.Contracts.{SalvageAllows}
+use Rattle.run.specs.salvage.Allowed.{SalvageAllows}
 use Rattle.statement.specs.Example.{weights, movements}
 use Rattle.text.specs.Ascii.{ascii}
 

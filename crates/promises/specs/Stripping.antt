@@ -14,21 +14,21 @@ use Rattle.sheets.specs.Whole.{whole_net, rest}
 use Rattle.sheets.specs.Decoded.{net_of, movements_of}
 use Rattle.sheets.specs.declared.Emitted.{Emitted}
 use Rattle.sheets.specs.Emitted.{told}
-use Rattle.fire.specs.Contracts.{BeginAllows, TestAllows, FireAllows}
-use Rattle.run.specs.Contracts.{RunAllows, CertifyAllows}
+use Rattle.fire.specs.Allowed.{BeginAllows, TestAllows, FireAllows}
+use Rattle.run.specs.Allowed.{RunAllows, CertifyAllows}
 use Rattle.damaged.specs.Damaged.{modes_in}
-use Rattle.run.specs.salvage.Contracts.{SalvageAllows}
+use Rattle.run.specs.salvage.Allowed.{SalvageAllows}
 use Rattle.fire.specs.step.Calls.{step_modes}
-use Rattle.fire.specs.step.Contracts.{TestStepAllows, FireStepAllows}
-use Rattle.statement.specs.weigh.Contracts.{FigureAllows, ChangeAllows}
+use Rattle.fire.specs.step.Allowed.{TestStepAllows, FireStepAllows}
+use Rattle.statement.specs.weigh.Allowed.{FigureAllows, ChangeAllows}
 use Rattle.ships.specs.declared.Fleet.{Fleet}
-use Rattle.statement.specs.fleet.Contracts.{AddShipAllows}
-use Rattle.opened.specs.dead.Contracts.{IsDeadAllows, FirstDeadAllows}
-use Rattle.statement.specs.Contracts.{StatementAllows}
+use Rattle.statement.specs.fleet.Allowed.{AddShipAllows}
+use Rattle.opened.specs.dead.Allowed.{IsDeadAllows, FirstDeadAllows}
+use Rattle.statement.specs.Allowed.{StatementAllows}
 use Rattle.bare.specs.Strip.{new_mode, bound_of}
 use Rattle.bare.specs.Promises.{Old}
 use Rattle.convert.specs.strip.Stripped.{stripped_net}
-use Rattle.convert.specs.strip.Contracts.{StripAllows}
+use Rattle.convert.specs.strip.Allowed.{StripAllows}
 use Rattle.promises.specs.EqualNets.{Within, Bytes}
 
 -- "at every marking within capacity exactly one of the new modes is enabled, .. it leaves 0 at that pair, and .. every other pair stays the same": test accepts

@@ -4,10 +4,10 @@ use Rattle.std.specs.Prelude.{ℕ, ◌≤◌, ◌<◌, ◌≡◌, List, ◌↔�
 use Rattle.model.specs.Refusals.{carries}
 use Rattle.sheets.specs.declared.Emitted.{Emitted}
 use Rattle.sheets.specs.Emitted.{told}
-use Rattle.statement.specs.Contracts.{StatementAllows}
+use Rattle.statement.specs.Allowed.{StatementAllows}
 use Rattle.statement.specs.Replay.{replay_text}
 use Rattle.answers.specs.declared.Counted.{Counted}
-use Rattle.abi.specs.Contracts as for_c
+use Rattle.abi.specs.Allowed as for_c
 use Rattle.promises.specs.EqualNets.{Bytes}
 
 -- what is told is a refusal's where the slice is shorter, and an acceptance's where it is not

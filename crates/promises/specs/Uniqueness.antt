@@ -2,28 +2,28 @@
 use Rattle.std.specs.Prelude.{ℕ, ◌≡◌, List, ℤ}
 use Rattle.model.specs.declared.Pair.{Pair}
 use Rattle.model.specs.declared.Mode.{Mode}
-use Rattle.sheets.specs.lists.Contracts.{ReadWeightsAllows, ReadMovementsAllows}
-use Rattle.sheets.specs.Contracts.{AfterNetAllows, AfterWeightsAllows, AfterMovementsAllows, WholeNetAllows, WholeWeightsAllows, WholeMovementsAllows}
-use Rattle.sheets.specs.nets.Contracts.{ReadNetAllows}
-use Rattle.fire.specs.Contracts.{BeginAllows, TestAllows, FireAllows}
-use Rattle.run.specs.Contracts.{RunAllows, CertifyAllows}
-use Rattle.fire.specs.step.Contracts.{TestStepAllows, FireStepAllows}
-use Rattle.statement.specs.weigh.Contracts.{FigureAllows, ChangeAllows}
+use Rattle.sheets.specs.lists.Allowed.{ReadWeightsAllows, ReadMovementsAllows}
+use Rattle.sheets.specs.Allowed.{AfterNetAllows, AfterWeightsAllows, AfterMovementsAllows, WholeNetAllows, WholeWeightsAllows, WholeMovementsAllows}
+use Rattle.sheets.specs.nets.Allowed.{ReadNetAllows}
+use Rattle.fire.specs.Allowed.{BeginAllows, TestAllows, FireAllows}
+use Rattle.run.specs.Allowed.{RunAllows, CertifyAllows}
+use Rattle.fire.specs.step.Allowed.{TestStepAllows, FireStepAllows}
+use Rattle.statement.specs.weigh.Allowed.{FigureAllows, ChangeAllows}
 use Rattle.ships.specs.declared.Fleet.{Fleet}
-use Rattle.statement.specs.fleet.Contracts.{AddShipAllows}
-use Rattle.statement.specs.exclude.Contracts.{ExcludeAllows}
-use Rattle.opened.specs.dead.Contracts.{IsDeadAllows, FirstDeadAllows}
-use Rattle.opened.specs.size.Contracts.{SizeAllows}
-use Rattle.complement.specs.Contracts.{ComplementAllows}
-use Rattle.convert.specs.Contracts.{ToVersion1Allows, ToVersion2Allows}
-use Rattle.convert.specs.strip.Contracts.{StripAllows}
-use Rattle.export.specs.Contracts.{ExportPnmlAllows}
-use Rattle.import.specs.Contracts.{ImportPnmlAllows}
-use Rattle.complement.specs.audit.Contracts.{AuditAllows}
-use Rattle.run.specs.salvage.Contracts.{SalvageAllows}
-use Rattle.text.specs.Contracts.{PutBytesAllows, PutDecimalAllows, PutSignedAllows}
-use Rattle.statement.specs.Contracts.{StatementAllows}
-use Rattle.abi.specs.Contracts as c
+use Rattle.statement.specs.fleet.Allowed.{AddShipAllows}
+use Rattle.statement.specs.exclude.Allowed.{ExcludeAllows}
+use Rattle.opened.specs.dead.Allowed.{IsDeadAllows, FirstDeadAllows}
+use Rattle.opened.specs.size.Allowed.{SizeAllows}
+use Rattle.complement.specs.Allowed.{ComplementAllows}
+use Rattle.convert.specs.Allowed.{ToVersion1Allows, ToVersion2Allows}
+use Rattle.convert.specs.strip.Allowed.{StripAllows}
+use Rattle.export.specs.Allowed.{ExportPnmlAllows}
+use Rattle.import.specs.Allowed.{ImportPnmlAllows}
+use Rattle.complement.specs.audit.Allowed.{AuditAllows}
+use Rattle.run.specs.salvage.Allowed.{SalvageAllows}
+use Rattle.text.specs.Allowed.{PutBytesAllows, PutDecimalAllows, PutSignedAllows}
+use Rattle.statement.specs.Allowed.{StatementAllows}
+use Rattle.abi.specs.Allowed as c
 
 -- any two outcomes that a contract allows are equal
 abbrev pub Unique : {A : Type 0} → (A → Type 0) → Type 0

@@ -22,7 +22,7 @@ use Rattle.second_form.proofs.ComplementNet.{start-corresponds}
 use Rattle.both_forms.proofs.OutOfStep.{audit-finds}
 use Rattle.second_form.proofs.CorrespondingMoves.{accepts as accepted-there, accepts-back, move_corresponds}
 use Rattle.sheets.specs.Decoded.{net_of}
-use Rattle.fire.specs.Calls.{test_refusal, fired_by, begin_refusal, begun as begunBy}
+use Rattle.fire.specs.Calls.{test_refusal, fired_by, begin_refusal, begun as begun_by}
 use Rattle.fire.proofs.Promises.{start-marks, marking-stays}
 use Rattle.run.specs.Calls.{run_of}
 use Rattle.run.proofs.Promises.{runs_keep_lem}
@@ -105,7 +105,7 @@ module _ (net sheet : List ℕ) (w : ComplementWrote net sheet) where
         corresponds = ((run-alike net sheet w).onwards movements m m' k.marked k.corresponds).at_end;
       }
 
-  begin-kept : (m m' : List ℕ) → begin_refusal net m ≡ none → begin_refusal sheet m' ≡ none → Kept net (begunBy net m) (begunBy sheet m')
+  begin-kept : (m m' : List ℕ) → begin_refusal net m ≡ none → begin_refusal sheet m' ≡ none → Kept net (begun_by net m) (begun_by sheet m')
   begin-kept m m' e e' = record { marked = marking-stays.begins net m e; corresponds = (run-alike net sheet w).at_start m m' e e' }
 
   pub kept : {m m' : List ℕ} → ReachedBeside net sheet m m' → Kept net m m'

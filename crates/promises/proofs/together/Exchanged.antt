@@ -14,7 +14,7 @@ use Rattle.sheets.specs.Decoded.{net_of}
 use Rattle.sheets.specs.Emitted.{told}
 use Rattle.pnml.specs.Pnml.{Exportable}
 use Rattle.export.specs.Exports.{export_refusal}
-use Rattle.import.specs.Contracts.{ImportPnmlAllows}
+use Rattle.import.specs.Allowed.{ImportPnmlAllows}
 use Rattle.import.specs.Promises.{SameNumbers}
 use Rattle.promises.specs.Exchange.{single_bytes, ComesBack, ImportAnswers}
 use Rattle.promises.proofs.TwoRuns.{length-is}
@@ -38,7 +38,7 @@ module _ (sheet text back : List ℕ) (w : ExportWrote sheet text) (i : ImportWr
 
   answers : ImportAnswers net i.out i.outcome
   answers =
-      exchange.export-then-import sheet w.out w.outcome (length text) w.allowed w.answered i.out i.outcome
+      exchange.export-then_import sheet w.out w.outcome (length text) w.allowed w.answered i.out i.outcome
       (subst (λ t. ImportPnmlAllows t i.out i.outcome) (sym w.written) i.allowed)
 
   -- an import that answers a length is not refused, by 4 or by 10

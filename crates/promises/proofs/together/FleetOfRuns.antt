@@ -30,8 +30,8 @@ use Rattle.statement.specs.weigh.Calls.{told, figure_refusal, change_refusal}
 use Rattle.ships.specs.declared.Fleet.{Fleet}
 use Rattle.ships.specs.Ships.{Ship, gained, lost, outcome, start_figure, last_figure, added_by, removed_by, voyage_of, totals}
 use Rattle.ships.specs.Entered.{ship_refusal, entered}
-use Rattle.statement.specs.fleet.Contracts.{AddShipAllows}
-use Rattle.promises.specs.FleetOfCalls.{Calls, none as noShip, counts, refuses}
+use Rattle.statement.specs.fleet.Allowed.{AddShipAllows}
+use Rattle.promises.specs.FleetOfCalls.{Calls, none as no_ship, counts, refuses}
 use Rattle.promises.proofs.Accepting.{number-none}
 use Rattle.promises.proofs.FigureOverRun.{says}
 use Rattle.promises.proofs.FleetOfCalls.{fleet_of-calls}
@@ -50,7 +50,7 @@ counted-sheets f s o a e =
     record { net = left-none _ _ after; weights = left-none _ _ (right-none _ _ after); movements = left-none _ _ (right-none _ _ (right-none _ _ after)) }
 
 all-sheets : {f last : Fleet} {ships counted : List Ship} → Calls f ships counted last → (s : Ship) → Memᴰ s counted → Sheets s
-all-sheets noShip s m = absurd (Memᴰ.not-nil m)
+all-sheets no_ship s m = absurd (Memᴰ.not-nil m)
 all-sheets (counts {f = f} {s = u} o a e c) s m =
     ⊎_elim (λ (same : s ≡ u). rw same (counted-sheets f u o a e)) (λ l. all-sheets c s l) (Memᴰ.cases_cons m)
 all-sheets (refuses o a e c) s m = all-sheets c s m

@@ -24,7 +24,7 @@ use Rattle.ships.specs.declared.Fleet.{Fleet}
 use Rattle.ships.specs.declared.Voyage.{Voyage}
 use Rattle.ships.specs.Ships.{Ship, refused_by, voyage_of, with_voyage}
 use Rattle.ships.specs.Entered.{ship_refusal, entered}
-use Rattle.statement.specs.fleet.Contracts.{AddShipAllows}
+use Rattle.statement.specs.fleet.Allowed.{AddShipAllows}
 use Rattle.promises.proofs.Accepting.{number-none}
 use Rattle.promises.proofs.StepFrauds.{step-accepted_in}
 use Rattle.promises.specs.together.Frauds.{FirstMemberAsked, AsBeforeP2, PassesOver, MoreFrauds}

@@ -16,14 +16,14 @@ use Rattle.second_form.proofs.Demand3.{demand3}
 use Rattle.sheets.specs.Decoded.{net_of}
 use Rattle.run.specs.declared.Ran.{Ran}
 use Rattle.run.specs.Calls.{run_of}
-use Rattle.run.specs.Contracts.{RunAllows}
+use Rattle.run.specs.Allowed.{RunAllows}
 use Rattle.run.proofs.Promises.{runs_leave_lem}
 use Rattle.damaged.specs.Damaged.{considered, modes_in}
 use Rattle.run.proofs.salvage.Considered.{modes-length}
 use Rattle.run.specs.declared.salvage.Report.{Report}
 use Rattle.run.specs.declared.salvage.Salvaged.{Salvaged}
 use Rattle.run.specs.salvage.Salvaged.{told, salvaged, sheet_of_first, trial, kept, report, fresh_sheet, salvage_refusal}
-use Rattle.run.specs.salvage.Contracts.{SalvageAllows}
+use Rattle.run.specs.salvage.Allowed.{SalvageAllows}
 use Rattle.run.specs.salvage.Promises.{AllBytes, Salvages}
 use Rattle.promises.specs.TwoRuns.{RunsAgree}
 use Rattle.promises.specs.together.Wrote.{ComplementWrote, SalvageWrote}

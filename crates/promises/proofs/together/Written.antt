@@ -15,7 +15,7 @@ use Rattle.run.specs.declared.salvage.Report.{Report}
 use Rattle.run.specs.declared.salvage.Salvaged.{Salvaged}
 use Rattle.run.specs.declared.salvage.Salvaged.TheVariants.{Written, Refused}
 use Rattle.run.specs.salvage.Salvaged as salvaging
-use Rattle.run.specs.salvage.Contracts.{SalvageAllows}
+use Rattle.run.specs.salvage.Allowed.{SalvageAllows}
 use Rattle.run.specs.salvage.Promises.{AllBytes, Salvages}
 use Rattle.run.proofs.salvage.Promises.{salvaged-runs}
 use Rattle.promises.specs.DemandThree.{as_written}

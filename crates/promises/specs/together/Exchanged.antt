@@ -2,16 +2,16 @@
 -- is in promises/specs/Exchange.antt.
 use Rattle.std.specs.Prelude.{ℕ, List}
 use Rattle.model.specs.declared.Mode.{Mode}
-use Rattle.fire.specs.Contracts.{BeginAllows, TestAllows, FireAllows}
-use Rattle.run.specs.Contracts.{RunAllows, CertifyAllows}
-use Rattle.fire.specs.step.Contracts.{TestStepAllows, FireStepAllows}
-use Rattle.statement.specs.weigh.Contracts.{FigureAllows, ChangeAllows}
+use Rattle.fire.specs.Allowed.{BeginAllows, TestAllows, FireAllows}
+use Rattle.run.specs.Allowed.{RunAllows, CertifyAllows}
+use Rattle.fire.specs.step.Allowed.{TestStepAllows, FireStepAllows}
+use Rattle.statement.specs.weigh.Allowed.{FigureAllows, ChangeAllows}
 use Rattle.ships.specs.declared.Fleet.{Fleet}
-use Rattle.statement.specs.fleet.Contracts.{AddShipAllows}
-use Rattle.statement.specs.exclude.Contracts.{ExcludeAllows}
-use Rattle.opened.specs.dead.Contracts.{IsDeadAllows, FirstDeadAllows}
-use Rattle.opened.specs.size.Contracts.{SizeAllows}
-use Rattle.run.specs.salvage.Contracts.{SalvageAllows}
+use Rattle.statement.specs.fleet.Allowed.{AddShipAllows}
+use Rattle.statement.specs.exclude.Allowed.{ExcludeAllows}
+use Rattle.opened.specs.dead.Allowed.{IsDeadAllows, FirstDeadAllows}
+use Rattle.opened.specs.size.Allowed.{SizeAllows}
+use Rattle.run.specs.salvage.Allowed.{SalvageAllows}
 use Rattle.promises.specs.EqualNets.{Within}
 use Rattle.promises.specs.TwoRuns.{RunAlike}
 use Rattle.promises.specs.together.Wrote.{ComplementWrote, ExportWrote, ImportWrote}

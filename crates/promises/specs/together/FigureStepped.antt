@@ -6,10 +6,10 @@ use Rattle.model.specs.Replies.{yields}
 use Rattle.movement.specs.Figures.{changes}
 use Rattle.sheets.specs.Decoded.{net_of, weights_of}
 use Rattle.fire.specs.step.Calls.{step_modes}
-use Rattle.fire.specs.step.Contracts.{FireStepAllows}
+use Rattle.fire.specs.step.Allowed.{FireStepAllows}
 use Rattle.statement.specs.declared.weigh.Figured.{Figured}
 use Rattle.statement.specs.weigh.Calls as weigh
-use Rattle.statement.specs.weigh.Contracts.{FigureAllows}
+use Rattle.statement.specs.weigh.Allowed.{FigureAllows}
 
 abbrev pub FigureStepped : Type 0
 FigureStepped = (net weights m modes after : List ℕ) (told : Answer) → FireStepAllows net m modes (told, after) → number told ≡ 0

@@ -8,10 +8,10 @@ use Rattle.model.specs.Lists.{table}
 use Rattle.model.specs.Nets.{total, mode_no}
 use Rattle.sheets.specs.Decoded.{net_of, movements_of}
 use Rattle.run.specs.declared.Ran.{Ran}
-use Rattle.run.specs.Contracts.{RunAllows}
+use Rattle.run.specs.Allowed.{RunAllows}
 use Rattle.statement.specs.declared.weigh.Figured.{Figured}
 use Rattle.statement.specs.weigh.Calls.{told}
-use Rattle.statement.specs.weigh.Contracts.{FigureAllows, ChangeAllows}
+use Rattle.statement.specs.weigh.Allowed.{FigureAllows, ChangeAllows}
 use Rattle.ships.specs.declared.Fleet.{Fleet}
 use Rattle.ships.specs.Ships.{Ship, gained, lost}
 use Rattle.ships.specs.Promises.{zeros, sum_of}

@@ -9,17 +9,17 @@ use Rattle.model.specs.Numbers.{fin}
 use Rattle.model.specs.Nets.{pairs, mode_no, K, count, row}
 use Rattle.both_forms.specs.Steps.{together}
 use Rattle.sheets.specs.Decoded.{net_of}
-use Rattle.fire.specs.Contracts.{TestAllows}
+use Rattle.fire.specs.Allowed.{TestAllows}
 use Rattle.run.specs.declared.Ran.{Ran}
-use Rattle.run.specs.Contracts.{RunAllows}
+use Rattle.run.specs.Allowed.{RunAllows}
 use Rattle.fire.specs.step.Calls.{step_modes}
-use Rattle.fire.specs.step.Contracts.{TestStepAllows}
+use Rattle.fire.specs.step.Allowed.{TestStepAllows}
 use Rattle.opened.specs.declared.dead.Deadness.{Deadness}
 use Rattle.opened.specs.dead.IsDead as dead
-use Rattle.opened.specs.dead.Contracts.{IsDeadAllows}
+use Rattle.opened.specs.dead.Allowed.{IsDeadAllows}
 use Rattle.ships.specs.declared.Fleet.{Fleet}
 use Rattle.ships.specs.Ships.{Ship}
-use Rattle.statement.specs.fleet.Contracts.{AddShipAllows}
+use Rattle.statement.specs.fleet.Allowed.{AddShipAllows}
 
 -- A step's test that asks its first member alone (P1): at some pair the members together lack what the first has.
 abbrev pub FirstMemberAsked : Type 0

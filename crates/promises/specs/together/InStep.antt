@@ -4,10 +4,10 @@ use Rattle.std.proofs.Math.Option.{none}
 use Rattle.model.specs.declared.Answer.{Answer}
 use Rattle.model.specs.Refusals.{number}
 use Rattle.model.specs.Replies.{yields}
-use Rattle.fire.specs.step.Contracts.{FireStepAllows}
+use Rattle.fire.specs.step.Allowed.{FireStepAllows}
 use Rattle.complement.specs.declared.audit.Found.{Found}
 use Rattle.complement.specs.audit.Audits as audits
-use Rattle.complement.specs.audit.Contracts.{AuditAllows}
+use Rattle.complement.specs.audit.Allowed.{AuditAllows}
 use Rattle.promises.specs.together.Wrote.{ComplementWrote}
 use Rattle.promises.specs.together.Reached.{ReachedBeside}
 

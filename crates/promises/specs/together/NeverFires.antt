@@ -14,14 +14,14 @@ use Rattle.second_form.specs.Dead.{is_dead}
 use Rattle.second_form.specs.Complement.{complement}
 use Rattle.both_forms.specs.Edges.{edge_net}
 use Rattle.sheets.specs.Decoded.{movements_of}
-use Rattle.fire.specs.Contracts.{TestAllows, FireAllows}
+use Rattle.fire.specs.Allowed.{TestAllows, FireAllows}
 use Rattle.run.specs.declared.Ran.{Ran}
-use Rattle.run.specs.Contracts.{RunAllows, CertifyAllows}
+use Rattle.run.specs.Allowed.{RunAllows, CertifyAllows}
 use Rattle.fire.specs.step.Calls.{step_modes}
-use Rattle.fire.specs.step.Contracts.{TestStepAllows, FireStepAllows}
+use Rattle.fire.specs.step.Allowed.{TestStepAllows, FireStepAllows}
 use Rattle.opened.specs.declared.dead.Deadness.{Deadness}
 use Rattle.opened.specs.dead.IsDead.{told}
-use Rattle.opened.specs.dead.Contracts.{IsDeadAllows}
+use Rattle.opened.specs.dead.Allowed.{IsDeadAllows}
 use Rattle.run.specs.declared.salvage.Report.{Report}
 use Rattle.run.specs.salvage.Promises.{AllBytes}
 use Rattle.promises.specs.together.Wrote.{ComplementWrote, SalvageWrote}

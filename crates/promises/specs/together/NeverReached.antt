@@ -5,8 +5,8 @@ use Rattle.model.specs.declared.Answer.{Answer}
 use Rattle.model.specs.Refusals.{number}
 use Rattle.movement.specs.Promises.{Leads}
 use Rattle.sheets.specs.Decoded.{net_of}
-use Rattle.run.specs.Contracts.{CertifyAllows}
-use Rattle.statement.specs.exclude.Contracts.{ExcludeAllows}
+use Rattle.run.specs.Allowed.{CertifyAllows}
+use Rattle.statement.specs.exclude.Allowed.{ExcludeAllows}
 use Rattle.run.specs.declared.salvage.Report.{Report}
 use Rattle.run.specs.salvage.Promises.{AllBytes}
 use Rattle.promises.specs.together.Wrote.{SalvageWrote}

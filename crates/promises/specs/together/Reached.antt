@@ -7,10 +7,10 @@ use Rattle.model.specs.Refusals.{number}
 use Rattle.model.specs.Markings.{marking_refusal}
 use Rattle.second_form.specs.Complement.{Corresponds}
 use Rattle.sheets.specs.Decoded.{net_of}
-use Rattle.fire.specs.Contracts.{BeginAllows, FireAllows}
+use Rattle.fire.specs.Allowed.{BeginAllows, FireAllows}
 use Rattle.run.specs.declared.Ran.{Ran}
-use Rattle.run.specs.Contracts.{RunAllows}
-use Rattle.fire.specs.step.Contracts.{FireStepAllows}
+use Rattle.run.specs.Allowed.{RunAllows}
+use Rattle.fire.specs.step.Allowed.{FireStepAllows}
 
 -- over one net sheet, from its first marking
 pub data Reached (net : List ℕ) : List ℕ → Type 0 where

@@ -7,12 +7,12 @@ use Rattle.model.specs.Nets.{mode_no}
 use Rattle.second_form.specs.DemandThree.{becomes}
 use Rattle.sheets.specs.Decoded.{net_of}
 use Rattle.run.specs.declared.Ran.{Ran}
-use Rattle.run.specs.Contracts.{RunAllows}
+use Rattle.run.specs.Allowed.{RunAllows}
 use Rattle.damaged.specs.Damaged.{modes_in}
 use Rattle.run.specs.declared.salvage.Report.{Report}
 use Rattle.run.specs.declared.salvage.Salvaged.{Salvaged}
 use Rattle.run.specs.salvage.Salvaged.{told, trial}
-use Rattle.run.specs.salvage.Contracts.{SalvageAllows}
+use Rattle.run.specs.salvage.Allowed.{SalvageAllows}
 use Rattle.run.specs.salvage.Promises.{AllBytes}
 use Rattle.promises.specs.together.Wrote.{ComplementWrote, SalvageWrote}
 use Rattle.promises.specs.together.InStep.{FindsNone}

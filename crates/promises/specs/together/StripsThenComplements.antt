@@ -10,9 +10,9 @@ use Rattle.second_form.specs.Complement.{complement_pair}
 use Rattle.sheets.specs.Decoded.{net_of}
 use Rattle.sheets.specs.declared.Emitted.{Emitted}
 use Rattle.sheets.specs.Emitted.{told}
-use Rattle.fire.specs.Contracts.{TestAllows, FireAllows}
+use Rattle.fire.specs.Allowed.{TestAllows, FireAllows}
 use Rattle.bare.specs.Strip.{new_mode}
-use Rattle.convert.specs.strip.Contracts.{StripAllows}
+use Rattle.convert.specs.strip.Allowed.{StripAllows}
 use Rattle.promises.specs.TwoRuns.{RunAlike}
 use Rattle.promises.specs.together.Wrote.{ComplementWrote, StripWrote}
 use Rattle.promises.specs.together.Reached.{ReachedBeside}

@@ -3,14 +3,14 @@ use Rattle.std.specs.Prelude.{ℕ, ◌≡◌, List, length, take}
 use Rattle.model.specs.declared.Pair.{Pair}
 use Rattle.model.specs.Replies.{Reply, yields}
 use Rattle.sheets.specs.Emitted as emitting
-use Rattle.complement.specs.Contracts.{ComplementAllows}
-use Rattle.convert.specs.strip.Contracts.{StripAllows}
-use Rattle.export.specs.Contracts.{ExportPnmlAllows}
-use Rattle.import.specs.Contracts.{ImportPnmlAllows}
+use Rattle.complement.specs.Allowed.{ComplementAllows}
+use Rattle.convert.specs.strip.Allowed.{StripAllows}
+use Rattle.export.specs.Allowed.{ExportPnmlAllows}
+use Rattle.import.specs.Allowed.{ImportPnmlAllows}
 use Rattle.run.specs.declared.salvage.Report.{Report}
 use Rattle.run.specs.declared.salvage.Salvaged.{Salvaged}
 use Rattle.run.specs.salvage.Salvaged as salvaging
-use Rattle.run.specs.salvage.Contracts.{SalvageAllows}
+use Rattle.run.specs.salvage.Allowed.{SalvageAllows}
 
 pub record CallWrote {A : Type 0} (Allows : List ℕ → A × List ℕ → Type 0) (told : A → Reply ℕ) (bytes : List ℕ) : Type 0 where
   pub out : List ℕ
