@@ -1,0 +1,17 @@
+// One ship more in a fleet's record, which the caller lends.
+ghost use Rattle.abi.specs.Allowed.{FleetAddAllows};
+
+use answers::Answered;
+use ships::Fleet;
+
+#[unsafe(no_mangle)]
+pub extern "C" fn pnet_fleet_add(
+    lent: &mut Fleet,
+    net: &[u8],
+    weights: &[u8],
+    movements: &[u8],
+) -> Answered
+    ensures { FleetAddAllows lent.old net.now weights.now movements.now (result, lent.new) }
+{
+    abi::adding::pnet_fleet_add(lent, net, weights, movements)
+}

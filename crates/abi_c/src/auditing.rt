@@ -1,0 +1,11 @@
+// An audit of a net's marking beside its complement's.
+ghost use Rattle.abi.specs.Allowed.{AuditAllows};
+
+use answers::Audited;
+
+#[unsafe(no_mangle)]
+pub extern "C" fn pnet_audit(net: &[u8], marking: &[u32], beside: &[u32]) -> Audited
+    ensures { AuditAllows net.now marking.now beside.now result }
+{
+    abi::auditing::pnet_audit(net, marking, beside)
+}

@@ -1,0 +1,18 @@
+// A net as a text in PNML, and such a text as a net.
+ghost use Rattle.abi.specs.Allowed.{ExportPnmlAllows, ImportPnmlAllows};
+
+use answers::Counted;
+
+#[unsafe(no_mangle)]
+pub extern "C" fn pnet_export_pnml(net: &[u8], out: &mut [u8]) -> Counted
+    ensures { ExportPnmlAllows net.now out.old (result, out.new) }
+{
+    abi::exchanging::pnet_export_pnml(net, out)
+}
+
+#[unsafe(no_mangle)]
+pub extern "C" fn pnet_import_pnml(text: &[u8], out: &mut [u8]) -> Counted
+    ensures { ImportPnmlAllows text.now out.old (result, out.new) }
+{
+    abi::exchanging::pnet_import_pnml(text, out)
+}

@@ -1,0 +1,11 @@
+// Weights that show a marking to be out of reach.
+ghost use Rattle.abi.specs.Allowed.{ExcludeAllows};
+
+use answers::Answered;
+
+#[unsafe(no_mangle)]
+pub extern "C" fn pnet_exclude(net: &[u8], weights: &[u8], claim: &[u32]) -> Answered
+    ensures { ExcludeAllows net.now weights.now claim.now result }
+{
+    abi::excluding::pnet_exclude(net, weights, claim)
+}
