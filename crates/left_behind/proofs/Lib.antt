@@ -1,0 +1,3 @@
+pub mod LeftBehindExamples
+pub mod StaysInTheSum
+pub mod WrongBy
