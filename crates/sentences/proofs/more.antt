@@ -1,0 +1,14 @@
+mod Steps
+mod FigureStepped
+mod Beside
+mod NeverReached
+mod NeverFires
+mod FleetOfRuns
+mod Frauds
+mod SalvagesAlike
+mod StripsThenComplements
+mod SameMoves
+mod SameCalls
+mod Exchanged
+mod Together
+mod More

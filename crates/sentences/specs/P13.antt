@@ -1,0 +1,44 @@
+-- Document 02, P13. Fleet statement.
+use Rattle.std.specs.Prelude.{◌≤◌, ◌≡◌, List, [], ◌∷◌, ◌≢◌, ◌+ℤ◌, ◌-ℤ◌, length}
+use Rattle.model.specs.declared.Answer.{Answer}
+use Rattle.model.specs.Refusals.{number}
+use Rattle.ships.specs.declared.Fleet.{Fleet}
+use Rattle.ships.specs.Ships.{Ship, start_figure, last_figure, totals}
+use Rattle.ships.specs.Entered.{InBounds}
+use Rattle.ships.specs.Promises.{zeros, sum_of}
+use Rattle.statement.specs.fleet.Allowed.{AddShipAllows}
+use Rattle.sentences.specs.Calls.{Public, call}
+use Rattle.sentences.specs.Demand1.{Keeps}
+use Rattle.sentences.specs.CallTables.{HasTable}
+
+-- calls for the ships of a list, "with each ship given the record as the one before left it", by outcomes that the contract allows: the record that the first is given,
+-- the ships, those of them that were counted, and the record that the last leaves
+pub data Calls : Fleet → List Ship → List Ship → Fleet → Type 0 where
+  none : {f : Fleet} → Calls f [] [] f
+  counts : {f last : Fleet} {s : Ship} {ships counted : List Ship} (o : Answer × Fleet) → AddShipAllows f s.net s.weights s.movements o
+      → number o.0 ≡ 0 → Calls o.1 ships counted last → Calls f (s ∷ ships) (s ∷ counted) last
+  refuses : {f last : Fleet} {s : Ship} {ships counted : List Ship} (o : Answer × Fleet) → AddShipAllows f s.net s.weights s.movements o
+      → number o.0 ≢ 0 → Calls o.1 ships counted last → Calls f (s ∷ ships) counted last
+
+pub record FleetStated (counted : List Ship) (last : Fleet) : Type 0 where
+  -- "each total defined from the lists given"
+  pub totalled : last ≡ totals counted
+  -- "the starting figures of the ships counted plus added less removed equal their last figures"
+  pub balances : sum_of start_figure counted +ℤ (last.added -ℤ last.removed) ≡ sum_of last_figure counted
+  -- "At most 1,000 ships"
+  pub few : length counted ≤ 1000
+  -- what 25 refuses is never lent on
+  pub within_bounds : InBounds last
+
+abbrev pub FleetOfCalls : Type 0
+FleetOfCalls = (ships counted : List Ship) (last : Fleet) → Calls zeros ships counted last → FleetStated counted last
+
+pub record P13 : Type 0 where
+  -- "Prove that, from a record of zeros and with each ship given the record as the one before left it, the starting figures of the ships counted plus added less removed
+  -- equal their last figures, each total defined from the lists given. At most 1,000 ships"
+  pub fleet_of_calls : FleetOfCalls
+  -- "a ship refused by any number below leaves the record as found"
+  pub refused_ship : Keeps (call Public.fleet_add)
+  -- "Refusals: 25 for a lent record with ships or a refusal count above 1,000, movements above 8,192,000, or a figure below 0 or above 10^18; 4 for ship 1,001; those
+  -- of the sheets; then 24 where a figure would pass 10^18."
+  pub fleet_add : HasTable Public.fleet_add

@@ -1,0 +1,16 @@
+pub mod More
+pub mod LongestText
+pub mod OwnExample
+pub mod TwoLists
+pub mod LiveModes
+pub mod Together
+pub mod Reached
+pub mod InStep
+pub mod FigureStepped
+pub mod NeverReached
+pub mod NeverFires
+pub mod FleetOfRuns
+pub mod Frauds
+pub mod SalvagesAlike
+pub mod StripsThenComplements
+pub mod Exchanged
