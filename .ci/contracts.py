@@ -5,9 +5,10 @@
    spans after it, up to the next such span in the same cell or sentence, are names that stand in it as words.
 2. Every `pub fn` of a library with a `requires` stands among the shared parts of docs/ARCHITECTURE.md; every other `pub fn` is one of them too, or is a
    public call and stands on docs/CONTRACTS.md. A `pub(crate) fn` may be a shared part, among modules.
-3. A public call `x_y` has one `ensures`: `XYAllows`, which specs/Contracts.antt of its crate, or of the module that docs/ARCHITECTURE.md lists, declares, over its arguments in their order and its outcome: the
-   answer, and the final content of every slice or record that it is lent to write.
-4. Every `..Allows` of a specs/Contracts.antt is the contract of a public call and has its field in Uniqueness, in ConstantAnswers and, where it answers with a
+3. A public call `x_y` has one `ensures`: `XYAllows`, which specs/Allowed.antt of its crate, or of the module that docs/ARCHITECTURE.md lists, declares, over its arguments in their order and its outcome: the
+   answer, and the final content of every slice or record that it is lent to write. `abi_c` has for each `pub fn` of `abi`, and for nothing else, an export for C in the module of the same name: with the
+   same name, parameters, result and clauses.
+4. Every `..Allows` of a specs/Allowed.antt is the contract of a public call and has its field in Uniqueness, in ConstantAnswers and, where it answers with a
    number of document 01, in CallTables (a field may serve two calls: the comment above it names them); a call for C in UniqueForC and ConstantAnswersForC.
 5. A shared part says something of its result, and of every slice that it is lent to write: an equation whose other side does not speak of it, or a
    definition or record that some specs/ declares and that is not empty.
@@ -62,32 +63,48 @@ def split(tokens, sign):
     return parts
 
 
-class Function:
-    """A `pub fn` or `pub(crate) fn`: the crate or module that it belongs to, its parameters, whether it has a result, and its clauses."""
+def enclosed(text, at):
+    """Where the bracket that opens there is closed."""
+    depth = 0
+    for i in range(at, len(text)):
+        depth += (text[i] in '([{') - (text[i] in ')]}')
+        if depth == 0:
+            return i
+    return len(text) - 1
 
-    def __init__(self, crate, path, head, inner=False):
-        self.crate, self.path, self.name, self.inner = crate, path, path.split('::')[-1], inner
-        depth, end = 0, 0
-        for end, letter in enumerate(head):
-            depth += (letter == '(') - (letter == ')')
-            if letter == ')' and depth == 0:
-                break
+
+CLAUSE = re.compile(r'\s*(requires|ensures)(?: \*)?(?: \w+)? \{')
+
+
+class Function:
+    """A `pub fn` or `pub(crate) fn`: the crate or module that it belongs to, its parameters, its result, and its clauses.
+    The head begins at the parameters, and what comes after the clauses is not read."""
+
+    def __init__(self, crate, path, head, inner=False, exported=False):
+        self.crate, self.path, self.name, self.inner, self.exported = crate, path, path.split('::')[-1], inner, exported
+        head = head[head.index('('):]
+        end = enclosed(head, 0)
+        # (a clause begins a line, and so does the body, but where there is no clause)
+        after = re.compile(r'\s*(?:requires|ensures)\b|\s*\{').search(head, end + 1)
+        self.result_type = head[end + 1:after.start() if after else len(head)].strip()
+        # (a long head has its parameters on lines of their own)
+        self.signature = re.sub(r'\( | (?=\))|, ?(?=\))', lambda m: m.group(0).strip(', '), ' '.join((head[:end + 1] + ' ' + self.result_type).split()))
         self.parameters = re.findall(r'(\w+): (&mut |&\[|&)?', head[1:end])
-        clauses = head[end + 1:]
-        self.returns = '->' in re.split(r'\n\s*(?:requires|ensures) ', clauses)[0]
-        self.requires = re.findall(r'requires \{ (.*?) \}$', clauses, re.M)
-        self.ensures = re.findall(r'ensures \{ λ \w+\. ⌜ (.*?) ⌝ \}$', clauses, re.M)
-        self.result = (re.findall(r'ensures \{ λ (\w+)\.', clauses) or ['r'])[0]
+        self.returns = self.result_type.startswith('->')
+        self.requires, self.ensures, at = [], [], end + 1 + len(head[end + 1:after.start()]) if after else len(head)
+        while found := CLAUSE.match(head, at):
+            at = enclosed(head, found.end() - 1) + 1
+            (self.requires if found.group(1) == 'requires' else self.ensures).append(' '.join(head[found.end():at - 1].split()))
 
     def lent(self):
-        return [name for name, kind in self.parameters if kind.startswith('&mut')]
+        return [name for name, kind in self.parameters if kind == '&mut ']
 
     def contract(self):
         """The one contract that a public call of this name and these parameters may state."""
         call = re.sub('^pnet_', '', self.name)
-        given = [f'(now ({name} .entry))' if kind else name for name, kind in self.parameters]
-        left = ', '.join(f'now ({name} .exit)' for name in self.lent())
-        outcomes = [f'(r, {left})'] if left else ['r', '(now r)']
+        given = [name + ('.old' if kind == '&mut ' else '.now' if kind else '') for name, kind in self.parameters]
+        left = ', '.join(f'{name}.new' for name in self.lent())
+        outcomes = [f'(result, {left})'] if left else ['result', 'result.now']
         return [' '.join([camel(call) + 'Allows'] + given + [outcome]) for outcome in outcomes]
 
 
@@ -108,12 +125,14 @@ def functions():
         way = [file.relative_to(top).parts[1], *file.relative_to(top).with_suffix('').parts[3:]]
         way = way[:-1] if way[-1] == 'lib' else way
         own = 2 if '::'.join(way[:2]) in parts else 1
-        for found in re.finditer(r'^pub(\(crate\))? (?:extern "C" )?fn (\w+)(.*?)\{$', file.read_text(), re.M | re.S):
-            yield Function('::'.join(way[:own]), '::'.join(way[own:] + [found.group(2)]), found.group(3), bool(found.group(1)))
+        text = file.read_text()
+        for found in re.finditer(r'^(#\[unsafe\(no_mangle\)\]\n)?pub(\(crate\))? (extern "C" )?fn (\w+)', text, re.M):
+            exported = bool(found.group(1) and found.group(3))
+            yield Function('::'.join(way[:own]), '::'.join(way[own:] + [found.group(4)]), text[found.end():], bool(found.group(2)), exported)
 
 
 def contracts_of(crate):
-    return 'crates/' + '/specs/'.join((crate + '::').split('::', 1)).replace('::', '/') + 'Contracts.antt'
+    return 'crates/' + '/specs/'.join((crate + '::').split('::', 1)).replace('::', '/') + 'Allowed.antt'
 
 
 def declarations(text):
@@ -157,8 +176,8 @@ def says(tokens, subject, declared):
         return False
     if not re.search(SAYING, declared.get(name, '')):
         return False
-    under = [bare(part)[2:] for part in parts[1:] if bare(part)[0] == 'λ' and speaks(part, subject)]
-    return all(says(part, subject, declared) for part in under)
+    under = [part for part in map(bare, parts[1:]) if part[0] == 'λ' and speaks(part, subject)]
+    return all(says(part[next((i + 1 for i, word in enumerate(part) if word.endswith('.')), 0):], subject, declared) for part in under)
 
 
 def shared_part(f, declared):
@@ -166,8 +185,8 @@ def shared_part(f, declared):
     # One that asks for nothing and has a definition of its name, as a call that is prepared, is held to the whole form of a public call.
     if not f.requires and re.search(SAYING, declared.get(f.contract()[0].split(' ')[0], '')):
         return public_call(f, declared)
-    subjects = [(f'(?<!\\S){re.escape(f.result)}(?!\\S)', 'its result')] if f.returns else []
-    subjects += [(f'now \\( {name} \\.exit \\)', f'what it leaves in `{name}`') for name in f.lent()]
+    subjects = [(r'(?<!\S)result(?:\.\S+)?(?!\S)', 'its result')] if f.returns else []
+    subjects += [(rf'(?<!\S){name}\.new(?:\.\S+)?(?!\S)', f'what it leaves in `{name}`') for name in f.lent()]
     if not subjects:
         return [f'{where} has no result and is lent nothing: there is nothing that it could say']
     return [f'{where} says nothing of {what}' for subject, what in subjects
@@ -180,6 +199,19 @@ def public_call(f, contracts):
         return [f'{where} states {" and ".join(f.ensures) or "nothing"}, and not {may[0]}']
     name = may[0].split(' ')[0]
     return [] if name in contracts else [f'{where} states {name}, which {contracts_of(f.crate)} does not declare']
+
+
+def exports(calls, exported):
+    """The faults of `abi_c`'s functions, which are to be the calls of `abi` for C."""
+    of = {f.path: f for f in exported}
+    faults = [f'abi_c::{path} exports nothing of `abi`' for path in of if path not in [f.path for f in calls]]
+    for f in calls:
+        other = of.get(f.path)
+        if not other or not other.exported or other.inner:
+            faults.append(f'abi_c has no `pub extern "C" fn` {f.path} under #[unsafe(no_mangle)]')
+        elif (f.signature, f.requires, f.ensures) != (other.signature, other.requires, other.ensures):
+            faults.append(f'abi_c::{f.path} has other parameters, another result or other clauses than abi::{f.path}')
+    return faults
 
 
 def fields(text, record):
@@ -195,7 +227,7 @@ def has_number(outcome):
 
 def theorem_fields(crate, name, outcome, unique, constant, tables):
     """The faults of one `..Allows`: a field that is missing, or that speaks of something else."""
-    field = name[0].lower() + name[1:-len('Allows')]
+    field = re.sub(r'(?<=[a-z0-9])([A-Z])', r'_\1', name[:-len('Allows')]).lower()
     said = ('c.' if crate == 'abi' else '') + name
     for_c = 'ForC' if crate == 'abi' else ''
     faults = []
@@ -205,14 +237,14 @@ def theorem_fields(crate, name, outcome, unique, constant, tables):
             faults.append(f'{record} has no field `{field}` of {said} ({crate})')
     if crate != 'abi' and has_number(outcome):
         given = fields(tables, 'CallTables')
-        spoken = re.sub(r'([A-Z])', lambda m: ' ' + m.group(1).lower(), field)
+        spoken = field.replace('_', ' ')
         if field not in given and not any(re.search(r'\b' + spoken + r'\b', above) for above, _ in given.values()):
             faults.append(f'CallTables has no field `{field}` ({crate}), and no comment in it names {spoken}')
     return faults
 
 
 def allows(text):
-    """Each `..Allows` that a specs/Contracts.antt declares, with the type of its outcome."""
+    """Each `..Allows` that a specs/Allowed.antt declares, with the type of its outcome."""
     return dict((name, kind.split(' → ')[-1]) for name, kind in re.findall(r'pub (\w+Allows) : (.*) → Type 0$', text, re.M))
 
 
@@ -225,7 +257,7 @@ def find(span):
 def text_of(place):
     if place.is_file():
         return place.read_text()
-    return '\n'.join(f.read_text() for f in sorted(place.rglob('*')) if f.suffix in ('.rt', '.antt', '.edit', '.rs', '.py', '.c', '.h', '.md'))
+    return '\n'.join(f.read_text() for f in sorted(place.rglob('*')) if 'out' not in f.relative_to(top).parts and f.suffix in ('.rt', '.antt', '.edit', '.rs', '.py', '.c', '.h', '.md'))
 
 
 def check_names(page, faults):
@@ -238,9 +270,9 @@ def check_names(page, faults):
                 count += 1
                 if place is None:
                     faults.append(f'docs/CONTRACTS.md: no file {span}')
-            elif place is not None and re.fullmatch(r"[\w·′₀-₉-]+", span):
+            elif place is not None and re.fullmatch(r"[\w'∞₀-₉-]+", span):
                 count += 1
-                if not re.search(r"(?<![\w′-])" + re.escape(span) + r"(?![\w′]|-\w)", text_of(place)):
+                if not re.search(r"(?<![\w'∞-])" + re.escape(span) + r"(?![\w'∞]|-\w)", text_of(place)):
                     faults.append(f'docs/CONTRACTS.md: no name {span} in {place.relative_to(top)}')
     return count
 
@@ -250,9 +282,13 @@ def check_functions(page, faults):
     declared, contracts, stated, count = {}, {}, set(), 0
     for file in sorted(top.glob('crates/*/specs/**/*.antt')):
         declared.update(declarations(file.read_text()))
-        if file.name == 'Contracts.antt':
+        if file.name == 'Allowed.antt':
             contracts['::'.join(part for part in file.relative_to(top).parts[1:-1] if part != 'specs')] = allows(file.read_text())
-    for f in functions():
+    found = list(functions())
+    faults += exports([f for f in found if f.crate == 'abi' and not f.inner], [f for f in found if f.crate == 'abi_c'])
+    for f in found:
+        if f.crate == 'abi_c':
+            continue
         count += not f.inner
         row = next((line.split('|')[2] for line in parts.split('\n') if line.startswith(f'| `{f.crate}` |')), '')
         if re.search(r'`(?:\w+::)*' + f.name + '`', row):
@@ -299,33 +335,47 @@ OfEach P = (n : ℕ) → P n ≡ P n
 abbrev pub PartAllows : List ℕ → List ℕ → ℕ × List ℕ → Type 0
 PartAllows s out o = o ≡ put s out
 ''')
-    say = '(s: &[u8], out: &mut [u8]) -> usize\n    requires { ⌜ x ⌝ }\n    ensures { λ r. ⌜ %s ⌝ }\n'
-    nothing = '(out: &mut [u8])\n    requires { ⌜ x ⌝ }\n    ensures { λ _. ⌜ %s ⌝ }\n'
-    free = say.replace('    requires { ⌜ x ⌝ }\n', '')
-    whole = 'PartAllows (now (s .entry)) (now (out .entry)) (r, now (out .exit))'
-    both = '(r ≡ end s) × (now (out .exit) ≡ put s)'
+    say = '(s: &[u8], out: &mut [u8]) -> usize\n    requires { x }\n    ensures { %s }\n{\n'
+    nothing = '(out: &mut [u8])\n    requires first { x }\n    requires second { y }\n    ensures { %s }\n{\n'
+    free = say.replace('    requires { x }\n', '')
+    two = say.replace('ensures { %s }', 'ensures value { %s }\n    ensures out_after {\n        %s\n    }')
+    whole = 'PartAllows s.now out.old (result, out.new)'
+    both = '(result ≡ end s) × (out.new ≡ put s)'
     parts = [
-        (say % both, 0), (say % 'r ≡ r', 2), (say % '⊤', 2), (say % '(r ≡ r) × (now (out .exit) ≡ put s)', 1), (say % 'r ≡ end s', 1),
-        (say % 'r + 0 ≡ r', 2), (say % 'Rises (now (out .exit)) r', 0), (say % 'Unknown (now (out .exit)) r', 2), (say % 'Empty r', 2),
-        (say % 'OfEach (λ t. r ≡ r)', 2), (say % 'OfEach (λ t. (r ≡ end t) × (now (out .exit) ≡ put t))', 0),
-        (free % whole, 0), (free % whole.replace(' (now (out .entry))', ''), 1), (free % whole.replace('(r, now (out .exit))', 'r'), 1), (free % both, 1),
-        (say % whole, 1), (free % whole.replace('Part', 'Unknown'), 1),
-        (nothing % 'now (out .exit) ≡ put s', 0), (nothing % 'now (out .exit) ≡ now (out .exit)', 1), (nothing % '⊤', 1),
+        (say % both, 0), (say % 'result ≡ result', 2), (say % '⊤', 2), (say % '(result ≡ result) × (out.new ≡ put s)', 1), (say % 'result ≡ end s', 1),
+        (say % 'result + 0 ≡ result', 2), (say % 'Rises out.new result', 0), (say % 'Unknown out.new result', 2), (say % 'Empty result', 2),
+        (say % 'Rises out.old result', 1), (say % 'result.0 ≡ end s', 1), (say % 'result.0 ≡ result.1', 2), (say % 'results ≡ end s', 2), (say % 'Rises (result, out.new)', 1),
+        (say % 'OfEach (λ t. result ≡ result)', 2), (say % 'OfEach (λ t. (result ≡ end t) × (out.new ≡ put t))', 0),
+        (say % 'OfEach (λ t u. result ≡ result)', 2), (say % 'OfEach (λ t u. (result ≡ end t) × (out.new ≡ put u))', 0),
+        (two % ('result ≡ end s', 'out.new ≡ put s'), 0), (two % ('result ≡ end s', '⊤'), 1), (two % ('⊤', 'out.new ≡ put s'), 1),
+        (free % whole, 0), (free % whole.replace(' out.old', ''), 1), (free % whole.replace('(result, out.new)', 'result'), 1), (free % both, 1),
+        (say % whole, 1), (say % whole.replace('Part', 'Unknown'), 2), (free % whole.replace('Part', 'Unknown'), 1),
+        (nothing % 'out.new ≡ put s', 0), (nothing % 'out.new ≡ out.new', 1), (nothing % '⊤', 1), ('(s: &[u8]) {\n    requires { result }\n', 1),
     ]
-    call = '(net: &[u8], mode: Mode, out: &mut [u8]) -> Answer\n    ensures { λ r. ⌜ %s ⌝ }\n'
-    right = 'FireOnAllows (now (net .entry)) mode (now (out .entry)) (r, now (out .exit))'
+    call = '(net: &[u8], mode: Mode, out: &mut [u8]) -> Answer\n    ensures { %s }\n{\n'
+    right = 'FireOnAllows net.now mode out.old (result, out.new)'
     calls = [
-        (call % right, {'FireOnAllows'}, 0), (call % right, {}, 1), (call % 'r ≡ r', {'FireOnAllows'}, 1), (call % '⊤', {'FireOnAllows'}, 1),
-        (call % right.replace(' mode', ''), {'FireOnAllows'}, 1), (call % right.replace('(r, now (out .exit))', 'r'), {'FireOnAllows'}, 1),
+        (call % right, {'FireOnAllows'}, 0), (call % right, {}, 1), (call % 'result ≡ result', {'FireOnAllows'}, 1), (call % '⊤', {'FireOnAllows'}, 1),
+        (call % right.replace(' mode', ''), {'FireOnAllows'}, 1), (call % right.replace('(result, out.new)', 'result'), {'FireOnAllows'}, 1),
+        (call % right.replace('out.old', 'out.new'), {'FireOnAllows'}, 1), (call.replace('ensures {', 'ensures allowed {') % right, {'FireOnAllows'}, 0),
         (call.replace('out: &mut [u8]', 'out: &mut Fleet') % right, {'FireOnAllows'}, 0),
-        (call.replace('out: &mut [u8]', 'out: &mut Fleet') % right.replace('(r, now (out .exit))', 'r'), {'FireOnAllows'}, 1),
-        (call % right + '    ensures { λ r. ⌜ ⊤ ⌝ }\n', {'FireOnAllows'}, 1), (call.replace('    ensures { λ r. ⌜ %s ⌝ }\n', ''), {'FireOnAllows'}, 1),
+        (call.replace('out: &mut [u8]', 'out: &mut Fleet') % right.replace('(result, out.new)', 'result'), {'FireOnAllows'}, 1),
+        ('(net: &[u8]) -> &[u8]\n    ensures { FireOnAllows net.now result.now }\n{\n', {'FireOnAllows'}, 0), ('(net: &[u8]) -> u8 {\n', {'FireOnAllows'}, 1),
+        (call % right + '    ensures { ⊤ }\n{\n', {'FireOnAllows'}, 0), ((call % right).replace('{\n', '    ensures more { ⊤ }\n{\n'), {'FireOnAllows'}, 1),
+        (call.replace('    ensures { %s }\n', ''), {'FireOnAllows'}, 1),
     ]
-    unique = 'pub record Uniqueness : Type 0 where\n  pub fire : (s : List ℕ) → Unique (FireAllows s)\n  pub test : (s : List ℕ) → Unique (FireAllows s)\n'
-    constant = 'pub record ConstantAnswers : Type 0 where\n  pub fire : Varies FireAllows number\n  pub test : Varies TestAllows number\n'
-    tables = 'pub record CallTables : Type 0 where\n  -- test and fire\n  pub test : (s : List ℕ) → Reads (table s) (refusal s)\n'
+    unique = 'pub record Uniqueness : Type 0 where\n  pub fire_on : (s : List ℕ) → Unique (FireOnAllows s)\n  pub test : (s : List ℕ) → Unique (FireOnAllows s)\n'
+    constant = 'pub record ConstantAnswers : Type 0 where\n  pub fire_on : Varies FireOnAllows number\n  pub test : Varies TestAllows number\n'
+    tables = 'pub record CallTables : Type 0 where\n  -- test and fire on\n  pub test : (s : List ℕ) → Reads (table s) (refusal s)\n'
     records = [
-        ('FireAllows', 'Answer', 0), ('TestAllows', 'Answer', 1), ('RunAllows', 'Ran × List ℕ', 3), ('PutAllows', 'Put × List ℕ', 2),
+        ('FireOnAllows', 'Answer', 0), ('TestAllows', 'Answer', 1), ('RunAllows', 'Ran × List ℕ', 3), ('PutAllows', 'Put × List ℕ', 2),
+    ]
+    other = call.replace('mode: Mode', 'mode: u16')
+    long = call.replace('(net: &[u8], mode: Mode, out: &mut [u8])', '(\n    net: &[u8],\n    mode: Mode,\n    out: &mut [u8],\n)')
+    for_c = [
+        (call % right, call % right, 'pnet_fire_on', True, 0), (call % right, long % right, 'pnet_fire_on', True, 0), (call % right, call % right, 'pnet_fire_on', False, 1), (call % right, call % right, 'pnet_fire', True, 2),
+        (call % right, call % '⊤', 'pnet_fire_on', True, 1), (call % right, other % right, 'pnet_fire_on', True, 1),
+        (call % right, (call % right).replace('    ensures', '    requires { x }\n    ensures'), 'pnet_fire_on', True, 1),
     ]
     wrong = [f'{head!r}: {found} for {faults}' for head, faults in parts
              for found in [shared_part(Function('sample', 'part', head), declared)] if len(found) != faults]
@@ -333,9 +383,11 @@ PartAllows s out o = o ≡ put s out
               for found in [public_call(Function('sample', 'fire_on', head), contracts)] if len(found) != faults]
     wrong += [f'{name}: {found} for {faults}' for name, outcome, faults in records
               for found in [theorem_fields('sample', name, outcome, unique, constant, tables)] if len(found) != faults]
+    wrong += [f'{one!r}, {two!r}, {name}: {found} for {faults}' for one, two, name, exported, faults in for_c
+              for found in [exports([Function('abi', 'moving::pnet_fire_on', one)], [Function('abi_c', f'moving::{name}', two, exported=exported)])] if len(found) != faults]
     for text in wrong:
         print('selftest: ' + text, file=sys.stderr)
-    print(f'contracts: {len(parts) + len(calls) + len(records)} samples, {len(wrong)} taken wrongly')
+    print(f'contracts: {len(parts) + len(calls) + len(records) + len(for_c)} samples, {len(wrong)} taken wrongly')
     return 1 if wrong else 0
 
 

@@ -1,4 +1,4 @@
-//! Links the engine's static library: the one that PNET_ARCHIVE names, or one that `rt staticlib abi` proves and writes.
+//! Links the engine's static library: the one that PNET_ARCHIVE names, or one that `tools/build abi` proves and builds.
 
 use std::io::Write;
 use std::path::{Path, PathBuf};
@@ -29,22 +29,35 @@ fn prebuilt(archive: PathBuf) -> Result<PathBuf, String> {
 
 /// The archive of this repository's crates, proved.
 fn proved() -> Result<PathBuf, String> {
-    const PREBUILT: &str = "set PNET_ARCHIVE to the libabi.a that `rt staticlib abi` wrote";
+    const PREBUILT: &str = "set PNET_ARCHIVE to the libabi.a that `tools/build abi` wrote";
     let root = Path::new(env!("CARGO_MANIFEST_DIR")).ancestors().nth(2);
     let root = root.filter(|root| root.join("crates.txt").is_file());
     let root = root.ok_or_else(|| format!("the engine's crates are not here: {PREBUILT}"))?;
-    for source in ["crates", "crates.txt"] {
-        println!("cargo::rerun-if-changed={}", root.join(source).display());
-    }
-    let rt = Command::new("rt").args(["staticlib", "abi"]).current_dir(root).spawn();
-    let mut rt = rt.map_err(|error| {
-        format!("neither archive nor prover ({error}): {PREBUILT}, or put rt, of the Rattle kit, on PATH")
-    })?;
-    say(&format!("`rt staticlib abi` proves the engine, which may take minutes; or {PREBUILT}"));
-    let status = rt.wait().map_err(|error| error.to_string())?;
-    // Only where the script itself fails does cargo print what rt said.
-    assert!(status.success(), "`rt staticlib abi` failed ({status}); what it said stands above");
+    sources(root).map_err(|error| format!("the engine's crates cannot be read ({error})"))?;
+    let build = Command::new(root.join("tools/build")).arg("abi").current_dir(root).spawn();
+    let mut build = build.map_err(|error| format!("tools/build does not start ({error}): {PREBUILT}"))?;
+    say(&format!("`tools/build abi` proves the engine, which may take long; or {PREBUILT}"));
+    let status = build.wait().map_err(|error| error.to_string())?;
+    // Only where the script itself fails does cargo print what the tool said.
+    assert!(
+        status.success(),
+        "`tools/build abi` failed ({status}); what it said stands above, or {PREBUILT}"
+    );
     Ok(root.join("target/staticlib/libabi.a"))
+}
+
+/// Has cargo run this again where a file changes that the archive is made from: what rt makes stands in each crate's folder `out`.
+fn sources(root: &Path) -> std::io::Result<()> {
+    println!("cargo::rerun-if-changed={}", root.join("crates.txt").display());
+    for entry in fs::read_dir(root.join("crates"))? {
+        let folder = entry?.path();
+        for part in ["src", "specs", "proofs"].map(|part| folder.join(part)) {
+            if part.is_dir() {
+                println!("cargo::rerun-if-changed={}", part.display());
+            }
+        }
+    }
+    Ok(())
 }
 
 /// Cargo keeps what a build script prints until it ends, so the terminal is told by itself.

@@ -6,7 +6,7 @@
 //! Every call answers for any bytes and any counts: what it gives, or the first [`Refusal`] in the order of docs/RULES.md.
 //! A refused call writes nothing; a run that stops leaves the marking that its accepted movements gave.
 //!
-//! Building it proves the engine by `rt staticlib abi`, which takes minutes; where PNET_ARCHIVE names an archive that this wrote, the
+//! Building it proves the engine by `tools/build abi`, which may take long; where PNET_ARCHIVE names an archive that this wrote, the
 //! build links that one and needs no prover.
 //!
 //! # Example
