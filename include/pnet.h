@@ -1,4 +1,4 @@
-/* Bezgintay, an engine for P-nets: its calls for C. Link target/staticlib/libabi.a (`rt staticlib abi`).
+/* Bezgintay, an engine for P-nets: its calls for C. Link target/staticlib/libabi.a (`tools/build abi`).
  *
  * Each call answers for any bytes, counts and numbers, and always returns. The engine holds nothing between calls, allocates
  * nothing, and uses at most 12 KiB of stack. docs/RULES.md says what a net, a sheet and a movement are, field by field and rule by rule.
