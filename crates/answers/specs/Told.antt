@@ -1,5 +1,5 @@
 -- What a call tells C: document 01's number, thing and position of its answer, document 02's amount, and the value, 0 where a refused call has none.
-use Rattle.std.specs.Prelude.{ℕ, Bool, true, false, ℤ, pos, length}
+use Rattle.std.specs.Prelude.{ℕ, Bool, true, false, ℤ, pos}
 use Rattle.std.proofs.Math.Option.{Option, none, some}
 use Rattle.model.specs.declared.Answer.{Answer}
 use Rattle.model.specs.declared.Answer.TheVariants.{Accepted}

@@ -28,7 +28,6 @@ use Rattle.opened.specs.Opened.{opened}
 use Rattle.sheets.specs.written.Written.{version_number}
 use Rattle.sheets.proofs.written.Versions.{version-is}
 use Rattle.sheets.proofs.written.RoundTrip.{own-sheet}
-use Rattle.sheets.specs.declared.Emitted.TheVariants.{Refused}
 use Rattle.convert.specs.Converted.{of_version, converted_sheet, lost_rule, open_refusal}
 
 module _ (v : Version) (s : List ℕ) where

@@ -20,7 +20,7 @@ use Rattle.model.specs.declared.Refusal.{Refusal}
 use Rattle.model.specs.First.{◌▸◌, only_if, lowest, Lowest, NoneBelow}
 use Rattle.model.specs.Numbers.{ℕ∞, fin, ◌≤∞◌, limit}
 use Rattle.model.specs.Rows.{no_arc, Row, Capacities, Counts}
-use Rattle.model.specs.Nets.{NetArc, PNet, pairs, K, count, arc_no, row}
+use Rattle.model.specs.Nets.{NetArc, PNet, pairs, count, arc_no, row}
 use Rattle.model.specs.WellFormed.{WellFormed}
 use Rattle.model.specs.Markings.{Marking}
 use Rattle.model.specs.Firing.{after, stops, stopped_by, stopped, lowest_stop, rule_refusal, row_refusal, fired_row, fired}

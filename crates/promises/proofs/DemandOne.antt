@@ -26,7 +26,7 @@ use Rattle.ships.specs.declared.Fleet.{Fleet}
 use Rattle.ships.specs.Ships.{Ship, ship, voyage_of, with_voyage}
 use Rattle.ships.specs.Entered.{ship_refusal, left, entered}
 use Rattle.complement.specs.Complemented.{complement_sheet, complementing_refusal}
-use Rattle.convert.specs.Converted.{converted_sheet, convert_refusal, output_of}
+use Rattle.convert.specs.Converted.{converted_sheet, convert_refusal}
 use Rattle.convert.specs.strip.Stripped.{stripped_sheet, stripping_refusal}
 use Rattle.export.specs.Exports.{export_text, export_refusal}
 use Rattle.import.proofs.Promises.{import_kept}

@@ -1,20 +1,15 @@
 -- The excess at one pair: exact, and by a capacity as the sheet writes it, and where the complement pair's count stands.
-use Prim.Native.Nat.{ℕ, ◌+◌, ◌≤◌, ◌<◌}
+use Prim.Native.Nat.{ℕ, ◌+◌, ◌<◌}
 use mathlib.Core.Path.{◌≡◌, refl, sym}
 use mathlib.Core.Bool.{true, false, false≢true}
 use mathlib.Core.List.{List}
-use mathlib.Core.Logic.{⊎_elim}
 use lib.IntN.{pos, ◌-ℤ◌}
 use lib.ListN.{length, get_or}
-use mir.Syntax.{w64}
-use mir.Val.{SFits}
 use native.Mathlib.Omega.{arith}
 use Rattle.model.specs.Numbers.{ℕ∞, fin}
 use Rattle.model.specs.Nets.{pairs, K}
 use Rattle.second_form.specs.Complement.{finite, complement_pair, complement}
 use Rattle.both_forms.specs.Audit.{excess_of}
-use Rattle.model.proofs.First.{below_or}
-use Rattle.model.proofs.Numbers.{minus_is, minus-below}
 use Rattle.second_form.proofs.Bounded.{bounded-number}
 use Rattle.second_form.proofs.ComplementNet.{pairs-complement}
 use Rattle.sheets.specs.Decoded.{net_of}

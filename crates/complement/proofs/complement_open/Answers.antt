@@ -1,5 +1,4 @@
 -- A refusal, or the sheet from the first byte on.
-use mathlib.Core.Path.{refl}
 use native.Mathlib.Omega.{arith}
 use Rattle.opened.proofs.Shapes.{sizes}
 use Rattle.complement.proofs.Answers.{open-room, open-refused, open-written}

@@ -23,7 +23,6 @@ use Rattle.model.proofs.Both.{and_both}
 use Rattle.model.proofs.First.{then-under, left-none, right-none, only_if_none, some_then, none_then}
 use Rattle.fields.specs.Numbers.{bound, unbounded}
 use Rattle.sheets.specs.Decoded.{net_of}
-use Rattle.sheets.specs.declared.Emitted.TheVariants.{Refused}
 use Rattle.sheets.specs.Emitted.{too_short}
 use Rattle.opened.specs.declared.shape.NetShape.{NetShape}
 use Rattle.opened.specs.Shape.{Open}

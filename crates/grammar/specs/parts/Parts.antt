@@ -1,7 +1,7 @@
 -- The parts of a line: constants, three digits, a number and its stop. What a reader answers of them.
 use Rattle.std.specs.Prelude.{ℕ, ◌+◌, ◌*◌, ◌≤◌, ◌<◌, ◌≡◌, List, ◌∷◌, ◌++◌, length, get_or}
 use Rattle.model.specs.Numbers.{limit}
-use Rattle.text.specs.Decimals.{digit, decimal}
+use Rattle.text.specs.Decimals.{decimal}
 use Rattle.pnml.specs.Agrees.{Agrees}
 use Rattle.grammar.specs.declared.parts.Numbered.{Numbered}
 use Rattle.grammar.specs.declared.parts.Numbered.TheVariants.{Number, Stops}

@@ -1,5 +1,4 @@
 use borrow.Author.Rules.{rules}
-use Prim.Native.Nat.{◌-◌}
 use mathlib.Core.Path.{◌∙◌, ap}
 use lib.ListN.{length}
 use Rattle.onepass.proofs.OnePass.{to-length, to-writable, wrote_none, wrote-more, through-stops, through-ends}

@@ -1,5 +1,5 @@
 -- Only the first i arcs have written what was found.
-use Prim.Native.Nat.{ℕ, ◌-◌, ◌≤◌}
+use Prim.Native.Nat.{ℕ, ◌≤◌}
 use mathlib.Core.Path.{◌≡◌}
 use mathlib.Core.List.{List}
 use Rattle.sheets.specs.Decoded.{net_of}

@@ -1,5 +1,4 @@
 -- No output slice of that room is short.
-use mathlib.Core.Path.{refl}
 use native.Mathlib.Omega.{arith}
 use Rattle.opened.proofs.Shapes.{sizes}
 use Rattle.complement.proofs.WithoutOutput.{never-short}

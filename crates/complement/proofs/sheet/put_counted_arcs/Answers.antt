@@ -1,5 +1,5 @@
 -- The arcs mode by mode, and before them their count where the version says it.
-use mathlib.Core.Path.{refl, sym, ◌∙◌}
+use mathlib.Core.Path.{refl, sym}
 use lib.ListN.{length}
 use native.Mathlib.Omega.{arith}
 use Rattle.second_form.specs.Complement.{complement}

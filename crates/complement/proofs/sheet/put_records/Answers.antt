@@ -1,5 +1,4 @@
 -- Places, modes and pairs.
-use mathlib.Core.Path.{◌∙◌}
 use Rattle.sheets.proofs.written.Puts.{room-first, room_next, puts-both}
 use Rattle.complement.proofs.sheet.put_records.Goals as goal
 

@@ -1,5 +1,5 @@
 -- The records and the arcs, then what stands before them.
-use mathlib.Core.Path.{refl, ◌∙◌}
+use mathlib.Core.Path.{refl}
 use native.Mathlib.Omega.{arith}
 use Rattle.second_form.specs.Complement.{complement}
 use Rattle.sheets.specs.Decoded.{net_of}

@@ -1,5 +1,4 @@
 -- The fields of the arc that was read, one after the other.
-use native.Mathlib.Omega.{arith}
 use Rattle.convert.proofs.ArcPuts.{room-left, room_for, read_put}
 use Rattle.convert.proofs.arcs.put_arc.Goals as goal
 

@@ -1,4 +1,3 @@
-use Prim.Native.Nat.{◌-◌}
 use mathlib.Core.Path.{sym}
 use native.Mathlib.Omega.{arith}
 use Rattle.sheets.proofs.written.Puts.{put_length, room_as, puts_as, arc-fits, puts_none, room-more, puts-more, puts-end}

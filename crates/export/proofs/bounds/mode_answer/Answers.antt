@@ -1,5 +1,4 @@
 use borrow.Author.Rules.{rules}
-use Prim.Native.Nat.{◌-◌}
 use mathlib.Core.Path.{sym}
 use Rattle.model.proofs.First.{first-none}
 use Rattle.model.proofs.Refusals.{answer-first-at, answer-first-end, answer-first-more}

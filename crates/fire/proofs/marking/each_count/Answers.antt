@@ -1,5 +1,4 @@
 use borrow.Author.Rules.{rules}
-use Prim.Native.Nat.{◌-◌}
 use Rattle.model.specs.First.{first}
 use Rattle.model.proofs.Refusals.{answer-first-at, answer-first-end, answer-first-more}
 use Rattle.fire.proofs.marking.each_count.Goals as goal

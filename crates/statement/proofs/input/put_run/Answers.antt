@@ -1,5 +1,4 @@
 -- The first marking is accepted; `start` has its figure, and what the run has told follows.
-use mathlib.Core.Path.{◌∙◌}
 use Rattle.sheets.specs.Decoded.{net_of, weights_of, movements_of}
 use Rattle.opened.proofs.Shapes.{sizes}
 use Rattle.writes.proofs.Room.{room_for}

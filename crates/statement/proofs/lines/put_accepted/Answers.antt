@@ -1,6 +1,5 @@
 -- The position, the mode, the answer, the figure.
 use Rattle.statement.specs.lines.Lines.{line, accepted_line}
-use mathlib.Core.Path.{◌∙◌}
 use mir.Facts.{to_z-of_z}
 use native.Mathlib.Omega.{arith}
 use Rattle.text.specs.Decimals.{decimal, decimal_within}

@@ -1,5 +1,4 @@
 -- The word, the thing, the number and the position.
-use mathlib.Core.Path.{◌∙◌}
 use Rattle.statement.proofs.lines.Worded.{bad_worded}
 use Rattle.statement.proofs.lines.put_bad.Goals as goal
 

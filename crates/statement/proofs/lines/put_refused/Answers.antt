@@ -1,5 +1,4 @@
 -- The word, the position, the mode, the answer, the pair and the amount.
-use mathlib.Core.Path.{◌∙◌}
 use Rattle.writes.proofs.Room.{room, room_for}
 use Rattle.statement.proofs.lines.Worded.{refused_worded}
 use Rattle.statement.proofs.lines.put_refused.Goals as goal

@@ -2,8 +2,6 @@
 use Prim.Native.Nat.{◌≤◌, ◌-◌}
 use mathlib.Core.Path.{◌≡◌}
 use lib.ListN.{length}
-use mir.Syntax.{w64}
-use mir.Val.{to_z}
 use Rattle.sheets.specs.Decoded.{net_of, weights_of, movements_of}
 use Rattle.statement.proofs.Telling.{Along}
 use Rattle.statement.proofs.movements.put_movements.Given as goal

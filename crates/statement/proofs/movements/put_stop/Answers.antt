@@ -1,7 +1,6 @@
 -- The line of the refused movement, then `end`.
 use native.Mathlib.Omega.{arith}
 use mir.Facts.{to_z-of_z}
-use mathlib.Core.Path.{◌∙◌}
 use Rattle.sheets.proofs.Listed.{movements-within}
 use Rattle.writes.proofs.Writing.{◌and◌}
 use Rattle.statement.proofs.movements.put_stop.Goals as goal

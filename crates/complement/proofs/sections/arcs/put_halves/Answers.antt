@@ -1,11 +1,10 @@
 use borrow.Author.Rules.{rules}
-use Prim.Native.Nat.{◌-◌}
 use mathlib.Core.Path.{sym, ap}
 use native.Mathlib.Omega.{arith}
 use Rattle.model.specs.Lists.{joined}
 use Rattle.sheets.specs.Decoded.{net_of}
 use Rattle.sheets.proofs.written.Puts.{room_as, puts_as, puts_none, room-more, puts-more, puts-end}
-use Rattle.complement.specs.sections.Arcs.{half_no, half_bytes}
+use Rattle.complement.specs.sections.Arcs.{half_bytes}
 use Rattle.complement.proofs.sections.ModeHalves.{mode-part}
 use Rattle.complement.proofs.sections.arcs.put_halves.Goals as goal
 

@@ -1,5 +1,5 @@
 -- The arcs, and their count before them where the version has it.
-use mathlib.Core.Path.{refl, ◌∙◌}
+use mathlib.Core.Path.{refl}
 use native.Mathlib.Omega.{arith}
 use Rattle.sheets.specs.Decoded.{net_of}
 use Rattle.opened.proofs.Shapes.{sizes}

@@ -1,5 +1,4 @@
 -- In version 2 the pair is put where the mode was.
-use mathlib.Core.Path.{◌∙◌}
 use Rattle.complement.proofs.sections.Fields.{names_put}
 use Rattle.complement.proofs.sections.arcs.put_names.Goals as goal
 

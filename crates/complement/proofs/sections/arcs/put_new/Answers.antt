@@ -1,5 +1,4 @@
 -- The three numbers, then mode and pair before them; the pair is the one that was worked out.
-use mathlib.Core.Path.{◌∙◌}
 use native.Mathlib.Omega.{arith}
 use Rattle.opened.proofs.Shapes.{sizes}
 use Rattle.halves.proofs.Below.{entry-few}

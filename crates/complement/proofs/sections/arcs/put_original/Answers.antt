@@ -1,5 +1,4 @@
 -- Each read gives the same arc, and the sheet is not written.
-use mathlib.Core.Path.{◌∙◌}
 use Rattle.complement.proofs.sections.Fields.{room-post, room-inhibitor, original_put}
 use Rattle.complement.proofs.sections.arcs.put_original.Goals as goal
 

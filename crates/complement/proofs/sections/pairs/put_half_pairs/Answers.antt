@@ -1,5 +1,4 @@
 use borrow.Author.Rules.{rules}
-use Prim.Native.Nat.{◌-◌}
 use Rattle.sheets.proofs.written.Puts.{puts_none, room-more, puts-more, puts-end}
 use Rattle.complement.proofs.sections.pairs.put_half_pairs.Goals as goal
 

@@ -1,5 +1,5 @@
 -- The original half, then the new one.
-use mathlib.Core.Path.{sym, ◌∙◌}
+use mathlib.Core.Path.{sym}
 use Rattle.halves.proofs.PairHalves.{pair_parts}
 use Rattle.sheets.proofs.written.Puts.{room_as, puts_as, room-first, room_next, puts-both}
 use Rattle.complement.proofs.sections.pairs.put_pairs.Goals as goal

@@ -1,5 +1,4 @@
 use borrow.Author.Rules.{rules}
-use Prim.Native.Nat.{◌-◌}
 use mathlib.Core.Path.{refl, sym, ap}
 use mathlib.Core.List.{flat_map}
 use native.Mathlib.Omega.{arith}

@@ -1,5 +1,4 @@
 use borrow.Author.Rules.{rules}
-use Prim.Native.Nat.{◌-◌}
 use mathlib.Core.Path.{sym, ap}
 use Rattle.sheets.specs.written.Written.{bytes16}
 use Rattle.sheets.proofs.written.Puts.{put_length, room_as, puts_as, count_fits, puts_none, room-more, puts-more, puts-end}

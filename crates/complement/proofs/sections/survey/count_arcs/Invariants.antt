@@ -2,7 +2,6 @@
 use Prim.Native.Nat.{◌≤◌, ◌-◌}
 use mathlib.Core.Path.{◌≡◌}
 use lib.ListN.{length}
-use Rattle.model.specs.Nets.{modes}
 use Rattle.model.specs.Lists.{joined}
 use Rattle.sheets.specs.Decoded.{net_of}
 use Rattle.complement.specs.sections.Arcs.{row_arcs}

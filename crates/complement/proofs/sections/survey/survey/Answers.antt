@@ -1,11 +1,8 @@
 use borrow.Author.Rules.{rules}
-use Prim.Native.Nat.{ℕ, ◌-◌}
-use mathlib.Core.Path.{◌≡◌, ◌∙◌, ap}
-use mathlib.Core.Bool.{Bool, false}
-use mathlib.Core.List.{List}
+use mathlib.Core.Path.{◌∙◌, ap}
+use mathlib.Core.Bool.{false}
 use lib.ListN.{length-set}
 use native.Mathlib.Omega.{arith}
-use Rattle.model.specs.Nets.{mode_no}
 use Rattle.second_form.specs.Dead.{is_dead}
 use Rattle.model.proofs.Tables.{filled_more}
 use Rattle.sheets.specs.Decoded.{net_of}

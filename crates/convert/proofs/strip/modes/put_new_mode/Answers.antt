@@ -1,5 +1,4 @@
 -- The count of one arc where the version has it, then the fields of the arc, one after the other.
-use native.Mathlib.Omega.{arith}
 use Rattle.sheets.specs.written.Puts.{mode_size}
 use Rattle.convert.proofs.ArcPuts.{room-left, room_for, fields_put}
 use Rattle.convert.proofs.strip.Parts.{group_put}

@@ -1,4 +1,3 @@
-use Prim.Native.Nat.{◌-◌}
 use native.Mathlib.Omega.{arith}
 use Rattle.sheets.proofs.written.Puts.{put_length, puts_none, room-more, puts-more, puts-end}
 use Rattle.convert.proofs.strip.Parts.{group_fits}

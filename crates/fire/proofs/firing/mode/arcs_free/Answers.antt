@@ -1,6 +1,5 @@
 use borrow.Author.Rules.{rules}
 use borrow.Author.Count.{below_more}
-use Prim.Native.Nat.{◌-◌}
 use native.Mathlib.Omega.{arith}
 use Rattle.fire.proofs.firing.ByMode.{one_not_free, all-free}
 use Rattle.fire.proofs.firing.mode.arcs_free.Goals as goal

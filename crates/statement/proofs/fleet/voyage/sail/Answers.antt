@@ -1,5 +1,4 @@
 -- From the net's first marking: the whole list is run, then weighed.
-use mathlib.Core.Path.{◌∙◌}
 use Rattle.opened.proofs.Shapes.{sizes}
 use Rattle.statement.proofs.fleet.voyage.sail.Goals as goal
 

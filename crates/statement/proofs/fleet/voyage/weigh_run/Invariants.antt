@@ -1,7 +1,5 @@
 -- k movements have been weighed: the sums so far are exact.
 use Prim.Native.Nat.{◌≤◌, ◌-◌}
-use mir.Syntax.{w64}
-use mir.Val.{to_z}
 use Rattle.sheets.specs.Decoded.{net_of, weights_of, movements_of}
 use Rattle.statement.proofs.fleet.Weighing.{Along}
 use Rattle.statement.proofs.fleet.voyage.weigh_run.Given as goal

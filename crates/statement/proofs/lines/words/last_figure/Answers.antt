@@ -1,7 +1,6 @@
 -- A space, the figure, the end of the line.
 use mir.Facts.{to_z-of_z}
 use native.Mathlib.Omega.{arith}
-use mathlib.Core.Path.{◌∙◌}
 use Rattle.writes.proofs.Writing.{◌and◌}
 use Rattle.text.proofs.Sizes.{signed-size}
 use Rattle.statement.proofs.lines.words.last_figure.Goals as goal

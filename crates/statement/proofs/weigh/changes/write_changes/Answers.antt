@@ -1,16 +1,11 @@
 use borrow.Author.Rules.{rules}
-use Prim.Native.Nat.{ℕ, ◌-◌}
-use mathlib.Core.Path.{◌≡◌, sym, ◌∙◌}
-use mathlib.Core.List.{List}
-use lib.IntN.{ℤ, pos}
+use mathlib.Core.Path.{sym, ◌∙◌}
+use lib.IntN.{pos}
 use lib.ListN.{length-set}
 use native.Mathlib.Omega.{arith}
 use mir.Syntax.{w64}
 use mir.Facts.{to_z-of_z}
-use Rattle.model.specs.Nets.{mode_no}
-use Rattle.movement.specs.Figures.{change}
 use Rattle.model.proofs.Tables.{filled_more}
-use Rattle.sheets.specs.Decoded.{net_of, weights_of}
 use Rattle.opened.proofs.Shapes.{sizes}
 use Rattle.statement.proofs.weigh.changes.write_changes.Invariants.{Is}
 use Rattle.statement.proofs.weigh.changes.write_changes.Goals as goal

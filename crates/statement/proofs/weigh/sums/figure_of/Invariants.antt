@@ -2,8 +2,6 @@
 use Prim.Native.Nat.{◌≤◌, ◌-◌}
 use mathlib.Core.Path.{◌≡◌}
 use lib.IntN.{pos, ◌*ℤ◌}
-use mir.Syntax.{w64}
-use mir.Val.{to_z}
 use Rattle.model.specs.Nets.{count}
 use Rattle.movement.specs.Figures.{sum as sum_to, weight}
 use Rattle.sheets.specs.Decoded.{weights_of}

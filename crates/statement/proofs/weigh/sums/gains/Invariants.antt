@@ -1,8 +1,6 @@
 -- The sum so far is that of the first i arcs.
 use Prim.Native.Nat.{◌+◌, ◌≤◌, ◌-◌}
 use mathlib.Core.Path.{◌≡◌}
-use mir.Syntax.{w64}
-use mir.Val.{to_z}
 use Rattle.model.specs.Nets.{arc_no}
 use Rattle.movement.specs.Figures.{sum as sum_to}
 use Rattle.movement.proofs.Figures.{gain}
