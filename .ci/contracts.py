@@ -11,7 +11,7 @@
 4. Every `..Allows` of a specs/Allowed.antt is the contract of a public call and has its field in Uniqueness, in ConstantAnswers and, where it answers with a
    number of document 01, in CallTables (a field may serve two calls: the comment above it names them); a call for C in UniqueForC and ConstantAnswersForC.
 5. A shared part says something of its result, and of every slice that it is lent to write: an equation whose other side does not speak of it, or a
-   definition or record that some specs/ declares and that is not empty.
+   definition or record that some specs/ declares and that is not empty; of a result by `MatchResult`, in both cases.
 6. Every must-fail edit begins with a line that quotes the fact that fails.
 
 `contracts.py --selftest` tries the rules on samples that break them.
@@ -172,12 +172,21 @@ def says(tokens, subject, declared):
             return about in ([True, False], [False, True])
     parts = terms(tokens)
     name = parts[0][0] if parts else ''
+    if name == 'MatchResult' and len(parts) == 4 and speaks(parts[1], subject):
+        return all(equates(bare(case)) for case in parts[2:])
     if not re.fullmatch(r'[A-Z]\w*', name) or not speaks(tokens, subject):
         return False
     if not re.search(SAYING, declared.get(name, '')):
         return False
     under = [part for part in map(bare, parts[1:]) if part[0] == 'λ' and speaks(part, subject)]
     return all(says(part[next((i + 1 for i, word in enumerate(part) if word.endswith('.')), 0):], subject, declared) for part in under)
+
+
+def equates(case):
+    """Whether what is said of a case of a result, under its λ, has an equation of two things."""
+    body = case[next((i + 1 for i, word in enumerate(case) if word.endswith('.')), 0):]
+    sides = [split(bare(part), '≡') for part in split(bare(body), '×')]
+    return case[0] == 'λ' and any(len(two) == 2 and two[0] != two[1] for two in sides)
 
 
 def shared_part(f, declared):
@@ -222,7 +231,7 @@ def fields(text, record):
 
 
 def has_number(outcome):
-    return outcome.split(' × ')[0] not in ('List ℕ', 'Put')
+    return outcome.split(' × ')[0] not in ('List ℕ', 'Option ℕ')
 
 
 def theorem_fields(crate, name, outcome, unique, constant, tables):
@@ -347,6 +356,8 @@ PartAllows s out o = o ≡ put s out
         (say % 'Rises out.old result', 1), (say % 'result.0 ≡ end s', 1), (say % 'result.0 ≡ result.1', 2), (say % 'results ≡ end s', 2), (say % 'Rises (result, out.new)', 1),
         (say % 'OfEach (λ t. result ≡ result)', 2), (say % 'OfEach (λ t. (result ≡ end t) × (out.new ≡ put t))', 0),
         (say % 'OfEach (λ t u. result ≡ result)', 2), (say % 'OfEach (λ t u. (result ≡ end t) × (out.new ≡ put u))', 0),
+        (say % '(MatchResult result (λ n. n ≡ end s) (λ r. end s ≡ some r)) × (out.new ≡ put s)', 0), (say % 'MatchResult result (λ n. n ≡ n) (λ r. end s ≡ some r)', 2),
+        (say % 'MatchResult result (λ n. (end s ≡ 0) × (n ≡ s)) (λ r. ⊤)', 2), (say % 'MatchResult s (λ n. n ≡ end s) (λ r. end s ≡ some r)', 2),
         (two % ('result ≡ end s', 'out.new ≡ put s'), 0), (two % ('result ≡ end s', '⊤'), 1), (two % ('⊤', 'out.new ≡ put s'), 1),
         (free % whole, 0), (free % whole.replace(' out.old', ''), 1), (free % whole.replace('(result, out.new)', 'result'), 1), (free % both, 1),
         (say % whole, 1), (say % whole.replace('Part', 'Unknown'), 2), (free % whole.replace('Part', 'Unknown'), 1),
@@ -368,7 +379,7 @@ PartAllows s out o = o ≡ put s out
     constant = 'pub record ConstantAnswers : Type 0 where\n  pub fire_on : Varies FireOnAllows number\n  pub test : Varies TestAllows number\n'
     tables = 'pub record CallTables : Type 0 where\n  -- test and fire on\n  pub test : (s : List ℕ) → Reads (table s) (refusal s)\n'
     records = [
-        ('FireOnAllows', 'Answer', 0), ('TestAllows', 'Answer', 1), ('RunAllows', 'Ran × List ℕ', 3), ('PutAllows', 'Put × List ℕ', 2),
+        ('FireOnAllows', 'Answer', 0), ('TestAllows', 'Answer', 1), ('RunAllows', 'Ran × List ℕ', 3), ('PutAllows', 'Option ℕ × List ℕ', 2),
     ]
     other = call.replace('mode: Mode', 'mode: u16')
     long = call.replace('(net: &[u8], mode: Mode, out: &mut [u8])', '(\n    net: &[u8],\n    mode: Mode,\n    out: &mut [u8],\n)')

@@ -1,5 +1,6 @@
 -- The contracts of the calls for C, which the source states by these names: what each allows of what it tells and of the slice that it leaves.
-use Rattle.std.specs.Prelude.{ℕ, ◌≡◌, List}
+use Rattle.model.specs.declared.Refusal.{Refusal}
+use Rattle.std.specs.Prelude.{ℕ, ◌≡◌, List, Result}
 use Rattle.model.specs.declared.Pair.{Pair}
 use Rattle.model.specs.declared.Mode.{Mode}
 use Rattle.model.specs.declared.Version.TheVariants.{One, Two}
@@ -7,7 +8,6 @@ use Rattle.model.specs.Refusals.{answer}
 use Rattle.sheets.specs.nets.Nets.{net_refusal}
 use Rattle.sheets.specs.lists.Weights.{weights_refusal}
 use Rattle.sheets.specs.lists.Movements.{movements_refusal}
-use Rattle.sheets.specs.declared.Emitted.{Emitted}
 use Rattle.sheets.specs.Emitted as emitting
 use Rattle.fire.specs.Calls.{begin_refusal, begun, test_refusal, fired_by}
 use Rattle.run.specs.Calls.{ran_of, run_of, visited_by, certify_refusal}
@@ -114,7 +114,7 @@ module _ (net : List ℕ) where
 
 -- what is told is an answer that the library's contract allows, with what is left in the slice
 abbrev pub ImportPnmlAllows : List ℕ → List ℕ → Counted × List ℕ → Type 0
-ImportPnmlAllows text out o = (answer : Emitted) × (importing.ImportPnmlAllows text out (answer, o.1)) × (o.0 ≡ counted (emitting.told answer))
+ImportPnmlAllows text out o = (answer : Result ℕ Refusal) × (importing.ImportPnmlAllows text out (answer, o.1)) × (o.0 ≡ counted (emitting.told answer))
 
 abbrev pub FleetAddAllows : Fleet → List ℕ → List ℕ → List ℕ → Answered × Fleet → Type 0
 FleetAddAllows found net weights movements o =

@@ -1,6 +1,6 @@
 -- What the calls for C tell of a run and of a reader; of the others: Told.antt of the crate answers.
 use Rattle.std.specs.Prelude.{ℕ, ◌-◌, List, length}
-use Rattle.model.specs.declared.Answer.{Answer}
+use Rattle.model.specs.Refusals.{Answer}
 use Rattle.sheets.specs.Whole.{rest}
 use Rattle.run.specs.declared.Ran.{Ran}
 use Rattle.answers.specs.declared.Counted.{Counted}

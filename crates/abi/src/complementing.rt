@@ -1,11 +1,11 @@
 // The complement of a net.
 ghost use Rattle.abi.specs.Allowed.{ComplementAllows};
 
-use answers::{Counted, tell_emitted};
+use answers::Counted;
 use complement::complement;
 
 pub fn pnet_complement(net: &[u8], out: &mut [u8]) -> Counted
     ensures { ComplementAllows net.now out.old (result, out.new) }
 {
-    tell_emitted(complement(net, out))
+    complement(net, out).into()
 }

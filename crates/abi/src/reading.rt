@@ -1,10 +1,10 @@
 // The readers: instead of the part after the sheet, how many bytes the sheet takes.
-ghost use Rattle.std.specs.Prelude.{◌≡◌};
+ghost use Rattle.std.specs.Prelude.{◌≡◌, Ok};
 ghost use Rattle.heads.specs.Held.{Headed};
 ghost use Rattle.abi.specs.Told.{taken};
 ghost use Rattle.abi.specs.Allowed.{ReadNetAllows, ReadWeightsAllows, ReadMovementsAllows};
 
-use answers::{Counted, tell};
+use answers::Counted;
 use heads::head::sheet_end;
 use model::Answer;
 use sheets::lists::movements::read_movements;
@@ -12,16 +12,16 @@ use sheets::lists::weights::read_weights;
 use sheets::nets::net::read_net;
 
 fn bytes_taken(s: &[u8], sheet: Answer) -> Counted
-    requires { sheet ≡ Answer.Accepted → Headed s.now }
+    requires { sheet ≡ Ok tt → Headed s.now }
     ensures { result ≡ taken s.now sheet }
 {
-    let answer = tell(sheet);
+    let answer = sheet.into();
     match sheet {
-        Answer::Accepted => Counted {
+        Ok(()) => Counted {
             answer,
             value: sheet_end(s) as u64,
         },
-        Answer::Refused(_) => Counted { answer, value: 0 },
+        Err(_) => Counted { answer, value: 0 },
     }
 }
 

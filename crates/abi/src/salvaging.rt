@@ -1,11 +1,11 @@
 // What can be kept of a damaged movement sheet.
 ghost use Rattle.abi.specs.Allowed.{SalvageAllows};
 
-use answers::{Reported, tell_salvage};
+use answers::Reported;
 use run::salvage::salvage;
 
 pub fn pnet_salvage(net: &[u8], damaged: &[u8], out: &mut [u8]) -> Reported
     ensures { SalvageAllows net.now damaged.now out.old (result, out.new) }
 {
-    tell_salvage(salvage(net, damaged, out))
+    salvage(net, damaged, out).into()
 }

@@ -1,8 +1,7 @@
 -- What a call tells C: document 01's number, thing and position of its answer, document 02's amount, and the value, 0 where a refused call has none.
-use Rattle.std.specs.Prelude.{ℕ, Bool, true, false, ℤ, pos}
+use Rattle.std.specs.Prelude.{ℕ, Bool, true, false, ℤ, pos, Ok}
 use Rattle.std.proofs.Math.Option.{Option, none, some}
-use Rattle.model.specs.declared.Answer.{Answer}
-use Rattle.model.specs.declared.Answer.TheVariants.{Accepted}
+use Rattle.model.specs.Refusals.{Answer}
 use Rattle.model.specs.Refusals.{Carried, carried}
 use Rattle.model.specs.Replies.{Reply}
 use Rattle.model.specs.Nets.{pair_no, mode_no}
@@ -67,4 +66,4 @@ abbrev pub reporting : Answered → Report → Reported
 reporting a r = record { answer = a; length = r.length; kept = r.kept; dropped = r.dropped; stop = answered r.stop }
 
 abbrev pub reported : Reply Report → Reported
-reported r = reporting (telling r.carried) (value_or (record { length = 0; kept = 0; dropped = 0; stop = Accepted }) r.value)
+reported r = reporting (telling r.carried) (value_or (record { length = 0; kept = 0; dropped = 0; stop = Ok tt }) r.value)

@@ -1,10 +1,8 @@
 // What a call tells C, as structs by value: document 01's number, thing and position, document 02's amount, and the value, 0 where a refused call has none.
 #![tactic(auto)]
 
-ghost use Rattle.std.specs.Prelude.{◌≡◌};
+ghost use Rattle.std.specs.Prelude.{◌≡◌, Ok, Err};
 ghost use Rattle.std.proofs.Math.Option.{none};
-ghost use Rattle.model.specs.declared.Answer.TheVariants.{Refused};
-ghost use Rattle.model.specs.Replies.{yields, refuses};
 ghost use Rattle.sheets.specs.Emitted.{told as emitted_told};
 ghost use Rattle.complement.specs.audit.Audits.{told as audit_told};
 ghost use Rattle.opened.specs.dead.FirstDead.{told as first_dead_told};
@@ -14,14 +12,10 @@ ghost use Rattle.opened.specs.size.Sizes.{told as measured_told};
 ghost use Rattle.statement.specs.weigh.Calls.{told as figured_told};
 ghost use Rattle.answers.specs.Told.{answered, counted, weighed, decided, naming, named, sized, finding, audited, reported};
 
-use complement::audit::Found;
 use model::{Answer, Mode, Pair, Refusal};
-use opened::dead::{Deadness, FirstDead};
-use opened::size::Measured;
-use run::salvage::Salvaged;
-use sheets::Emitted;
+use opened::size::NetSize;
+use run::salvage::Report;
 use statement::told::{line_of, thing_of};
-use statement::weigh::Figured;
 
 #[repr(C)]
 #[derive(Clone, Copy)]
@@ -106,8 +100,8 @@ pub struct Reported {
     pub stop: Answered,
 }
 
-pub(crate) fn accepted() -> Answered
-    ensures { result ≡ answered Answer.Accepted }
+fn accepted() -> Answered
+    ensures { result ≡ answered (Ok tt) }
 {
     Answered {
         number: 0,
@@ -117,11 +111,10 @@ pub(crate) fn accepted() -> Answered
     }
 }
 
-pub fn refused(refusal: Refusal) -> Answered
-    ensures { result ≡ answered (Refused refusal) }
+fn refused(refusal: Refusal) -> Answered
+    ensures { result ≡ answered (Err refusal) }
 {
-    let fault = refusal.fault;
-    let line = line_of(fault);
+    let line = line_of(refusal.fault);
     Answered {
         number: line.number,
         thing: thing_of(refusal),
@@ -130,74 +123,66 @@ pub fn refused(refusal: Refusal) -> Answered
     }
 }
 
-pub fn tell(answer: Answer) -> Answered
-    ensures { result ≡ answered answer }
-{
-    match answer {
-        Answer::Accepted => accepted(),
-        Answer::Refused(refusal) => refused(refusal),
+impl From<Answer> for Answered {
+    ghost from_gives = { λ answer told. told ≡ answered answer };
+
+    fn from(answer: Answer) -> Answered {
+        match answer {
+            Ok(()) => accepted(),
+            Err(refusal) => refused(refusal),
+        }
     }
 }
 
 // How many bytes a call wrote, or why none.
-fn wrote(length: usize) -> Counted
-    ensures { result ≡ counted (yields length) }
-{
-    Counted {
-        answer: accepted(),
-        value: length as u64,
+impl From<Result<usize, Refusal>> for Counted {
+    ghost from_gives = { λ emitted told. told ≡ counted (emitted_told emitted) };
+
+    fn from(emitted: Result<usize, Refusal>) -> Counted {
+        match emitted {
+            Ok(length) => Counted {
+                answer: accepted(),
+                value: length as u64,
+            },
+            Err(refusal) => Counted {
+                answer: refused(refusal),
+                value: 0,
+            },
+        }
     }
 }
 
-fn wrote_nothing(refusal: Refusal) -> Counted
-    ensures { result ≡ counted (refuses refusal) }
-{
-    Counted {
-        answer: refused(refusal),
-        value: 0,
+impl From<Result<i64, Refusal>> for Weighed {
+    ghost from_gives = { λ figured told. told ≡ weighed (figured_told figured) };
+
+    fn from(figured: Result<i64, Refusal>) -> Weighed {
+        match figured {
+            Ok(value) => Weighed {
+                answer: accepted(),
+                value,
+            },
+            Err(refusal) => Weighed {
+                answer: refused(refusal),
+                value: 0,
+            },
+        }
     }
 }
 
-pub fn tell_emitted(emitted: Emitted) -> Counted
-    ensures { result ≡ counted (emitted_told emitted) }
-{
-    match emitted {
-        Emitted::Length(length) => wrote(length),
-        Emitted::Refused(refusal) => wrote_nothing(refusal),
-    }
-}
+impl From<Result<bool, Refusal>> for Decided {
+    ghost from_gives = { λ deadness told. told ≡ decided (deadness_told deadness) };
 
-pub fn tell_kilograms(figured: Figured) -> Weighed
-    ensures { result ≡ weighed (figured_told figured) }
-{
-    match figured {
-        Figured::Is(value) => Weighed {
-            answer: accepted(),
-            value,
-        },
-        Figured::Refused(refusal) => Weighed {
-            answer: refused(refusal),
-            value: 0,
-        },
-    }
-}
-
-pub fn tell_deadness(deadness: Deadness) -> Decided
-    ensures { result ≡ decided (deadness_told deadness) }
-{
-    match deadness {
-        Deadness::Dead => Decided {
-            answer: accepted(),
-            value: true,
-        },
-        Deadness::Alive => Decided {
-            answer: accepted(),
-            value: false,
-        },
-        Deadness::Refused(refusal) => Decided {
-            answer: refused(refusal),
-            value: false,
-        },
+    fn from(deadness: Result<bool, Refusal>) -> Decided {
+        match deadness {
+            Ok(value) => Decided {
+                answer: accepted(),
+                value,
+            },
+            Err(refusal) => Decided {
+                answer: refused(refusal),
+                value: false,
+            },
+        }
     }
 }
 
@@ -213,37 +198,41 @@ fn nothing_found(answer: Answered) -> Named
     }
 }
 
-pub fn tell_first_dead(first: FirstDead) -> Named
-    ensures { result ≡ named (first_dead_told first) }
-{
-    match first {
-        FirstDead::At(mode, pair) => Named {
-            answer: accepted(),
-            found: true,
-            mode,
-            pair,
-        },
-        FirstDead::None => nothing_found(accepted()),
-        FirstDead::Refused(refusal) => nothing_found(refused(refusal)),
+impl From<Result<Option<(Mode, Pair)>, Refusal>> for Named {
+    ghost from_gives = { λ first told. told ≡ named (first_dead_told first) };
+
+    fn from(first: Result<Option<(Mode, Pair)>, Refusal>) -> Named {
+        match first {
+            Ok(Some((mode, pair))) => Named {
+                answer: accepted(),
+                found: true,
+                mode,
+                pair,
+            },
+            Ok(None) => nothing_found(accepted()),
+            Err(refusal) => nothing_found(refused(refusal)),
+        }
     }
 }
 
-pub fn tell_size(measured: Measured) -> Sized
-    ensures { result ≡ sized (measured_told measured) }
-{
-    match measured {
-        Measured::Is(size) => Sized {
-            answer: accepted(),
-            pairs: size.pairs as u64,
-            modes: size.modes as u64,
-            arcs: size.arcs as u64,
-        },
-        Measured::Refused(refusal) => Sized {
-            answer: refused(refusal),
-            pairs: 0,
-            modes: 0,
-            arcs: 0,
-        },
+impl From<Result<NetSize, Refusal>> for Sized {
+    ghost from_gives = { λ measured told. told ≡ sized (measured_told measured) };
+
+    fn from(measured: Result<NetSize, Refusal>) -> Sized {
+        match measured {
+            Ok(size) => Sized {
+                answer: accepted(),
+                pairs: size.pairs as u64,
+                modes: size.modes as u64,
+                arcs: size.arcs as u64,
+            },
+            Err(refusal) => Sized {
+                answer: refused(refusal),
+                pairs: 0,
+                modes: 0,
+                arcs: 0,
+            },
+        }
     }
 }
 
@@ -259,41 +248,42 @@ fn none_out(answer: Answered) -> Audited
     }
 }
 
-pub fn tell_audit(found: Found) -> Audited
-    ensures { result ≡ audited (audit_told found) }
-{
-    match found {
-        Found::At(pair, excess) => Audited {
-            answer: accepted(),
-            found: true,
-            pair,
-            excess,
-        },
-        Found::Nothing => none_out(accepted()),
-        Found::Refused(refusal) => none_out(refused(refusal)),
+impl From<Result<Option<(Pair, i64)>, Refusal>> for Audited {
+    ghost from_gives = { λ found told. told ≡ audited (audit_told found) };
+
+    fn from(found: Result<Option<(Pair, i64)>, Refusal>) -> Audited {
+        match found {
+            Ok(Some((pair, excess))) => Audited {
+                answer: accepted(),
+                found: true,
+                pair,
+                excess,
+            },
+            Ok(None) => none_out(accepted()),
+            Err(refusal) => none_out(refused(refusal)),
+        }
     }
 }
 
-pub fn tell_salvage(salvaged: Salvaged) -> Reported
-    ensures { result ≡ reported (salvage_told salvaged) }
-{
-    match salvaged {
-        Salvaged::Written(report) => {
-            let stop = report.stop;
-            Reported {
+impl From<Result<Report, Refusal>> for Reported {
+    ghost from_gives = { λ salvaged told. told ≡ reported (salvage_told salvaged) };
+
+    fn from(salvaged: Result<Report, Refusal>) -> Reported {
+        match salvaged {
+            Ok(report) => Reported {
                 answer: accepted(),
                 length: report.length as u64,
                 kept: report.kept as u64,
                 dropped: report.dropped as u64,
-                stop: tell(stop),
-            }
+                stop: report.stop.into(),
+            },
+            Err(refusal) => Reported {
+                answer: refused(refusal),
+                length: 0,
+                kept: 0,
+                dropped: 0,
+                stop: accepted(),
+            },
         }
-        Salvaged::Refused(refusal) => Reported {
-            answer: refused(refusal),
-            length: 0,
-            kept: 0,
-            dropped: 0,
-            stop: accepted(),
-        },
     }
 }

@@ -4,7 +4,7 @@ use Rattle.std.proofs.Math.Option.{none, some}
 use Rattle.model.specs.declared.CapacityRule.TheVariants.{Strong}
 use Rattle.model.specs.declared.Thing.TheVariants.{Argument}
 use Rattle.model.specs.declared.Why.TheVariants.{Lacking, OverCapacity}
-use Rattle.model.specs.declared.Answer.{Answer}
+use Rattle.model.specs.Refusals.{Answer}
 use Rattle.model.specs.Refusals.{answer, number, amount}
 use Rattle.model.specs.Numbers.{ℕ∞, fin, ∞}
 use Rattle.model.specs.Nets.{PNet, pairs, mode_no, pair_no, row}

@@ -11,15 +11,16 @@ use native.Mathlib.Omega.{arith}
 use Rattle.model.specs.declared.Thing.TheVariants.{Net}
 use Rattle.model.specs.declared.Fault.TheVariants.{NoRoom, InhibitedUnbounded}
 use Rattle.model.specs.declared.Refusal.{Refusal}
-use Rattle.model.specs.declared.Answer.{Answer}
-use Rattle.model.specs.declared.Answer.TheVariants as answers
+use Rattle.model.specs.Refusals.{Answer}
+use Rattle.std.specs.Prelude.{Ok, Err}
 use Rattle.model.specs.declared.Version.{Version}
 use Rattle.model.specs.declared.Version.TheVariants.{One, Two}
 use Rattle.model.specs.Nets.{PNet, arc_no}
 use Rattle.model.specs.First.{◌▸◌, first, only_if}
 use Rattle.model.specs.Refusals.{answer, wrong}
 use Rattle.second_form.specs.Complement.{complement, inhibits_unbounded, refusal15, sheet_limits, complement_refusal}
-use Rattle.model.proofs.Refusals.{answer-none, answer-refused}
+use Rattle.model.proofs.Refusals.{answer-refused}
+use Rattle.model.proofs.Asking.{no_refusal}
 use Rattle.model.proofs.First.{then_assoc, none_then, left-none, right-none, first-all, only_if_none}
 use Rattle.opened.specs.declared.shape.NetShape.{NetShape}
 use Rattle.sheets.specs.Decoded.{net_of}
@@ -30,13 +31,12 @@ use Rattle.complement.proofs.sections.Every.{and_left, and_right, every-each}
 use Rattle.complement.specs.declared.sheet.Sizes.{Sizes}
 use Rattle.complement.specs.ArcRefusals.{inhibited_at}
 use Rattle.complement.specs.Complemented.{complement_sheet, room_refusal}
-use Rattle.sheets.specs.declared.Emitted.TheVariants.{Length, Refused}
 use Rattle.sheets.specs.Emitted.{emitted, output, too_short}
 use Rattle.sheets.specs.written.Puts.{Puts, Room, sheet_size}
 use Rattle.sheets.specs.written.Written.{sheet_of}
 use Rattle.sheets.proofs.written.Puts.{room_as, puts_as}
 use Rattle.sheets.proofs.Emits.{refused, written}
-use Rattle.complement.specs.Sizes.{sizes_of, SizesWith, in_limits, sizes_refusal, first_of}
+use Rattle.complement.specs.Sizes.{sizes_of, SizesWith, in_limits, sizes_refusal}
 use Rattle.complement.proofs.SheetParts.{sizes-are, arcs-at-most, size_is, sheet-is}
 
 -- 15 is the first of its arcs
@@ -53,11 +53,6 @@ clear_none s e =
     (λ k h.
     ap (λ b. only_if b (wrong Net (InhibitedUnbounded (arc_offset s k))))
     (not-true (inhibits_unbounded (net_of s) (arc_no (net_of s).arcs k)) (every-each (clear_at (net_of s)) _ e k h)))
-
-first-of : (o p : Option Refusal) → first_of (answer o) (answer p) ≡ answer (o ▸ p)
-unfolding ◌▸◌
-first-of none p = refl
-first-of (some r) p = refl
 
 limits-are : (net : PNet) → in_limits (sizes_of net) ≡ sheet_limits net
 unfolding sheet_limits sizes_of
@@ -98,30 +93,31 @@ module _ {s : List ℕ} {net : NetShape} (o : Open s net) (room : ℕ) where
   still-fits {most = most} are with e = fits-with net room (sizes_of (net_of s)) most (sym with.places) (sym with.pairs) (omega (arith, arcs-at-most o are, with.arcs)) e
 
   -- 15, then 10
-  pub in_order_lem : {inhibitors fits all : Answer} → inhibitors ≡ answer (refusal15 (arc_offset s) (net_of s))
-      → fits ≡ answer (sizes_refusal net (sizes_of (net_of s)) room) → all ≡ first_of inhibitors fits → all ≡ answer (room_refusal s room)
+  pub in_order_lem : refusal15 (arc_offset s) (net_of s) ▸ sizes_refusal net (sizes_of (net_of s)) room ≡ room_refusal s room
   unfolding room_refusal complement_refusal
-  in_order_lem e f g =
-      let together : refusal15 (arc_offset s) (net_of s) ▸ sizes_refusal net (sizes_of (net_of s)) room ≡ room_refusal s room = rw (then_assoc, sizes-refusal) in
-      g ∙ ap₂ first_of e f ∙ first-of _ _ ∙ ap answer together
+  in_order_lem = rw (then_assoc, sizes-refusal)
+
+  -- without 15, 10
+  pub only_room : {a : Answer} → refusal15 (arc_offset s) (net_of s) ≡ none → a ≡ answer (sizes_refusal net (sizes_of (net_of s)) room) → a ≡ answer (room_refusal s room)
+  only_room e f = f ∙ ap answer (sym (none_then e refl) ∙ in_order_lem)
 
 room-enough : (s : List ℕ) (room : ℕ) → room_refusal s room ≡ none → length (complement_sheet s) ≤ room
 unfolding room_refusal
 room-enough s room e = ltb-false _ _ (only_if_none _ _ (right-none _ _ e))
 
 -- what an open net's call leaves, by the answer that it had
-module _ {s : List ℕ} {net : NetShape} (o : Open s net) (found : List ℕ) {a : Answer} (e : a ≡ answer (room_refusal s (length found))) where
-  pub open-refused : {r : Refusal} → a ≡ answers.Refused r
-      → (Refused r ≡ emitted (room_refusal s (length found)) (length (complement_sheet s))) × (found ≡ output (room_refusal s (length found)) (complement_sheet s) found)
-  open-refused h = refused (length (complement_sheet s)) (complement_sheet s) found (answer-refused (room_refusal s (length found)) (sym e ∙ h))
+module _ {s : List ℕ} {net : NetShape} (o : Open s net) (found : List ℕ) where
+  pub open-refused : {r : Refusal} → Err r ≡ answer (room_refusal s (length found))
+      → (Err r ≡ emitted (room_refusal s (length found)) (length (complement_sheet s))) × (found ≡ output (room_refusal s (length found)) (complement_sheet s) found)
+  open-refused e = refused (length (complement_sheet s)) (complement_sheet s) found (answer-refused (room_refusal s (length found)) (sym e))
 
-  module _ (h : a ≡ answers.Accepted) where
+  module _ (e : Ok tt ≡ answer (room_refusal s (length found))) where
     enough : length (complement_sheet s) ≤ length found
-    enough = room-enough s (length found) (answer-none _ e h)
+    enough = room-enough s (length found) (no_refusal _ e)
 
     pub open-room : Room found 0 (sheet_of net.version (complement (net_of s)))
     open-room = room_as (sym (sheet-is o)) (record { fits = omega (arith, enough) })
 
     pub open-written : {now : List ℕ} {after : ℕ} → Puts found 0 (sheet_of net.version (complement (net_of s))) now after
-        → (Length after ≡ emitted (room_refusal s (length found)) (length (complement_sheet s))) × (now ≡ output (room_refusal s (length found)) (complement_sheet s) found)
-    open-written p = written (complement_sheet s) (answer-none (room_refusal s (length found)) e h) enough (puts_as (sheet-is o) p)
+        → (Ok after ≡ emitted (room_refusal s (length found)) (length (complement_sheet s))) × (now ≡ output (room_refusal s (length found)) (complement_sheet s) found)
+    open-written p = written (complement_sheet s) (no_refusal (room_refusal s (length found)) e) enough (puts_as (sheet-is o) p)

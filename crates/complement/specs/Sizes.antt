@@ -6,8 +6,6 @@ use Rattle.std.proofs.Math.Option.{Option}
 use Rattle.model.specs.declared.Thing.TheVariants.{Net}
 use Rattle.model.specs.declared.Fault.TheVariants.{NoRoom}
 use Rattle.model.specs.declared.Refusal.{Refusal}
-use Rattle.model.specs.declared.Answer.{Answer}
-use Rattle.model.specs.declared.Answer.TheVariants.{Accepted, Refused}
 use Rattle.model.specs.declared.Version.{Version}
 use Rattle.model.specs.First.{◌▸◌, only_if}
 use Rattle.model.specs.Nets.{PNet, rule_number, pairs}
@@ -42,11 +40,6 @@ unfoldable pub sizes_refusal : NetShape → Sizes → ℕ → Option Refusal
 sizes_refusal net sizes room =
     only_if (not (in_limits sizes)) (wrong Net NoRoom)
     ▸ only_if (ltb room (sheet_size net.version sizes.places net.transitions sizes.pairs net.modes sizes.arcs)) (wrong Net NoRoom)
-
--- this answer, then that
-abbrev pub first_of : Answer → Answer → Answer
-first_of Accepted that = that
-first_of (Refused r) that = Refused r
 
 -- "a 4-byte length L .., a version byte ..; Place count ..; transition count"
 abbrev pub counts_bytes : Version → PNet → List ℕ

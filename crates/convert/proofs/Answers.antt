@@ -1,4 +1,5 @@
 -- The order of the refusals, and what an accepted conversion leaves.
+use Rattle.std.specs.Prelude.{Err}
 use Prim.Native.Nat.{ℕ, ◌≤◌, ◌<◌}
 use mathlib.Core.Path.{◌≡◌, refl, sym, ◌∙◌}
 use mathlib.Core.List.{List}
@@ -22,9 +23,6 @@ use Rattle.heads.specs.Checks.{head_refusal}
 use Rattle.sheets.specs.nets.Nets.{net_refusal}
 use Rattle.sheets.specs.Whole.{whole_net}
 use Rattle.sheets.specs.Decoded.{net_of}
-use Rattle.opened.specs.declared.shape.NetShape.{NetShape}
-use Rattle.opened.specs.declared.Opened.TheVariants as opening
-use Rattle.opened.specs.Opened.{opened}
 use Rattle.sheets.specs.written.Written.{version_number}
 use Rattle.sheets.proofs.written.Versions.{version-is}
 use Rattle.sheets.proofs.written.RoundTrip.{own-sheet}
@@ -51,10 +49,6 @@ module _ (v : Version) (s : List ℕ) where
 
   pub read-version : of_version v s ≡ none → version_of s ≡ v
   read-version e = version-is v s (number_read e)
-
-pub opens-none : {o : Option Refusal} {r : Refusal} (net : NetShape) → o ≡ some r → opening.Refused r ≡ opened o net
-unfolding opened
-opens-none net e = rw e refl
 
 -- 23 is for version 1 and the weak rule alone, and what has been read of a version can be written in it
 pub kept : (v : Version) (rule : CapacityRule) → lost_rule v rule ≡ none → v ≡ One → rule ≡ Strong

@@ -1,4 +1,5 @@
 -- The conversions there and back.
+use Rattle.std.specs.Prelude.{Ok}
 use Prim.Native.Nat.{ℕ, ◌≤◌, ◌<◌}
 use mathlib.Core.Path.{◌≡◌, refl, sym, ◌∙◌, ap}
 use mathlib.Core.List.{List}
@@ -18,7 +19,6 @@ use Rattle.sheets.specs.written.Written.{version_number, sheet_of}
 use Rattle.sheets.specs.written.Promises.{ReadBack}
 use Rattle.sheets.proofs.written.Versions.{number_is, version-is}
 use Rattle.sheets.proofs.written.RoundTrip.{known-holds, read-then-written, written-then-read}
-use Rattle.sheets.specs.declared.Emitted.TheVariants.{Length}
 use Rattle.sheets.specs.Emitted.{emitted, output}
 use Rattle.convert.specs.Converted.{of_version, lost_rule, converted_sheet, open_refusal, convert_refusal, conversion_of, output_of}
 use Rattle.convert.specs.Promises.{SourceOnly, ConvertedReads, Returned, ThereAndBack}
@@ -44,7 +44,7 @@ converted_reads_lem source target s e k =
     }
 
 -- a length is told only where nothing is refused
-length-told : (o : Option Refusal) {n m : ℕ} → Length n ≡ emitted o m → (o ≡ none) × (n ≡ m)
+length-told : (o : Option Refusal) {n m : ℕ} → Ok n ≡ emitted o m → (o ≡ none) × (n ≡ m)
 length-told none e = (refl, cc)
 length-told (some r) e = let z : ◌≡◌ {A = ℕ} 0 1 = cc in absurd (omega arith)
 
@@ -63,11 +63,11 @@ module _ (source target : Version) (s : List ℕ) (bytes : (i : ℕ) → i < len
       none_then reads.back (roomy source (converted_sheet target s) own (omega (arith, ap length (sheet-back k))))
 
   -- where a length is told the rule was kept
-  told-kept : (out : List ℕ) (n : ℕ) → Length n ≡ conversion_of source target s out → lost_rule target (net_of s).rule ≡ none
+  told-kept : (out : List ℕ) (n : ℕ) → Ok n ≡ conversion_of source target s out → lost_rule target (net_of s).rule ≡ none
   unfolding convert_refusal open_refusal
   told-kept out n told = left-none _ _ (right-none (of_version source s) _ (length-told (convert_refusal source target s (length out)) told).0)
 
-  taken : (out left : List ℕ) (n : ℕ) → Length n ≡ conversion_of source target s out → left ≡ output_of source target s out → take n left ≡ converted_sheet target s
+  taken : (out left : List ℕ) (n : ℕ) → Ok n ≡ conversion_of source target s out → left ≡ output_of source target s out → take n left ≡ converted_sheet target s
   taken out left n told is =
       let sheet = converted_sheet target s in
       let told = length-told (convert_refusal source target s (length out)) told in

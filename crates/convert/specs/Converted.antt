@@ -1,7 +1,7 @@
 -- The conversions of a net sheet: what they answer, and what they leave in the output slice.
 -- Document 02, P9: "Add conversion from 1 to 2 and back"; "a conversion answers 2 to a sheet of its target version and 10 to a short output".
 -- P10: "Converting a rule-1 sheet to version 1 is always refused by 23, before 10."
-use Rattle.std.specs.Prelude.{ℕ, not, List, eqb, length}
+use Rattle.std.specs.Prelude.{ℕ, not, List, eqb, length, Result}
 use Rattle.std.proofs.Math.Option.{Option, none, some}
 use Rattle.model.specs.declared.Thing.TheVariants.{Net}
 use Rattle.model.specs.declared.Fault.TheVariants.{WrongVersion, RuleLost}
@@ -18,7 +18,6 @@ use Rattle.sheets.specs.nets.Nets.{net_fields}
 use Rattle.sheets.specs.Whole.{bytes_after}
 use Rattle.sheets.specs.Decoded.{net_of}
 use Rattle.sheets.specs.written.Written.{version_number, sheet_of}
-use Rattle.sheets.specs.declared.Emitted.{Emitted}
 use Rattle.sheets.specs.Emitted.{emitted, output, too_short}
 
 -- the net's refusals where sheets of one version alone are read: any other version byte is 2, in 2's place ("1, then L = 0, then 2, then the fields")
@@ -44,7 +43,7 @@ unfoldable pub convert_refusal : Version → Version → List ℕ → ℕ → Op
 convert_refusal source target s room = of_version source s ▸ open_refusal target s room
 
 module _ (source target : Version) (net out : List ℕ) where
-  abbrev pub conversion_of : Emitted
+  abbrev pub conversion_of : Result ℕ Refusal
   conversion_of = emitted (convert_refusal source target net (length out)) (length (converted_sheet target net))
 
   abbrev pub output_of : List ℕ

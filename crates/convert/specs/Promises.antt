@@ -1,5 +1,5 @@
 -- What is promised of the conversions. Each statement is a type; docs/ARCHITECTURE.md names the one term of proofs/ that has it.
-use Rattle.std.specs.Prelude.{ℕ, ◌≤◌, ◌<◌, ◌≡◌, ◌≢◌, List, ◌++◌, length, take, drop}
+use Rattle.std.specs.Prelude.{ℕ, ◌≤◌, ◌<◌, ◌≡◌, ◌≢◌, List, ◌++◌, length, take, drop, Ok}
 use Rattle.std.proofs.Math.Option.{none, some}
 use Rattle.model.specs.declared.Thing.TheVariants.{Net}
 use Rattle.model.specs.declared.Fault.TheVariants.{WrongVersion}
@@ -9,7 +9,6 @@ use Rattle.heads.specs.Bytes.{byte_at}
 use Rattle.heads.specs.Version.{version_of}
 use Rattle.sheets.specs.Whole.{whole_net}
 use Rattle.sheets.specs.Decoded.{net_of}
-use Rattle.sheets.specs.declared.Emitted.TheVariants.{Length}
 use Rattle.convert.specs.Converted.{of_version, lost_rule, converted_sheet, conversion_of, output_of}
 
 -- "a conversion answers 2 to a sheet of its target version", and takes every sheet of its source version that another call takes
@@ -31,8 +30,8 @@ ConvertedReads = (source target : Version) (s : List ℕ) → of_version source 
 pub record Returned (source target : Version) (s : List ℕ) : Type 0 where
   pub sheet : lost_rule target (net_of s).rule ≡ none → converted_sheet source (converted_sheet target s) ≡ s
   pub calls : (out back left : List ℕ) (n : ℕ) → length s ≤ length back
-      → Length n ≡ conversion_of source target s out → left ≡ output_of source target s out
-      → (Length (length s) ≡ conversion_of target source (take n left) back) × (s ++ drop (length s) back ≡ output_of target source (take n left) back)
+      → Ok n ≡ conversion_of source target s out → left ≡ output_of source target s out
+      → (Ok (length s) ≡ conversion_of target source (take n left) back) × (s ++ drop (length s) back ≡ output_of target source (take n left) back)
 
 abbrev pub ThereAndBack : Type 0
 ThereAndBack = (source target : Version) (s : List ℕ) → ((i : ℕ) → i < length s → byte_at s i < 256) → of_version source s ≡ none → Returned source target s

@@ -22,6 +22,6 @@ legible s e =
       version = eqb-true (version s) 1 (not-false _ (only_if_none _ _ (right-none _ _ e₁)));
     }
 
-pub considered-are : (s : List ℕ) (end n : ℕ) → end ≡ min (sheet_end s) (length s) → n ≡ min 8192 ((end - 5) / 2) → n ≡ considered s
+pub considered-are : (s : List ℕ) (end n : ℕ) → end ≡ min (sheet_end s) (length s) → n ≡ min ((end - 5) / 2) 8192 → n ≡ considered s
 unfolding considered
 considered-are s end n e q = omega arith

@@ -1,6 +1,6 @@
 -- The exporting call: what it answers, and what it leaves in the output slice.
 -- Document 02, P5: "Refusals: for export the net's, 19 at the first finite K or I, 10 for a short output".
-use Rattle.std.specs.Prelude.{ℕ, List, length}
+use Rattle.std.specs.Prelude.{ℕ, List, length, Result}
 use Rattle.std.proofs.Math.Option.{Option}
 use Rattle.model.specs.declared.Thing.TheVariants.{Net}
 use Rattle.model.specs.declared.Fault.TheVariants.{NotUnbounded}
@@ -12,7 +12,6 @@ use Rattle.model.specs.Refusals.{wrong}
 use Rattle.heads.specs.Layout.{pairs_offset, pair_at, capacity_at}
 use Rattle.sheets.specs.Whole.{whole_net}
 use Rattle.sheets.specs.Decoded.{net_of}
-use Rattle.sheets.specs.declared.Emitted.{Emitted}
 use Rattle.sheets.specs.Emitted.{emitted, output, too_short}
 use Rattle.opened.specs.Shape.{inhibitor_offset}
 use Rattle.pnml.specs.Pnml.{pnml}
@@ -42,7 +41,7 @@ room_refusal net room = refusal19 net ▸ too_short (export_text net) room
 unfoldable pub export_refusal : List ℕ → ℕ → Option Refusal
 export_refusal net room = whole_net net ▸ room_refusal net room
 
-abbrev pub export_of : List ℕ → List ℕ → Emitted
+abbrev pub export_of : List ℕ → List ℕ → Result ℕ Refusal
 export_of net out = emitted (export_refusal net (length out)) (length (export_text net))
 
 abbrev pub output_of : List ℕ → List ℕ → List ℕ

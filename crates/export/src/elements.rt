@@ -2,20 +2,38 @@
 // the position after it is handed back.
 pub mod sizes;
 
-ghost use Rattle.std.specs.Prelude.{◌++◌, ◌+◌, ◌≤◌, ◌<◌, length};
+ghost use Rattle.std.specs.Prelude.{◌≡◌, ◌++◌, ◌+◌, ◌≤◌, ◌<◌, length};
 ghost use Rattle.model.specs.Numbers.{limit};
 ghost use Rattle.text.specs.Ascii.{ascii};
 ghost use Rattle.writes.specs.Writes.{Writes};
-ghost use Rattle.text.specs.twos.Twos.{TwosAre};
-ghost use Rattle.pnml.specs.Pnml.{three, place_text, transition_text, weight_text, pre_text, post_text};
+ghost use Rattle.pnml.specs.Pnml.{three, place_text, transition_text, weight_text};
+ghost use Rattle.export.specs.elements.Sides.{side_weight, line_text};
 
-use model::{Mode, Pair};
+use model::{Arc, Mode, Pair};
 use pnml::{
     AND_PAIR, ARC_END, FIRST_MARKING, FROM_PLACE, FROM_TRANSITION, PLACE, PLACE_END, POST, PRE,
     TO_PLACE, TO_TRANSITION, TRANSITION, TRANSITION_END, WEIGHT,
 };
-use text::twos::write_to_eight;
+use text::twos::{Twos, write_to_eight};
 use writes::{write_byte, write_bytes};
+
+// Which of an arc's two weights a line has.
+#[derive(Clone, Copy)]
+pub(crate) enum Side {
+    Pre,
+    Post,
+}
+
+impl Side {
+    pub(crate) fn weight(self, a: Arc) -> u32
+        ensures { result ≡ side_weight self a }
+    {
+        match self {
+            Side::Pre => a.pre,
+            Side::Post => a.post,
+        }
+    }
+}
 
 // "identifiers have three digits"
 fn write_three(out: &mut [u8], at: usize, n: u16) -> usize
@@ -27,14 +45,7 @@ fn write_three(out: &mut [u8], at: usize, n: u16) -> usize
     write_byte(out, one, (48 + n % 10) as u8)
 }
 
-pub(crate) fn put_place(
-    twos: &[u8; 200],
-    out: &mut [u8],
-    at: usize,
-    pair: Pair,
-    count: u32,
-) -> usize
-    requires twos_are { TwosAre 100 twos.now }
+pub(crate) fn put_place(twos: &Twos, out: &mut [u8], at: usize, pair: Pair, count: u32) -> usize
     requires pair_bound { (pair.0 < 256) × (count ≤ limit) }
     requires at_in_bounds { at + 86 ≤ length out.old }
     ensures { Writes 86 out.old at (place_text pair.0 count) result out.new }
@@ -77,8 +88,7 @@ fn put_end(out: &mut [u8], at: usize, words: &[u8; 11], n: u16) -> usize
 }
 
 // From the end of the arc's attributes on.
-fn put_weight(twos: &[u8; 200], out: &mut [u8], at: usize, weight: u32) -> usize
-    requires twos_are { TwosAre 100 twos.now }
+fn put_weight(twos: &Twos, out: &mut [u8], at: usize, weight: u32) -> usize
     requires weight_le_limit { weight ≤ limit }
     requires at_in_bounds { at + 57 ≤ length out.old }
     ensures { Writes 57 out.old at (weight_text weight) result out.new }
@@ -88,44 +98,19 @@ fn put_weight(twos: &[u8; 200], out: &mut [u8], at: usize, weight: u32) -> usize
     write_bytes(out, end, &ARC_END)
 }
 
-// Pre: an arc from the place to the transition.
-pub(crate) fn put_pre(
-    twos: &[u8; 200],
-    out: &mut [u8],
-    at: usize,
-    mode: Mode,
-    pair: Pair,
-    weight: u32,
-) -> usize
-    requires twos_are { TwosAre 100 twos.now }
-    requires mode_bound { (mode.0 < 256) × (pair.0 < 256) × (weight ≤ limit) }
+// Pre, from the place to the transition, or Post, from the transition to the place: the arc's name, where it goes from and to, and its weight.
+pub(crate) fn put_line(twos: &Twos, out: &mut [u8], at: usize, side: Side, a: Arc) -> usize
+    requires mode_bound { (a.mode.0 < 256) × (a.pair.0 < 256) × (side_weight side a ≤ limit) }
     requires at_in_bounds { at + 108 ≤ length out.old }
-    ensures { Writes 108 out.old at (pre_text mode.0 pair.0 weight) result out.new }
+    ensures { Writes 108 out.old at (line_text side a.mode.0 a.pair.0 (side_weight side a)) result out.new }
 {
-    let id = write_bytes(out, at, &PRE);
-    let source = put_name(out, id, mode, pair);
-    let target = put_end(out, source, &FROM_PLACE, pair.0);
-    let end = put_end(out, target, &TO_TRANSITION, mode.0);
-    put_weight(twos, out, end, weight)
-}
-
-// Post: one from the transition to the place.
-pub(crate) fn put_post(
-    twos: &[u8; 200],
-    out: &mut [u8],
-    at: usize,
-    mode: Mode,
-    pair: Pair,
-    weight: u32,
-) -> usize
-    requires twos_are { TwosAre 100 twos.now }
-    requires mode_bound { (mode.0 < 256) × (pair.0 < 256) × (weight ≤ limit) }
-    requires at_in_bounds { at + 108 ≤ length out.old }
-    ensures { Writes 108 out.old at (post_text mode.0 pair.0 weight) result out.new }
-{
-    let id = write_bytes(out, at, &POST);
-    let source = put_name(out, id, mode, pair);
-    let target = put_end(out, source, &FROM_TRANSITION, mode.0);
-    let end = put_end(out, target, &TO_PLACE, pair.0);
-    put_weight(twos, out, end, weight)
+    let (name, from, first, to, second) = match side {
+        Side::Pre => (&PRE, &FROM_PLACE, a.pair.0, &TO_TRANSITION, a.mode.0),
+        Side::Post => (&POST, &FROM_TRANSITION, a.mode.0, &TO_PLACE, a.pair.0),
+    };
+    let id = write_bytes(out, at, name);
+    let source = put_name(out, id, a.mode, a.pair);
+    let target = put_end(out, source, from, first);
+    let end = put_end(out, target, to, second);
+    put_weight(twos, out, end, side.weight(a))
 }

@@ -5,65 +5,52 @@ ghost use Rattle.model.specs.First.{first};
 ghost use Rattle.model.specs.Refusals.{answer};
 ghost use Rattle.heads.specs.Layout.{total_of};
 ghost use Rattle.heads.specs.Checks.{count_refusal};
-ghost use Rattle.heads.specs.Held.{Headed, Sized};
+ghost use Rattle.heads.specs.Held.{Sized};
 ghost use Rattle.fields.specs.Fields.{running_refusal, each_count, count_fields};
 
 use crate::read::count_at;
 use heads::head::{fields_at, refused, sheet_end};
+use heads::sheet::Sheet;
 use model::{Answer, Fault, Thing};
 
-pub fn read_count(s: &[u8], at: usize, low: usize, high: usize) -> Answer
-    requires headed { Headed s.now }
+pub fn read_count(sheet: &Sheet, at: usize, low: usize, high: usize) -> Answer
     requires at_bound { at < 4096 }
-    ensures { result ≡ answer (count_refusal Net s.now at low high) }
+    ensures { result ≡ answer (count_refusal Net sheet.now.bytes.now at low high) }
 {
-    if sheet_end(s) < at + 2 {
+    if sheet_end(sheet.bytes) < at + 2 {
         return refused(Thing::Net, Fault::WrongLength(at));
     }
-    let count = count_at(s, at);
-    if count < low {
+    let count = count_at(sheet.bytes, at);
+    if count < low || high < count {
         return refused(Thing::Net, Fault::CountOutside(at));
     }
-    if high < count {
-        return refused(Thing::Net, Fault::CountOutside(at));
-    }
-    Answer::Accepted
+    Ok(())
 }
 
 // One count more, where those before it make `total`.
-fn read_running(s: &[u8], start: usize, i: usize, total: usize) -> Answer
-    requires headed { Headed s.now }
+fn read_running(sheet: &Sheet, start: usize, i: usize, total: usize) -> Answer
     requires start_bound { (start < 2048) × (i < 64) × (total ≤ 256) }
-    requires total_value { total ≡ total_of s.now start i }
-    ensures { result ≡ answer (running_refusal s.now start i) }
+    requires total_value { total ≡ total_of sheet.now.bytes.now start i }
+    ensures { result ≡ answer (running_refusal sheet.now.bytes.now start i) }
 {
     let at = start + 2 * i;
-    let count = read_count(s, at, 1, 64);
-    if let Answer::Refused(_) = count {
-        return count;
-    }
-    if 256 < total + count_at(s, at) {
+    read_count(sheet, at, 1, 64)?;
+    if 256 < total + count_at(sheet.bytes, at) {
         return refused(Thing::Net, Fault::CountOutside(at));
     }
-    Answer::Accepted
+    Ok(())
 }
 
-fn read_counts(s: &[u8], start: usize, n: usize) -> Answer
-    requires headed { Headed s.now }
+fn read_counts(sheet: &Sheet, start: usize, n: usize) -> Answer
     requires start_bound { (start < 2048) × (n ≤ 64) }
-    ensures { result ≡ answer (first n (running_refusal s.now start)) }
+    ensures { result ≡ answer (first n (running_refusal sheet.now.bytes.now start)) }
 {
     let mut total = 0;
-    let mut i = 0;
-    while i < n {
-        let answer = read_running(s, start, i, total);
-        if let Answer::Refused(_) = answer {
-            return answer;
-        }
-        total += count_at(s, start + 2 * i);
-        i += 1;
+    for i in 0..n {
+        read_running(sheet, start, i, total)?;
+        total += count_at(sheet.bytes, start + 2 * i);
     }
-    Answer::Accepted
+    Ok(())
 }
 
 pub fn total_of(s: &[u8], start: usize, n: usize) -> usize
@@ -71,39 +58,27 @@ pub fn total_of(s: &[u8], start: usize, n: usize) -> usize
     ensures { result ≡ total_of s.now start n }
 {
     let mut total = 0;
-    let mut i = 0;
-    while i < n {
+    for i in 0..n {
         total += count_at(s, start + 2 * i);
-        i += 1;
     }
     total
 }
 
-fn each_count(s: &[u8]) -> Answer
-    requires { Sized s.now }
-    ensures { result ≡ answer (each_count s.now) }
+fn each_count(sheet: &Sheet) -> Answer
+    requires { Sized sheet.now.bytes.now }
+    ensures { result ≡ answer (each_count sheet.now.bytes.now) }
 {
-    let at = fields_at(s);
-    let places = count_at(s, at);
-    let colours = read_counts(s, at + 4, places);
-    if let Answer::Refused(_) = colours {
-        return colours;
-    }
-    read_counts(s, at + 4 + 2 * places, count_at(s, at + 2))
+    let at = fields_at(sheet.bytes);
+    let places = count_at(sheet.bytes, at);
+    read_counts(sheet, at + 4, places)?;
+    read_counts(sheet, at + 4 + 2 * places, count_at(sheet.bytes, at + 2))
 }
 
-pub fn count_fields(s: &[u8]) -> Answer
-    requires { Headed s.now }
-    ensures { result ≡ answer (count_fields s.now) }
+pub fn count_fields(sheet: &Sheet) -> Answer
+    ensures { result ≡ answer (count_fields sheet.now.bytes.now) }
 {
-    let at = fields_at(s);
-    let places = read_count(s, at, 1, 64);
-    if let Answer::Refused(_) = places {
-        return places;
-    }
-    let transitions = read_count(s, at + 2, 0, 64);
-    if let Answer::Refused(_) = transitions {
-        return transitions;
-    }
-    each_count(s)
+    let at = fields_at(sheet.bytes);
+    read_count(sheet, at, 1, 64)?;
+    read_count(sheet, at + 2, 0, 64)?;
+    each_count(sheet)
 }

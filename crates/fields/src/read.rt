@@ -3,10 +3,10 @@ ghost use Rattle.std.specs.Prelude.{◌≡◌, ◌+◌, ◌<◌, ◌≤◌, leng
 ghost use Rattle.model.specs.Refusals.{answer};
 ghost use Rattle.heads.specs.Bytes.{u16_at};
 ghost use Rattle.heads.specs.Checks.{left_over};
-ghost use Rattle.heads.specs.Held.{Headed};
 
-use heads::bytes::{u16_at, wide32, wide64};
+use heads::bytes::u16_at;
 use heads::head::{refused, sheet_end};
+use heads::sheet::Sheet;
 use model::{Answer, Fault, Thing};
 
 // A count of 2 bytes.
@@ -14,16 +14,15 @@ pub fn count_at(s: &[u8], at: usize) -> usize
     requires { at + 2 ≤ length s.now }
     ensures { (result ≡ u16_at s.now at) × (result < 65536) }
 {
-    wide64(wide32(u16_at(s, at)))
+    usize::from(u16_at(s, at))
 }
 
 // Bytes of the sheet after the last field, which ends at `at`.
-pub fn left_over(s: &[u8], thing: Thing, at: usize) -> Answer
-    requires { Headed s.now }
-    ensures { result ≡ answer (left_over thing s.now at) }
+pub fn left_over(sheet: &Sheet, thing: Thing, at: usize) -> Answer
+    ensures { result ≡ answer (left_over thing sheet.now.bytes.now at) }
 {
-    if at < sheet_end(s) {
+    if at < sheet_end(sheet.bytes) {
         return refused(thing, Fault::WrongLength(at));
     }
-    Answer::Accepted
+    Ok(())
 }

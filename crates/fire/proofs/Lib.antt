@@ -2,4 +2,3 @@ mod Filling
 pub mod Opened
 pub mod Opening
 pub mod Promises
-mod InTurn

@@ -7,13 +7,13 @@ use borrow.Author.Tests.{eq-eqb, ne_eqb, leb-false}
 use mathlib.Core.List.{List}
 use Rattle.model.specs.declared.Mode.{Mode}
 use Rattle.model.specs.declared.Thing.{Thing}
-use Rattle.model.specs.declared.Answer.{Answer}
-use Rattle.model.specs.declared.Answer.TheVariants.{Accepted}
+use Rattle.model.specs.Refusals.{Answer}
+use Rattle.std.specs.Prelude.{Ok}
 use Rattle.model.specs.Refusals.{answer}
 use Rattle.model.specs.Nets.{pairs}
 use Rattle.model.specs.Firing.{absent}
 use Rattle.model.proofs.First.{only_if_none}
-use Rattle.model.proofs.Refusals.{answer-none}
+use Rattle.model.proofs.Asking.{no_refusal}
 use Rattle.opened.specs.declared.shape.NetShape.{NetShape}
 use Rattle.sheets.specs.Decoded.{net_of}
 use Rattle.opened.specs.Shape.{Open}
@@ -27,5 +27,5 @@ module _ {s : List ℕ} {net : NetShape} (o : Open s net) where
   pub not_one-each : (n : ℕ) → (n ≡ net.pairs → ⊥) → not (eqb n (pairs (net_of s))) ≡ true
   not_one-each n e = ap not (ne_eqb n (pairs (net_of s)) (λ q. e (q ∙ sym (sizes o).pairs)))
 
-pub is-there : {a : Answer} (thing : Thing) (n : ℕ) (t : Mode) → a ≡ answer (absent thing n t) → a ≡ Accepted → t.0 < n
-is-there thing n t e h = leb-false n t.0 (only_if_none _ _ (answer-none _ e h))
+pub is-there : (thing : Thing) (n : ℕ) (t : Mode) → Ok tt ≡ answer (absent thing n t) → t.0 < n
+is-there thing n t e = leb-false n t.0 (only_if_none _ _ (no_refusal _ e))

@@ -1,2 +1,3 @@
+mod AtBounds
 pub mod Meets
 pub mod ByMode

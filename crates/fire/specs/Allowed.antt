@@ -1,7 +1,7 @@
 -- The contracts of the public calls, which the source states by these names: what each allows of its answer and of the marking that it leaves.
 use Rattle.std.specs.Prelude.{ℕ, ◌≡◌, List}
 use Rattle.model.specs.declared.Mode.{Mode}
-use Rattle.model.specs.declared.Answer.{Answer}
+use Rattle.model.specs.Refusals.{Answer}
 use Rattle.model.specs.Refusals.{answer}
 use Rattle.fire.specs.Calls.{begin_refusal, begun, test_refusal, fired_by}
 

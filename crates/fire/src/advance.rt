@@ -14,5 +14,5 @@ pub fn mode_answer(net: NetShape, thing: Thing, mode: Mode) -> Answer
     if net.modes <= mode.0 as usize {
         return refused(thing, Fault::NotThere);
     }
-    Answer::Accepted
+    Ok(())
 }

@@ -6,7 +6,6 @@ ghost use Rattle.std.specs.Prelude.{◌≡◌};
 ghost use Rattle.model.specs.Refusals.{answer};
 ghost use Rattle.model.specs.Firing.{fired};
 ghost use Rattle.sheets.specs.Decoded.{net_of};
-ghost use Rattle.opened.specs.Shape.{Open};
 ghost use Rattle.fire.specs.Calls.{argument_refusal};
 ghost use Rattle.leaving.specs.Leaving.{Leaves};
 ghost use Rattle.model.specs.Markings.{unequal};
@@ -18,9 +17,9 @@ use crate::marking::marking_answer;
 use crate::start::write_start;
 use heads::head::refused;
 use model::{Answer, Fault, Mode, Thing};
-use opened::shape::NetShape;
+use opened::open::OpenNet;
+use opened::open_net;
 use opened::starts::find_arcs;
-use opened::{Opened, open_net};
 
 pub mod advance;
 pub mod firing;
@@ -28,77 +27,53 @@ pub mod marking;
 pub mod start;
 pub mod step;
 
-fn begin_open(s: &[u8], net: NetShape, marking: &mut [u32]) -> Answer
-    requires { Open s.now net }
-    ensures { Leaves (unequal (net_of s.now) marking.old) (net_of s.now).start marking.old result marking.new }
+fn begin_open(net: &OpenNet, marking: &mut [u32]) -> Answer
+    ensures { Leaves (unequal (net_of net.now.sheet.now) marking.old) (net_of net.now.sheet.now).start marking.old result marking.new }
 {
-    if marking.len() != net.pairs {
+    if marking.len() != net.shape.pairs {
         return refused(Thing::Argument, Fault::NotOneEach(0));
     }
-    write_start(s, net, marking);
-    Answer::Accepted
+    write_start(net, marking);
+    Ok(())
 }
 
 // Writes the net's first marking.
 pub fn begin(net: &[u8], marking: &mut [u32]) -> Answer
     ensures { BeginAllows net.now marking.old (result, marking.new) }
 {
-    let opened = open_net(net);
-    match opened {
-        Opened::Refused(refusal) => Answer::Refused(refusal),
-        Opened::Open(shape) => begin_open(net, shape, marking),
-    }
+    let net = open_net(net)?;
+    begin_open(&net, marking)
 }
 
-fn test_open(s: &[u8], net: NetShape, marking: &[u32], mode: Mode) -> Answer
-    requires { Open s.now net }
-    ensures { result ≡ answer (argument_refusal (net_of s.now) marking.now mode) }
+fn test_open(net: &OpenNet, marking: &[u32], mode: Mode) -> Answer
+    ensures { result ≡ answer (argument_refusal (net_of net.now.sheet.now) marking.now mode) }
 {
-    let answer = marking_answer(s, net, marking);
-    if let Answer::Refused(_) = answer {
-        return answer;
-    }
-    let there = mode_answer(net, Thing::Argument, mode);
-    if let Answer::Refused(_) = there {
-        return there;
-    }
-    row_answer(s, net, find_arcs(s, net, mode), Thing::Argument, marking)
+    marking_answer(net, marking)?;
+    mode_answer(net.shape, Thing::Argument, mode)?;
+    row_answer(net, find_arcs(net, mode), Thing::Argument, marking)
 }
 
 // Whether the mode may fire.
 pub fn test(net: &[u8], marking: &[u32], mode: Mode) -> Answer
     ensures { TestAllows net.now marking.now mode result }
 {
-    let opened = open_net(net);
-    match opened {
-        Opened::Refused(refusal) => Answer::Refused(refusal),
-        Opened::Open(shape) => test_open(net, shape, marking, mode),
-    }
+    let net = open_net(net)?;
+    test_open(&net, marking, mode)
 }
 
-fn fire_open(s: &[u8], net: NetShape, marking: &mut [u32], mode: Mode) -> Answer
-    requires { Open s.now net }
-    ensures { Leaves (argument_refusal (net_of s.now) marking.old mode) (fired (net_of s.now) mode marking.old) marking.old result marking.new }
+fn fire_open(net: &OpenNet, marking: &mut [u32], mode: Mode) -> Answer
+    ensures { Leaves (argument_refusal (net_of net.now.sheet.now) marking.old mode) (fired (net_of net.now.sheet.now) mode marking.old) marking.old result marking.new }
 {
-    let answer = marking_answer(s, net, marking);
-    if let Answer::Refused(_) = answer {
-        return answer;
-    }
-    let there = mode_answer(net, Thing::Argument, mode);
-    if let Answer::Refused(_) = there {
-        return there;
-    }
-    let arcs = find_arcs(s, net, mode);
-    fire_arcs(s, net, arcs, Thing::Argument, marking)
+    marking_answer(net, marking)?;
+    mode_answer(net.shape, Thing::Argument, mode)?;
+    let arcs = find_arcs(net, mode);
+    fire_arcs(net, arcs, Thing::Argument, marking)
 }
 
 // Fires the mode where it may, and writes nothing where it may not.
 pub fn fire(net: &[u8], marking: &mut [u32], mode: Mode) -> Answer
     ensures { FireAllows net.now marking.old mode (result, marking.new) }
 {
-    let opened = open_net(net);
-    match opened {
-        Opened::Refused(refusal) => Answer::Refused(refusal),
-        Opened::Open(shape) => fire_open(net, shape, marking, mode),
-    }
+    let net = open_net(net)?;
+    fire_open(&net, marking, mode)
 }

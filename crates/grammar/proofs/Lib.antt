@@ -1,3 +1,4 @@
 pub mod Lists
+pub mod HandedOn
 pub mod Generated
 pub mod Made

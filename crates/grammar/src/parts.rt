@@ -5,16 +5,8 @@ pub mod decimal;
 pub mod three;
 pub mod valued;
 
-// A number and the position after it.
-#[derive(Clone, Copy)]
-pub enum Numbered {
-    Number(u32, usize),
-    Stops(usize),
-}
+// A number and the position after it, or where no number goes on so.
+pub type Numbered = Result<(u32, usize), usize>;
 
 // Constant text: the position after it, or where the text leaves it.
-#[derive(Clone, Copy)]
-pub enum Literal {
-    Whole(usize),
-    Part(usize),
-}
+pub type Literal = Result<usize, usize>;

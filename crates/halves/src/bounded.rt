@@ -3,19 +3,15 @@ ghost use Rattle.std.specs.Prelude.{◌≡◌, cond, ◌<◌};
 ghost use Rattle.model.specs.Nets.{K};
 ghost use Rattle.second_form.specs.Complement.{finite};
 ghost use Rattle.sheets.specs.Decoded.{net_of};
-ghost use Rattle.opened.specs.Shape.{Open};
 
 use model::Pair;
 use opened::finite::is_finite;
-use opened::shape::{NetShape, capacity};
+use opened::open::OpenNet;
+use opened::shape::capacity;
 
-pub fn one_if_bounded(s: &[u8], net: NetShape, p: usize) -> u16
-    requires fact { Open s.now net }
-    requires p_lt_pairs { p < net.pairs }
-    ensures { result ≡ cond (finite (K (net_of s.now) p)) 1 0 }
+pub fn one_if_bounded(net: &OpenNet, p: usize) -> u16
+    requires p_lt_pairs { p < net.now.shape.pairs }
+    ensures { result ≡ cond (finite (K (net_of net.now.sheet.now) p)) 1 0 }
 {
-    if is_finite(capacity(s, net, Pair(p as u16))) {
-        return 1;
-    }
-    0
+    u16::from(is_finite(capacity(net, Pair(p as u16))))
 }

@@ -13,22 +13,17 @@ pub fn complement_arc(arc: Arc, rule: CapacityRule, dead: bool, capacity: u32, p
     requires { Small arc capacity }
     ensures { net_arc result ≡ complement_at pair rule dead (bound capacity) (net_arc arc) }
 {
-    let mode = arc.mode;
-    if !is_finite(capacity) {
-        return Arc {
-            mode,
-            pair,
-            pre: 0,
-            post: 0,
-            inhibitor: 0xffff_ffff,
-        };
-    }
-    let pre = taken(rule, arc, capacity);
+    let (pre, post) = if is_finite(capacity) {
+        let pre = taken(rule, arc, capacity);
+        (pre, given_back(dead, pre, arc))
+    } else {
+        (0, 0)
+    };
     Arc {
-        mode,
+        mode: arc.mode,
         pair,
         pre,
-        post: given_back(dead, pre, arc),
+        post,
         inhibitor: 0xffff_ffff,
     }
 }

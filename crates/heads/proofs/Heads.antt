@@ -1,9 +1,9 @@
 -- What an accepted head says.
 use Prim.Native.Nat.{ℕ, ◌≤◌}
-use mathlib.Core.Path.{◌≡◌}
+use mathlib.Core.Path.{◌≡◌, refl}
 use mathlib.Core.Bool.{true, false}
 use mathlib.Core.List.{List}
-use mathlib.Core.Logic.{◌≢◌, ◌⊎◌, inl, inr}
+use mathlib.Core.Logic.{◌≢◌}
 use mathlib.Core.Option.{none}
 use lib.ListN.{length}
 use lib.Dec.{ltb, eqb}
@@ -39,11 +39,19 @@ pub known-net : (v : ℕ) → v ≢ 1 → known Net v ≡ eqb v 2
 unfolding known
 known-net v d = rw (ne_eqb v 1 d)
 
-pub known-other : (thing : Thing) (v : ℕ) → v ≢ 1 → (thing ≡ Weights) ⊎ ((thing ≡ Movements) ⊎ (thing ≡ Argument)) → false ≡ known thing v
+pub known-other : (thing : Thing) (v : ℕ) → v ≢ 1 → thing ≢ Net → false ≡ known thing v
 unfolding known
-known-other thing v d (inl e) = rw (e, ne_eqb v 1 d)
-known-other thing v d (inr (inl e)) = rw (e, ne_eqb v 1 d)
-known-other thing v d (inr (inr e)) = rw (e, ne_eqb v 1 d)
+known-other Net v d n = absurd (n refl)
+known-other Weights v d n = rw (ne_eqb v 1 d)
+known-other Movements v d n = rw (ne_eqb v 1 d)
+known-other Argument v d n = rw (ne_eqb v 1 d)
+
+pub known-neither : (thing : Thing) (v : ℕ) → v ≢ 1 → v ≢ 2 → false ≡ known thing v
+unfolding known
+known-neither Net v d n = rw (ne_eqb v 1 d, ne_eqb v 2 n)
+known-neither Weights v d n = rw (ne_eqb v 1 d)
+known-neither Movements v d n = rw (ne_eqb v 1 d)
+known-neither Argument v d n = rw (ne_eqb v 1 d)
 
 -- where the fields begin
 pub fields-at-most : (s : List ℕ) → fields_at s ≤ 6

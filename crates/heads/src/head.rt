@@ -5,14 +5,14 @@ ghost use Rattle.heads.specs.Layout.{sheet_end, fields_at};
 ghost use Rattle.heads.specs.Checks.{known, head_refusal};
 ghost use Rattle.heads.specs.Held.{Headed};
 
-use crate::bytes::{u32_at, wide64};
+use crate::bytes::u32_at;
 use crate::version::version_of;
 use model::{Answer, Fault, Refusal, Thing, Version};
 
 pub fn refused(thing: Thing, fault: Fault) -> Answer
-    ensures { result ≡ Answer.Refused (wrong thing fault) }
+    ensures { result ≡ Err (wrong thing fault) }
 {
-    Answer::Refused(Refusal { thing, fault })
+    Err(Refusal { thing, fault })
 }
 
 // The first byte after the sheet: a number without wrap.
@@ -20,22 +20,14 @@ pub fn sheet_end(s: &[u8]) -> usize
     requires { 4 ≤ length s.now }
     ensures { result ≡ sheet_end s.now }
 {
-    4 + wide64(u32_at(s, 0))
+    4 + u32_at(s, 0) as usize
 }
 
 // "Only net sheets have a version 2."
 fn is_known(thing: Thing, version: u8) -> bool
     ensures { result ≡ known thing version }
 {
-    if version == 1 {
-        return true;
-    }
-    match thing {
-        Thing::Net => version == 2,
-        Thing::Weights => false,
-        Thing::Movements => false,
-        Thing::Argument => false,
-    }
+    version == 1 || (version == 2 && matches!(thing, Thing::Net))
 }
 
 // Where the fields of a net sheet begin.
@@ -65,5 +57,5 @@ pub fn read_head(s: &[u8], thing: Thing) -> Answer
     if !is_known(thing, s[4]) {
         return refused(thing, Fault::WrongVersion(4));
     }
-    Answer::Accepted
+    Ok(())
 }

@@ -4,4 +4,5 @@
 
 pub mod bytes;
 pub mod head;
+pub mod sheet;
 pub mod version;

@@ -1,6 +1,7 @@
 -- 4, then 10, or the sheet, of whatever net's export the text is.
+use Rattle.std.specs.Prelude.{Result, Ok, Err}
 use Prim.Native.Nat.{ℕ, ◌≤◌, ◌<◌}
-use mathlib.Core.Path.{◌≡◌, refl, ap, subst}
+use mathlib.Core.Path.{◌≡◌, refl, ap}
 use mathlib.Core.List.{List}
 use mathlib.Core.Logic.{◌⊎◌, inl, inr, ⊎_elim}
 use mathlib.Core.Option.{Option, none, some}
@@ -14,26 +15,23 @@ use Rattle.model.specs.Nets.{PNet}
 use Rattle.model.specs.Refusals.{wrong}
 use Rattle.sheets.specs.written.Puts.{sheet_size}
 use Rattle.sheets.proofs.written.Puts.{from_start}
-use Rattle.sheets.specs.declared.Emitted.{Emitted}
-use Rattle.sheets.specs.declared.Emitted.TheVariants.{Length, Refused}
 use Rattle.sheets.specs.Emitted.{emitted, output}
 use Rattle.pnml.specs.Pnml.{pnml, Exportable}
 use Rattle.pnml.specs.Singles.{imported_sheet}
 use Rattle.pnml.proofs.ImportRefusal.{too_many_lem, short, roomy}
 use Rattle.grammar.specs.declared.State.{State}
-use Rattle.import.specs.declared.scan.Checked.{Checked}
-use Rattle.import.specs.scan.Kinds.{ExportOf, CheckAllows, CheckedAs}
+use Rattle.import.specs.scan.Kinds.{ExportOf}
 use Rattle.import.specs.Parts.{SheetPut, ImportedAs}
 use Rattle.import.proofs.Singles.{size_is}
 
-refused : {o : Option Refusal} {r : Refusal} {a : Emitted} (n : ℕ) (sheet found : List ℕ) → a ≡ Refused r → o ≡ some r → (a ≡ emitted o n) × (found ≡ output o sheet found)
+refused : {o : Option Refusal} {r : Refusal} {a : Result ℕ Refusal} (n : ℕ) (sheet found : List ℕ) → a ≡ Err r → o ≡ some r → (a ≡ emitted o n) × (found ≡ output o sheet found)
 refused n sheet found i e = rw (e, i) (refl, refl)
 
 module _ {s : List ℕ} {q : State} (x : ExportOf s q) where
   pub arcs-few : q.arcs ≤ 2048
   arcs-few = omega (arith, (x.tells x.net x.exportable x.text).many, x.exportable.well_formed.arc_count)
 
-  pub imported-many : {out : List ℕ} {a : Emitted} → (64 < q.places) ⊎ (64 < q.modes) → a ≡ Refused (wrong Argument (CountOutside 0)) → ImportedAs s out a out
+  pub imported-many : {out : List ℕ} {a : Result ℕ Refusal} → (64 < q.places) ⊎ (64 < q.modes) → a ≡ Err (wrong Argument (CountOutside 0)) → ImportedAs s out a out
   imported-many {out} h i =
       record {
         each = λ net e is.
@@ -48,7 +46,7 @@ module _ {s : List ℕ} {q : State} (x : ExportOf s q) where
         let t = x.tells net e is in
         omega (arith, size_is net e (omega (arith, t.pairs)) (omega (arith, t.modes)), t.pairs, t.modes, t.many)
 
-    pub imported-short : {out : List ℕ} {a : Emitted} → length out < size → a ≡ Refused (wrong Net NoRoom) → ImportedAs s out a out
+    pub imported-short : {out : List ℕ} {a : Result ℕ Refusal} → length out < size → a ≡ Err (wrong Net NoRoom) → ImportedAs s out a out
     imported-short {out} h i =
         record {
           each = λ net e is.
@@ -56,7 +54,7 @@ module _ {s : List ℕ} {q : State} (x : ExportOf s q) where
               refused (length (imported_sheet net)) (imported_sheet net) out i (short net (length out) (omega (arith, t.pairs)) (omega (arith, t.modes)) (omega (arith, sized net e is)));
         }
 
-    pub imported-whole : {out now : List ℕ} {after : ℕ} → size ≤ length out → SheetPut s out now after → ImportedAs s out (Length after) now
+    pub imported-whole : {out now : List ℕ} {after : ℕ} → size ≤ length out → SheetPut s out now after → ImportedAs s out (Ok after) now
     imported-whole {out} {now} {after} h p =
         record {
           each = λ net e is.
@@ -66,8 +64,5 @@ module _ {s : List ℕ} {q : State} (x : ExportOf s q) where
               written (imported_sheet net) (roomy net (length out) (omega (arith, t.pairs)) (omega (arith, t.modes)) (omega (arith, sized net e is))) n (from_start y.written (omega (arith, sized net e is)));
         }
       where
-        written : {o : Option Refusal} (sheet : List ℕ) → o ≡ none → after ≡ length sheet → now ≡ output none sheet out → (Length after ≡ emitted o (length sheet)) × (now ≡ output o sheet out)
-        written sheet e n j = rw e (ap Length n, j)
-
-pub checked-as : {s : List ℕ} {r : Checked} → CheckAllows s r → {x : Checked} → r ≡ x → CheckedAs s x
-checked-as {s} y e = subst (λ z. CheckedAs s z) e y.how
+        written : {o : Option Refusal} (sheet : List ℕ) → o ≡ none → after ≡ length sheet → now ≡ output none sheet out → (Ok after ≡ emitted o (length sheet)) × (now ≡ output o sheet out)
+        written sheet e n j = rw e (ap Ok n, j)

@@ -21,8 +21,7 @@ use Rattle.grammar.specs.Gathered as G
 use Rattle.grammar.specs.Gathered.{Gathered, gather}
 use Rattle.import.specs.scan.Kinds.{ExportOf}
 use Rattle.import.proofs.scan.Onward.{line-long}
-use Rattle.import.specs.Parts.{Going, LineAt, Other, PlaceReady, PlacePut, NoPlace, PlacesPut, Ready, LinePut, NoLine, ArcsFollow, ArcsPut, after_places, marks_bytes, arcs_bytes, PlaceAllows, PlacedAs, WriteAllows, WroteAs}
-use Rattle.import.specs.declared.Wrote.{Wrote}
+use Rattle.import.specs.Parts.{Going, LineAt, Other, PlaceReady, PlacePut, NoPlace, PlacesPut, Ready, LinePut, NoLine, ArcsFollow, ArcsPut, after_places, marks_bytes, arcs_bytes}
 use Rattle.import.proofs.Left.{left-line, left_end, left-stops, few-places, few-arcs, all-places, all-marks, going_start, going-line}
 use Rattle.import.proofs.ArcBytes.{arcs-length}
 use Rattle.import.proofs.Singles.{marks-length}
@@ -92,12 +91,6 @@ module _ {s before now : List ℕ} {at : ℕ} {q : State} {read next : ℕ} (f :
         fresh = ap (λ z. after z (place p.count)) f.fresh;
         puts = puts_as (sym (mark_more f.says.marks p.count)) (put_length (puts f.puts p.puts));
       })
-
-pub wrote_as : {s : List ℕ} {q : State} {at : ℕ} {before : List ℕ} {next : ℕ} {now : List ℕ} {r : Wrote} → WriteAllows s q at before next now r → {x : Wrote} → r ≡ x → WroteAs s q at before next now x
-wrote_as {s} {q} {at} {before} {next} {now} y e = subst (λ z. WroteAs s q at before next now z) e y.how
-
-pub placed_as : {s : List ℕ} {q : State} {at : ℕ} {before : List ℕ} {next : ℕ} {now : List ℕ} {r : Wrote} → PlaceAllows s q at before next now r → {x : Wrote} → r ≡ x → PlacedAs s q at before next now x
-placed_as {s} {q} {at} {before} {next} {now} y e = subst (λ z. PlacedAs s q at before next now z) e y.how
 
 pub line-farther : {s : List ℕ} {q : State} {at : ℕ} {l : Line} {m : ℕ} → LineAt q s at l m → (at < m) × (m ≤ length s)
 line-farther {s} {q} {at} {l} st = (omega (arith, st.place, line-long q (some l)), omega (arith, st.place, st.whole.in_run))

@@ -1,4 +1,5 @@
 -- What the contract of the import says, and that it allows one outcome.
+use Rattle.std.specs.Prelude.{Result, Ok, Err}
 use Prim.Native.Nat.{ℕ, zero, suc, ◌≤◌, ◌<◌}
 use mathlib.Core.Path.{◌≡◌, refl, sym, ◌∙◌, ap, ap₂, subst}
 use mathlib.Core.List.{List, [], ◌++◌}
@@ -15,8 +16,6 @@ use Rattle.model.specs.Nets.{PNet, pairs, modes, count}
 use Rattle.model.specs.Refusals.{wrong}
 use Rattle.model.proofs.First.{below_or}
 use Rattle.sheets.proofs.written.RoundTrip.{written-then-read}
-use Rattle.sheets.specs.declared.Emitted.{Emitted}
-use Rattle.sheets.specs.declared.Emitted.TheVariants.{Length, Refused}
 use Rattle.sheets.specs.Emitted.{emitted, told, output}
 use Rattle.pnml.specs.Agrees.{FirstNone}
 use Rattle.pnml.specs.Pnml.{opening, closing, place_text, mode_text, body, pnml, Exportable, Refused20}
@@ -42,7 +41,7 @@ once a b = first-once a.first b.first
 outcome : {A B : Type 0} {a c : A} {b d : B} → a ≡ c → b ≡ d → ◌≡◌ {A = A × B} (a, b) (c, d)
 outcome {A} {B} e f = ap₂ {C = A × B} (λ x y. (x, y)) e f
 
-pub import_once : (text out : List ℕ) (o o' : Emitted × List ℕ) → ImportPnmlAllows text out o → ImportPnmlAllows text out o' → o ≡ o'
+pub import_once : (text out : List ℕ) (o o' : Result ℕ Refusal × List ℕ) → ImportPnmlAllows text out o → ImportPnmlAllows text out o' → o ≡ o'
 import_once text out o o' (inl x) (inl y) =
     let e = x.each x.net x.exportable x.is in
     let f = y.each x.net x.exportable x.is in
@@ -51,22 +50,22 @@ import_once text out o o' (inl x) (inr y) = absurd (y.refused.no_export x.net x.
 import_once text out o o' (inr x) (inl y) = absurd (x.refused.no_export y.net y.exportable y.is)
 import_once text out o o' (inr x) (inr y) =
     let e = once x.refused y.refused in
-    outcome (x.answer ∙ ap (λ n. Refused (wrong Net (NotAnExport n))) e ∙ sym y.answer) (x.kept ∙ sym y.kept)
+    outcome (x.answer ∙ ap (λ n. Err (wrong Net (NotAnExport n))) e ∙ sym y.answer) (x.kept ∙ sym y.kept)
 
 -- an answer that tells another number is another answer
-abbrev number_of : Emitted → ℕ
+abbrev number_of : Result ℕ Refusal → ℕ
 number_of a = (told a).carried.number
 
-abbrev position_of : Emitted → ℕ
+abbrev position_of : Result ℕ Refusal → ℕ
 position_of a = (told a).carried.position
 
-pub answered : (net : PNet) (out : List ℕ) {a : Emitted} {o : Option Refusal} → a ≡ import_of net out → import_refusal net (length out) ≡ o → a ≡ emitted o (length (imported_sheet net))
+pub answered : (net : PNet) (out : List ℕ) {a : Result ℕ Refusal} {o : Option Refusal} → a ≡ import_of net out → import_refusal net (length out) ≡ o → a ≡ emitted o (length (imported_sheet net))
 answered net out e f = e ∙ ap (λ o. emitted o (length (imported_sheet net))) f
 
 pub left : (net : PNet) (out : List ℕ) {now : List ℕ} {o : Option Refusal} → now ≡ output_of net out → import_refusal net (length out) ≡ o → now ≡ output o (imported_sheet net) out
 left net out e f = e ∙ ap (λ o. output o (imported_sheet net) out) f
 
-refused-only : (text out : List ℕ) (o : Emitted × List ℕ) → ImportPnmlAllows text out o → (at : ℕ) → o.0 ≡ Refused (wrong Net (NotAnExport at)) → Refused20 text at
+refused-only : (text out : List ℕ) (o : Result ℕ Refusal × List ℕ) → ImportPnmlAllows text out o → (at : ℕ) → o.0 ≡ Err (wrong Net (NotAnExport at)) → Refused20 text at
 refused-only text out o (inr x) at e = subst (λ n. Refused20 text n) (ap position_of (sym x.answer ∙ e)) x.refused
 refused-only text out o (inl x) at e = go (way x.net (length out))
   where
@@ -81,11 +80,11 @@ refused-only text out o (inl x) at e = go (way x.net (length out))
 pub refused-exactly : RefusedExactly
 refused-exactly = record { only = refused-only; all = all }
   where
-    all : (text out : List ℕ) (o : Emitted × List ℕ) → ImportPnmlAllows text out o → (at : ℕ) → Refused20 text at → o.0 ≡ Refused (wrong Net (NotAnExport at))
+    all : (text out : List ℕ) (o : Result ℕ Refusal × List ℕ) → ImportPnmlAllows text out o → (at : ℕ) → Refused20 text at → o.0 ≡ Err (wrong Net (NotAnExport at))
     all text out o (inl x) at r = absurd (r.no_export x.net x.exportable x.is)
-    all text out o (inr x) at r = x.answer ∙ ap (λ n. Refused (wrong Net (NotAnExport n))) (once x.refused r)
+    all text out o (inr x) at r = x.answer ∙ ap (λ n. Err (wrong Net (NotAnExport n))) (once x.refused r)
 
-imports-only : (text out : List ℕ) (o : Emitted × List ℕ) → ImportPnmlAllows text out o → (n : ℕ) → o.0 ≡ Length n
+imports-only : (text out : List ℕ) (o : Result ℕ Refusal × List ℕ) → ImportPnmlAllows text out o → (n : ℕ) → o.0 ≡ Ok n
     → (net : PNet) × (Small net) × (text ≡ pnml net) × (length (imported_sheet net) ≤ length out)
 imports-only text out o (inr x) n e = absurd (omega (arith, ap number_of (sym x.answer ∙ e)))
 imports-only text out o (inl x) n e = go (way x.net (length out))
@@ -99,13 +98,13 @@ imports-only text out o (inl x) n e = go (way x.net (length out))
     go (whole p m h r) = (x.net, record { exportable = x.exportable; pairs = p; modes = m }, x.is, h)
 
 -- of a net's export the answer and the output are that net's
-pub of-net : (net : PNet) → Exportable net → {text : List ℕ} → text ≡ pnml net → (out : List ℕ) (o : Emitted × List ℕ) → ImportPnmlAllows text out o
+pub of-net : (net : PNet) → Exportable net → {text : List ℕ} → text ≡ pnml net → (out : List ℕ) (o : Result ℕ Refusal × List ℕ) → ImportPnmlAllows text out o
     → (o.0 ≡ import_of net out) × (o.1 ≡ output_of net out)
 of-net net e is out o (inl x) = x.each net e is
 of-net net e is out o (inr x) = absurd (x.refused.no_export net e is)
 
-imports-all : (net : PNet) → Small net → (out : List ℕ) → length (imported_sheet net) ≤ length out → (o : Emitted × List ℕ) → ImportPnmlAllows (pnml net) out o
-    → (o.0 ≡ Length (length (imported_sheet net))) × (o.1 ≡ imported_sheet net ++ drop (length (imported_sheet net)) out)
+imports-all : (net : PNet) → Small net → (out : List ℕ) → length (imported_sheet net) ≤ length out → (o : Result ℕ Refusal × List ℕ) → ImportPnmlAllows (pnml net) out o
+    → (o.0 ≡ Ok (length (imported_sheet net))) × (o.1 ≡ imported_sheet net ++ drop (length (imported_sheet net)) out)
 imports-all net w out h o allows =
     let r = roomy net (length out) w.pairs w.modes h in
     let e = of-net net w.exportable refl out o allows in
@@ -131,7 +130,7 @@ imported_reads_lem =
     }
 
 -- a refused import leaves the output as it was
-pub import_kept : (text out : List ℕ) (o : Emitted × List ℕ) → ImportPnmlAllows text out o → (told o.0).carried.number ≢ 0 → o.1 ≡ out
+pub import_kept : (text out : List ℕ) (o : Result ℕ Refusal × List ℕ) → ImportPnmlAllows text out o → (told o.0).carried.number ≢ 0 → o.1 ≡ out
 import_kept text out o (inr x) h = x.kept
 import_kept text out o (inl x) h = go (way x.net (length out))
   where
@@ -164,6 +163,6 @@ between net e =
       places-some (pairs net) net.start (total-some net.colours w.some_place w.places),
     )
 
-pub refuses-none : (out : List ℕ) (o : Emitted × List ℕ) → ImportPnmlAllows [] out o → (told o.0).carried.number ≢ 0
+pub refuses-none : (out : List ℕ) (o : Result ℕ Refusal × List ℕ) → ImportPnmlAllows [] out o → (told o.0).carried.number ≢ 0
 refuses-none out o (inr x) e = omega (arith, ap number_of x.answer)
 refuses-none out o (inl x) e = omega (arith, ap length x.is, between x.net x.exportable)

@@ -1,4 +1,5 @@
 -- 20, 4 and 10, each exactly where its row has it.
+use Rattle.std.specs.Prelude.{Result}
 use Prim.Native.Nat.{ℕ, ◌+◌, ◌<◌}
 use mathlib.Core.Path.{◌≡◌, refl, sym, ◌∙◌, ap}
 use mathlib.Core.List.{List}
@@ -12,7 +13,6 @@ use Rattle.model.specs.declared.Refusal.{Refusal}
 use Rattle.model.specs.Nets.{PNet, pairs, modes}
 use Rattle.model.specs.Refusals.{answer, wrong, Carried, carries, carried}
 use Rattle.model.specs.RefusalTables.{Table, row, ◌then◌, each, Silent, Gives, Reads}
-use Rattle.sheets.specs.declared.Emitted.{Emitted}
 use Rattle.sheets.specs.Emitted.{emitted, refusal_of}
 use Rattle.pnml.specs.Pnml.{pnml, Exportable, Refused20}
 use Rattle.pnml.specs.Singles.{imported_sheet, import_refusal}
@@ -94,7 +94,7 @@ Many text = ExportOfSome text (λ net. (64 < pairs net) ⊎ (64 < modes net))
 abbrev Short : List ℕ → ℕ → Type 0
 Short text room = ExportOfSome text (λ net. room < length (imported_sheet net))
 
-module _ {text out : List ℕ} {o : Emitted × List ℕ} where
+module _ {text out : List ℕ} {o : Result ℕ Refusal × List ℕ} where
   none_reads : OfNone text out o → Reads (import_table text (length out)) (refusal_of o.0)
   none_reads x =
       let is : refusal_of o.0 ≡ some (wrong Net (NotAnExport x.at)) = ap refusal_of x.answer in

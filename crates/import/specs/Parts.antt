@@ -1,6 +1,7 @@
 -- The second pass: what has been read so far of an export's text, and what has been written of it.
 -- A reader of the promises may skip this file.
-use Rattle.std.specs.Prelude.{ℕ, ◌+◌, ◌*◌, ◌-◌, ◌≤◌, ◌<◌, true, false, ◌≡◌, ◌⊎◌, length}
+use Rattle.model.specs.declared.Refusal.{Refusal}
+use Rattle.std.specs.Prelude.{ℕ, ◌+◌, ◌*◌, ◌-◌, ◌≤◌, ◌<◌, true, false, ◌≡◌, ◌⊎◌, length, Result, Option as Perhaps, Some, None}
 use mathlib.Core.List.{List, ◌++◌, flat_map}
 use Rattle.std.proofs.Math.Option.{none, some}
 use Rattle.model.specs.declared.Version.TheVariants.{One}
@@ -9,7 +10,6 @@ use Rattle.model.specs.Numbers.{∞}
 use Rattle.model.specs.Nets.{NetArc, PNet}
 use Rattle.sheets.specs.written.Written.{bytes16, bytes32, pair_bytes, arc_bytes}
 use Rattle.sheets.specs.written.Puts.{Written, Put, Puts}
-use Rattle.sheets.specs.declared.Emitted.{Emitted}
 use Rattle.pnml.specs.Agrees.{Agrees}
 use Rattle.pnml.specs.Pnml.{pnml, Exportable}
 use Rattle.pnml.specs.Singles.{imported_sheet}
@@ -20,8 +20,10 @@ use Rattle.grammar.specs.Gathered.{Gathered, arc, gather, finish, Tells}
 use Rattle.grammar.proofs.Made.{Made}
 use Rattle.import.specs.scan.Kinds.{Sound}
 use Rattle.import.specs.Imports.{import_of, output_of}
-use Rattle.import.specs.declared.Wrote.{Wrote}
-use Rattle.import.specs.declared.Wrote.TheVariants.{On, End}
+
+-- what was written of a line: the state after it, where it ends, and the place after what was written; or there is no line
+abbrev pub Wrote : Type 0
+Wrote = Perhaps (State × ℕ × ℕ)
 
 -- the lines still to be read, of a net whose export the text is
 pub record Left (s : List ℕ) (net : PNet) (q : State) (d : Gathered) (at : ℕ) : Type 0 where
@@ -84,8 +86,8 @@ pub record NoPlace (s : List ℕ) (q : State) (at : ℕ) (before now : List ℕ)
   pub how : ClosedOr (Other q s at) q s at
 
 abbrev pub PlacedAs : (s : List ℕ) (q : State) (at : ℕ) (before : List ℕ) (next : ℕ) (now : List ℕ) → Wrote → Type 0
-PlacedAs s q at before next now (On r read after) = PlacePut s q at before next now r read after
-PlacedAs s q at before next now End = NoPlace s q at before now
+PlacedAs s q at before next now (Some x) = PlacePut s q at before next now x.0 x.1 x.2
+PlacedAs s q at before next now None = NoPlace s q at before now
 
 pub record PlaceAllows (s : List ℕ) (q : State) (at : ℕ) (before : List ℕ) (next : ℕ) (now : List ℕ) (r : Wrote) : Type 0 where
   pub how : PlacedAs s q at before next now r
@@ -118,8 +120,8 @@ pub record NoLine (s : List ℕ) (q : State) (at : ℕ) (before now : List ℕ) 
   pub how : ClosedOr ((n : ℕ) × (m : ℕ) × LineAt q s at (place n) m) q s at
 
 abbrev pub WroteAs : (s : List ℕ) (q : State) (at : ℕ) (before : List ℕ) (next : ℕ) (now : List ℕ) → Wrote → Type 0
-WroteAs s q at before next now (On r read after) = LinePut s q at before next now r read after
-WroteAs s q at before next now End = NoLine s q at before now
+WroteAs s q at before next now (Some x) = LinePut s q at before next now x.0 x.1 x.2
+WroteAs s q at before next now None = NoLine s q at before now
 
 pub record WriteAllows (s : List ℕ) (q : State) (at : ℕ) (before : List ℕ) (next : ℕ) (now : List ℕ) (r : Wrote) : Type 0 where
   pub how : WroteAs s q at before next now r
@@ -140,7 +142,7 @@ abbrev pub counts_bytes : ℕ → ℕ → List ℕ
 counts_bytes places modes = bytes16 places ++ (bytes16 modes ++ (ones_bytes places ++ ones_bytes modes))
 
 -- the answer and the output of whatever net's export the text is
-pub record ImportedAs (s before : List ℕ) (r : Emitted) (now : List ℕ) : Type 0 where
+pub record ImportedAs (s before : List ℕ) (r : Result ℕ Refusal) (now : List ℕ) : Type 0 where
   pub each : (net : PNet) → Exportable net → s ≡ pnml net → (r ≡ import_of net before) × (now ≡ output_of net before)
 
 pub record PostRoom (q : State) (pair : ℕ) (out : List ℕ) (at : ℕ) : Type 0 where

@@ -1,10 +1,10 @@
 -- The refusal table of the import: "20 at the first byte (or the end) from which no export agrees with the text, then 4 where there are more than 64 pairs or modes,
 -- then 10". Its one term is `import_table_lem` of proofs/RefusalTable.antt.
-use Rattle.std.specs.Prelude.{ℕ, ◌+◌, ◌<◌, ◌≡◌, List, ◌⊎◌, length}
+use Rattle.model.specs.declared.Refusal.{Refusal}
+use Rattle.std.specs.Prelude.{ℕ, ◌+◌, ◌<◌, ◌≡◌, List, ◌⊎◌, length, Result}
 use Rattle.model.specs.Nets.{PNet, pairs, modes}
 use Rattle.model.specs.Refusals.{carries}
 use Rattle.model.specs.RefusalTables.{Table, row, ◌then◌, each, Reads}
-use Rattle.sheets.specs.declared.Emitted.{Emitted}
 use Rattle.sheets.specs.Emitted.{refusal_of}
 use Rattle.pnml.specs.Pnml.{pnml, Exportable, Refused20}
 use Rattle.pnml.specs.Singles.{imported_sheet}
@@ -21,4 +21,4 @@ import_table text room =
     then row (ExportOfSome text (λ net. room < length (imported_sheet net))) (carries 10 0 0)
 
 abbrev pub ImportTable : Type 0
-ImportTable = (text out : List ℕ) (o : Emitted × List ℕ) → ImportPnmlAllows text out o → Reads (import_table text (length out)) (refusal_of o.0)
+ImportTable = (text out : List ℕ) (o : Result ℕ Refusal × List ℕ) → ImportPnmlAllows text out o → Reads (import_table text (length out)) (refusal_of o.0)

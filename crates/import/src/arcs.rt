@@ -43,20 +43,18 @@ fn write_line(s: &[u8], at: usize, q: State, out: &mut [u8], next: usize) -> Wro
     requires { Ready s.now q at out.old next }
     ensures { WriteAllows s.now q at out.old next out.new result }
 {
-    let step = read_line(s, at, q);
+    let step = read_line(s, at, q).ok()?;
     match step {
-        Step::Begun(read) => Wrote::On(after_mode(q), read, next),
+        Step::Begun(read) => Some((after_mode(q), read, next)),
         Step::PreArc(pair, weight, read) => {
             let end = put_arc(out, next, q.modes - 1, pair, weight, 0);
-            Wrote::On(after_pre(q, pair, weight), read, end)
+            Some((after_pre(q, pair, weight), read, end))
         }
         Step::PostArc(pair, weight, read) => {
             let end = put_post(out, next, q, pair, weight);
-            Wrote::On(after_post(q, pair, weight), read, end)
+            Some((after_post(q, pair, weight), read, end))
         }
-        Step::Placed(_, _) => Wrote::End,
-        Step::Closed(_) => Wrote::End,
-        Step::Stopped(_) => Wrote::End,
+        _ => None,
     }
 }
 
@@ -76,17 +74,10 @@ pub(crate) fn put_arcs(s: &[u8], q: State, first: usize, out: &mut [u8], at: usi
     };
     let mut read = first;
     let mut next = at;
-    loop {
-        let wrote = write_line(s, read, state, out, next);
-        match wrote {
-            Wrote::End => {
-                return next;
-            }
-            Wrote::On(after, end, to) => {
-                state = after;
-                read = end;
-                next = to;
-            }
-        }
+    while let Some((after, end, to)) = write_line(s, read, state, out, next) {
+        state = after;
+        read = end;
+        next = to;
     }
+    next
 }

@@ -6,42 +6,33 @@ mod places;
 pub mod scan;
 mod sheet;
 
-ghost use Rattle.std.specs.Prelude.{◌≡◌};
+ghost use Rattle.std.specs.Prelude.{◌≡◌, Err};
 ghost use Rattle.model.specs.Refusals.{wrong};
-ghost use Rattle.sheets.specs.declared.Emitted.TheVariants.{Refused};
 ghost use Rattle.import.specs.scan.Kinds.{ExportOf};
 ghost use Rattle.import.specs.Allowed.{ImportPnmlAllows};
 ghost use Rattle.import.specs.Parts.{ImportedAs};
 
-use crate::scan::{Checked, check_text};
+use crate::scan::check_text;
 use crate::sheet::put_sheet;
 use grammar::State;
 use model::{Fault, Refusal, Thing, Version};
-use sheets::Emitted;
 use sheets::written::sheet_size;
 
 // What was written of a line: the state after it, where it ends, and the place after what was written; or there is no line.
-#[derive(Clone, Copy)]
-enum Wrote {
-    On(State, usize, usize),
-    End,
-}
+type Wrote = Option<(State, usize, usize)>;
 
-fn refused(thing: Thing, fault: Fault) -> Emitted
-    ensures { result ≡ Refused (wrong thing fault) }
+fn refused(thing: Thing, fault: Fault) -> Result<usize, Refusal>
+    ensures { result ≡ Err (wrong thing fault) }
 {
-    Emitted::Refused(Refusal { thing, fault })
+    Err(Refusal { thing, fault })
 }
 
 // 4, then 10, or the sheet: the text is an export, and `q` has its counts.
-fn import_export(text: &[u8], q: State, out: &mut [u8]) -> Emitted
+fn import_export(text: &[u8], q: State, out: &mut [u8]) -> Result<usize, Refusal>
     requires { ExportOf text.now q }
     ensures { ImportedAs text.now out.old result out.new }
 {
-    if 64 < q.places {
-        return refused(Thing::Argument, Fault::CountOutside(0));
-    }
-    if 64 < q.modes {
+    if 64 < q.places || 64 < q.modes {
         return refused(Thing::Argument, Fault::CountOutside(0));
     }
     let places = q.places as usize;
@@ -50,16 +41,15 @@ fn import_export(text: &[u8], q: State, out: &mut [u8]) -> Emitted
     if out.len() < size {
         return refused(Thing::Net, Fault::NoRoom);
     }
-    Emitted::Length(put_sheet(text, q, size, out))
+    Ok(put_sheet(text, q, size, out))
 }
 
 // Writes the net whose export the text is as a sheet of version 1, from the first byte of `out` on.
-pub fn import_pnml(text: &[u8], out: &mut [u8]) -> Emitted
+pub fn import_pnml(text: &[u8], out: &mut [u8]) -> Result<usize, Refusal>
     ensures { ImportPnmlAllows text.now out.old (result, out.new) }
 {
-    let checked = check_text(text);
-    match checked {
-        Checked::Refused(at) => refused(Thing::Net, Fault::NotAnExport(at)),
-        Checked::Ended(q, _) => import_export(text, q, out),
+    match check_text(text) {
+        Err(at) => refused(Thing::Net, Fault::NotAnExport(at)),
+        Ok(q) => import_export(text, q, out),
     }
 }

@@ -22,18 +22,12 @@ fn write_place(s: &[u8], at: usize, q: State, out: &mut [u8], next: usize) -> Wr
     requires { PlaceReady s.now q at out.old next }
     ensures { PlaceAllows s.now q at out.old next out.new result }
 {
-    let step = read_line(s, at, q);
-    match step {
-        Step::Placed(count, read) => {
-            let end = put_pair(out, next, 0xffff_ffff, count);
-            Wrote::On(after_place(q, count), read, end)
-        }
-        Step::Begun(_) => Wrote::End,
-        Step::PreArc(_, _, _) => Wrote::End,
-        Step::PostArc(_, _, _) => Wrote::End,
-        Step::Closed(_) => Wrote::End,
-        Step::Stopped(_) => Wrote::End,
-    }
+    let step = read_line(s, at, q).ok()?;
+    let Step::Placed(count, read) = step else {
+        return None;
+    };
+    let end = put_pair(out, next, 0xffff_ffff, count);
+    Some((after_place(q, count), read, end))
 }
 
 // The text is an export of q's counts: after its opening all its places follow.
@@ -51,17 +45,10 @@ pub(crate) fn put_places(s: &[u8], q: State, out: &mut [u8], at: usize) -> Place
     };
     let mut read = OPENING.len();
     let mut next = at;
-    loop {
-        let wrote = write_place(s, read, state, out, next);
-        match wrote {
-            Wrote::End => {
-                return Places { read, next };
-            }
-            Wrote::On(after, end, to) => {
-                state = after;
-                read = end;
-                next = to;
-            }
-        }
+    while let Some((after, end, to)) = write_place(s, read, state, out, next) {
+        state = after;
+        read = end;
+        next = to;
     }
+    Places { read, next }
 }

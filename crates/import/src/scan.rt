@@ -25,20 +25,13 @@ pub(crate) enum Kind {
     Post,
 }
 
-#[derive(Clone, Copy)]
-pub(crate) enum Headed {
-    Head(Kind, usize),
-    NoHead(usize),
-}
+// A kind of line and where its head ends, or the farthest position that a head goes to.
+pub(crate) type Headed = Result<(Kind, usize), usize>;
 
-// The pair, the weight and the end of an arc's line.
-#[derive(Clone, Copy)]
-pub(crate) enum Arced {
-    Arc(u32, u32, usize),
-    NoArc(usize),
-}
+// The pair, the weight and the end of an arc's line, or where none goes on so.
+pub(crate) type Arced = Result<(u32, u32, usize), usize>;
 
-// A line, the closing, or where no line goes on so.
+// A line or the closing, and where it ends.
 #[derive(Clone, Copy)]
 pub(crate) enum Step {
     Placed(u32, usize),
@@ -46,22 +39,10 @@ pub(crate) enum Step {
     PreArc(u32, u32, usize),
     PostArc(u32, u32, usize),
     Closed(usize),
-    Stopped(usize),
 }
 
-#[derive(Clone, Copy)]
-pub(crate) enum Moved {
-    On(State, usize),
-    AtEnd(usize),
-    Nowhere(usize),
-}
-
-// The state after the last line and the position after the closing, or where no export agrees any more.
-#[derive(Clone, Copy)]
-pub(crate) enum Checked {
-    Ended(State, usize),
-    Refused(usize),
-}
+// The state after a line, or none after the closing, and where it ends; or where no line goes on so.
+pub(crate) type Moved = Result<(Option<State>, usize), usize>;
 
 pub(crate) fn compare_opening(s: &[u8]) -> Literal
     ensures { Compares s.now 0 opening result }
@@ -70,26 +51,13 @@ pub(crate) fn compare_opening(s: &[u8]) -> Literal
 }
 
 // An export's counts, or the first byte (or the end) from which no export agrees with the text.
-pub(crate) fn check_text(s: &[u8]) -> Checked
+pub(crate) fn check_text(s: &[u8]) -> Result<State, usize>
     ensures { CheckAllows s.now result }
 {
-    let open = compare_opening(s);
-    match open {
-        Literal::Part(p) => Checked::Refused(p),
-        Literal::Whole(first) => {
-            if s.len() < first {
-                return Checked::Refused(first);
-            }
-            let lines = read_lines(s, first);
-            match lines {
-                Checked::Refused(p) => Checked::Refused(p),
-                Checked::Ended(q, next) => {
-                    if next < s.len() {
-                        return Checked::Refused(next);
-                    }
-                    Checked::Ended(q, next)
-                }
-            }
-        }
+    let first = compare_opening(s)?;
+    let (q, next) = read_lines(s, first)?;
+    if next < s.len() {
+        return Err(next);
     }
+    Ok(q)
 }

@@ -16,10 +16,8 @@ fn put_ones(out: &mut [u8], at: usize, n: usize) -> usize
     ensures { Puts out.old at (ones_bytes n) out.new result }
 {
     let mut next = at;
-    let mut i = 0;
-    while i < n {
+    for i in 0..n {
         next = put_count(out, next, 1);
-        i += 1;
     }
     next
 }

@@ -14,7 +14,7 @@ use Rattle.model.specs.declared.Why.{Why}
 use Rattle.model.specs.declared.Why.TheVariants.{Lacking, OverCapacity, Inhibited, OverLimit}
 use Rattle.model.specs.declared.Fault.TheVariants.{NotThere}
 use Rattle.model.specs.declared.Refusal.{Refusal}
-use Rattle.model.specs.declared.Answer.TheVariants.{Refused}
+use Rattle.std.specs.Prelude.{Err}
 use Rattle.model.specs.First.{◌▸◌, only_if, first, Lowest, NoneBelow}
 use Rattle.model.specs.Refusals.{thing_number, carries_by, carried}
 use Rattle.model.specs.RefusalTables.{Table, row as table_row, each, Reads, one_each_table, marking_table, missing_table, mode_table}
@@ -213,7 +213,7 @@ module _ (about : Thing) (net : PNet) (t : Mode) (m : List ℕ) where
   limit_stop = stop about (pairs net) (rooms net (row net t)) (row net t) (count m) OverLimit
 
   stop-reads : (why : Why)
-      → Reads (each (pairs net) (λ p. table_row (Stops why (row net t p) (rooms net (row net t) p) (count m p)) (carried (Refused (stop about (pairs net) (rooms net (row net t)) (row net t) (count m) why p)))))
+      → Reads (each (pairs net) (λ p. table_row (Stops why (row net t p) (rooms net (row net t) p) (count m p)) (carried (Err (stop about (pairs net) (rooms net (row net t)) (row net t) (count m) why p)))))
       (lowest_stop about (pairs net) (rooms net (row net t)) (row net t) (count m) why)
   stop-reads why =
       reads-each (pairs net) (λ p l. let c = compared why (row net t p) (rooms net (row net t) p) (count m p) in reads_plain _ (by-above c.number c.bound))

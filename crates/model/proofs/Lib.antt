@@ -7,3 +7,4 @@ pub mod ShortOrOver
 pub mod Refusals
 pub mod Decisions
 pub mod RefusalTables
+pub mod Asking

@@ -9,8 +9,8 @@ use Rattle.model.specs.declared.Why.{Why}
 use Rattle.model.specs.declared.Why.TheVariants.{Lacking, OverCapacity, Inhibited, OverLimit}
 use Rattle.model.specs.declared.Fault.{Fault}
 use Rattle.model.specs.declared.Fault.TheVariants.{CutShort, WrongVersion, WrongLength, CountOutside, NumberOutside, MarkingOutside, NotThereAt, NotThere, NotRising, Blank, StartAboveCapacity, MarkingAboveCapacity, NoRoom, Stopped, InhibitedUnbounded, NotOneEach, EndsElsewhere, NotUnbounded, NotAnExport, Unbalanced, EqualFigures, RuleLost, FigurePast, RecordOutside}
-use Rattle.model.specs.declared.Answer.{Answer}
-use Rattle.model.specs.declared.Answer.TheVariants.{Accepted, Refused}
+use Rattle.model.specs.Refusals.{Answer}
+use Rattle.std.specs.Prelude.{Ok, Err}
 use Rattle.model.specs.Refusals.{answer, line, number, amount}
 use Rattle.model.specs.Numbers.{ℕ∞, fin, ∞, Above, above_by}
 use Rattle.model.specs.Rows.{Row, Capacities, Counts}
@@ -48,8 +48,8 @@ other-numbers FigurePast h = refl
 other-numbers RecordOutside h = refl
 
 answers_zero : (a : Answer) → (number a < 11) ⊎ (14 < number a) → amount a ≡ 0
-answers_zero Accepted h = refl
-answers_zero (Refused r) h = other-numbers r.fault h
+answers_zero (Ok tt) h = refl
+answers_zero (Err r) h = other-numbers r.fault h
 
 above-some : (n : ℕ) (b : ℕ∞) → Above n b → 0 < above_by n b
 above-some n (fin k) h = omega arith

@@ -4,7 +4,7 @@ use Rattle.std.specs.Prelude.{ℕ, ◌<◌, ◌≡◌, List, ◌↔◌, ◌⊎�
 use Rattle.std.proofs.Math.Option.{none}
 use Rattle.model.specs.declared.Mode.{Mode}
 use Rattle.model.specs.declared.Thing.{Thing}
-use Rattle.model.specs.declared.Answer.{Answer}
+use Rattle.model.specs.Refusals.{Answer}
 use Rattle.model.specs.Refusals.{answer, number, amount, thing_number}
 use Rattle.model.specs.RefusalTables.{marking_table, mode_table, Reads}
 use Rattle.model.specs.Rows.{Row, Capacities, Counts}

@@ -7,17 +7,20 @@ use Rattle.model.specs.declared.Why.TheVariants.{Lacking, OverCapacity, Inhibite
 use Rattle.model.specs.declared.Fault.{Fault}
 use Rattle.model.specs.declared.Fault.TheVariants.{CutShort, WrongVersion, WrongLength, CountOutside, NumberOutside, MarkingOutside, NotThereAt, NotThere, NotRising, Blank, StartAboveCapacity, MarkingAboveCapacity, NoRoom, Stopped, InhibitedUnbounded, NotOneEach, EndsElsewhere, NotUnbounded, NotAnExport, Unbalanced, EqualFigures, RuleLost, FigurePast, RecordOutside}
 use Rattle.model.specs.declared.Refusal.{Refusal}
-use Rattle.model.specs.declared.Answer.{Answer}
-use Rattle.model.specs.declared.Answer.TheVariants.{Accepted, Refused}
+use Rattle.std.specs.Prelude.{Result, Ok, Err}
 
 -- what is wrong, and in which thing
 abbrev pub wrong : Thing → Fault → Refusal
 wrong thing fault = record { thing = thing; fault = fault }
 
+-- accepted, or refused and why
+abbrev pub Answer : Type 0
+Answer = Result Unit Refusal
+
 -- the answer to a call: its first refusal, if there is one
 abbrev pub answer : Option Refusal → Answer
-answer none = Accepted
-answer (some r) = Refused r
+answer none = Ok tt
+answer (some r) = Err r
 
 pub record Line : Type 0 where
   pub number : ℕ
@@ -62,16 +65,16 @@ line FigurePast = says 24 0
 line RecordOutside = says 25 0
 
 abbrev pub number : Answer → ℕ
-number Accepted = 0
-number (Refused r) = (line r.fault).number
+number (Ok tt) = 0
+number (Err r) = (line r.fault).number
 
 abbrev pub position : Answer → ℕ
-position Accepted = 0
-position (Refused r) = (line r.fault).position
+position (Ok tt) = 0
+position (Err r) = (line r.fault).position
 
 abbrev pub amount : Answer → ℕ
-amount Accepted = 0
-amount (Refused r) = (line r.fault).amount
+amount (Ok tt) = 0
+amount (Err r) = (line r.fault).amount
 
 abbrev pub thing_number : Thing → ℕ
 thing_number Net = 0
@@ -84,8 +87,8 @@ abbrev pub always_net : ℕ → Bool
 always_net n = eqb n 0 || eqb n 10 || eqb n 15 || eqb n 16 || ltb 18 n
 
 abbrev pub thing : Answer → ℕ
-thing Accepted = 0
-thing (Refused r) = cond (always_net (line r.fault).number) 0 (thing_number r.thing)
+thing (Ok tt) = 0
+thing (Err r) = cond (always_net (line r.fault).number) 0 (thing_number r.thing)
 
 -- "Every answer carries the number, which thing was at fault (0 net, also for numbers 0, 10, 15, 16 and any above 18; 1 weights; 2 movements, also one that a
 -- run or certificate refuses; 3 marking, claim or any other argument) and a position, 0 where none is named." Document 02, P3: and an amount.

@@ -36,6 +36,21 @@ pub enum CapacityRule {
     Weak,
 }
 
+// "Rule byte 1 in version 2 means M + Post ≤ K + Pre" (document 02, P10)
+impl From<CapacityRule> for u8 {
+    ghost use Rattle.std.specs.Prelude.{◌≡◌};
+    ghost use Rattle.model.specs.Nets.{rule_number};
+
+    ghost from_gives = { λ rule byte. byte ≡ rule_number rule };
+
+    fn from(rule: CapacityRule) -> u8 {
+        match rule {
+            CapacityRule::Strong => 0,
+            CapacityRule::Weak => 1,
+        }
+    }
+}
+
 // Which thing was at fault: 0 to 3 of document 01, "Refusal numbers".
 #[derive(Clone, Copy)]
 pub enum Thing {
@@ -90,8 +105,5 @@ pub struct Refusal {
     pub fault: Fault,
 }
 
-#[derive(Clone, Copy)]
-pub enum Answer {
-    Accepted,
-    Refused(Refusal),
-}
+// Accepted, or refused and why.
+pub type Answer = Result<(), Refusal>;

@@ -4,11 +4,11 @@ use mathlib.Core.Path.{◌≡◌, sym, ◌∙◌, subst}
 use mathlib.Core.Bool.{true, false}
 use mathlib.Core.List.{List}
 use mathlib.Core.Logic.{◌↔◌, ⊎_elim}
-use lib.Dec.{ltb}
+use lib.Dec.{ltb, eqb}
 use lib.ListN.{length, get_or, set, length-set}
 use lib.Seq.{get_or-set_same, get_or-set_other}
 use native.Mathlib.Omega.{arith}
-use borrow.Author.Tests.{ltb-true, lt-ltb}
+use borrow.Author.Tests.{ltb-true, lt-ltb, eqb-false}
 use Rattle.model.specs.declared.Arc.{Arc}
 use Rattle.model.specs.Numbers.{limit}
 use Rattle.model.specs.Nets.{NetArc, PNet, modes, arc_no}
@@ -25,7 +25,7 @@ use Rattle.opened.specs.declared.starts.Segment.{Segment}
 use Rattle.opened.specs.Starts.{ModeArcs}
 use Rattle.rule.specs.AtPair.{Unstopped}
 use Rattle.rule.proofs.FourTests.{clash}
-use Rattle.numbers.specs.Numbers.{number_of, NumbersBelow, NumbersAre}
+use Rattle.numbers.specs.Numbers.{number_of, NumbersBelow, NumbersAre, Numbered}
 
 -- the number of an arc that was read is that of the arc of the net
 pub number_is : {s : List ℕ} {net : NetShape} {k : ℕ} {a : Arc} (x : ℕ) {r : ℕ} → ArcIs s net k a → bound x ≡ room_at (net_of s) (net_arc a)
@@ -81,6 +81,10 @@ module _ (net : PNet) (numbers : List ℕ) where
   pub numbers-all : WellFormed net → (t : ℕ) → modes net ≤ t → length net.arcs ≤ 2048 → NumbersBelow net numbers t → NumbersAre net numbers
   numbers-all well t h few below =
       record { long = omega (arith, below.long); each = λ k l. below.each k l (omega (arith, (well.each_arc k l).mode)) }
+
+-- a table that is not empty is there
+pub numbers_there : {s : List ℕ} {net : NetShape} {numbers : List ℕ} → Numbered s net numbers → eqb (length numbers) 0 ≡ false → NumbersAre (net_of s) numbers
+numbers_there {numbers = numbers} numbered e = let some = eqb-false (length numbers) 0 e in numbered.numbers_are (omega arith)
 
 -- an arc that was read, at a count: nothing stops its mode there exactly when the count is at least Pre and below the arc's number
 module _ (net : PNet) (k : ℕ) (a : Arc) (is : net_arc a ≡ arc_no net.arcs k) (post : a.post ≤ limit) (c : ℕ) where

@@ -1,5 +1,4 @@
 pub mod Shape
-pub mod Opened
 pub mod Starts
 pub mod Read
 pub mod size

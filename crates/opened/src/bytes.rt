@@ -2,13 +2,11 @@
 ghost use Rattle.std.specs.Prelude.{◌≡◌, ◌+◌, ◌<◌, ◌≤◌, length};
 ghost use Rattle.heads.specs.Bytes.{u16_at};
 
-use heads::bytes::wide16;
-
 // A number of 2 bytes that is below 256: its second byte.
 pub(crate) fn small_at(s: &[u8], at: usize) -> u16
     requires at_in_bounds { at + 2 ≤ length s.now }
     requires at_bound { u16_at s.now at < 256 }
     ensures { result ≡ u16_at s.now at }
 {
-    wide16(s[at + 1])
+    u16::from(s[at + 1])
 }

@@ -9,34 +9,18 @@ ghost use Rattle.model.specs.Firing.{absent};
 ghost use Rattle.second_form.specs.Dead.{pre_room, kills as kills_here, is_dead, first_dead};
 ghost use Rattle.fields.specs.Numbers.{bound};
 ghost use Rattle.sheets.specs.Decoded.{net_of, net_arc};
-ghost use Rattle.opened.specs.Shape.{Open};
 ghost use Rattle.opened.specs.Starts.{StartsAre, ModeArcs, SegmentOf};
 ghost use Rattle.opened.specs.dead.IsDead.{deadness};
-ghost use Rattle.opened.specs.dead.FirstDead.{named};
+ghost use Rattle.opened.specs.dead.FirstDead.{name};
 ghost use Rattle.opened.specs.dead.Allowed.{IsDeadAllows, FirstDeadAllows};
 
 use crate::arcs::arc;
-use crate::shape::{NetShape, capacity};
+use crate::open::OpenNet;
+use crate::open_net;
+use crate::shape::capacity;
 use crate::starts::{Segment, arcs_of, find_arcs, starts};
-use crate::{Opened, open_net};
-use fields::numbers::{above_bound, least};
+use fields::numbers::above_bound;
 use model::{Arc, CapacityRule, Fault, Mode, Pair, Refusal, Thing};
-
-// "gives yes or no", or why not.
-#[derive(Clone, Copy)]
-pub enum Deadness {
-    Dead,
-    Alive,
-    Refused(Refusal),
-}
-
-// The "lowest locally dead mode with the lowest pair that makes it so, or none".
-#[derive(Clone, Copy)]
-pub enum FirstDead {
-    At(Mode, Pair),
-    None,
-    Refused(Refusal),
-}
 
 // "K less Post": unbounded where K is, 0 where Post is above K.
 fn less(capacity: u32, post: u32) -> u32
@@ -65,132 +49,96 @@ fn pre_room(rule: CapacityRule, capacity: u32, arc: Arc) -> u32
 fn highest_pre(room: u32, inhibitor: u32) -> u32
     ensures { bound result ≡ least_of (bound room) (bound inhibitor) }
 {
-    least(room, inhibitor)
+    room.min(inhibitor)
 }
 
 // "Pre is above the least .., or Post is above K", by a rule, of an arc at a pair of this K.
 fn kills_by(rule: CapacityRule, most: u32, arc: Arc) -> bool
     ensures { result ≡ kills_here rule (net_arc arc).entry (bound most) }
 {
-    if above_bound(
-        arc.pre,
-        highest_pre(pre_room(rule, most, arc), arc.inhibitor),
-    ) {
-        return true;
-    }
-    above_bound(arc.post, most)
+    let room = pre_room(rule, most, arc);
+    above_bound(arc.pre, highest_pre(room, arc.inhibitor)) || above_bound(arc.post, most)
 }
 
 // An arc that spares its mode by document 01's rule spares it by the weak one: the net's own rule is asked of the others alone.
-pub fn kills(s: &[u8], net: NetShape, arc: Arc) -> bool
-    requires fact { Open s.now net }
-    requires pair_lt_pairs { arc.pair.0 < net.pairs }
-    ensures { result ≡ kills_here (net_of s.now).rule (net_arc arc).entry (K (net_of s.now) arc.pair.0) }
+pub fn kills(net: &OpenNet, arc: Arc) -> bool
+    requires pair_lt_pairs { arc.pair.0 < net.now.shape.pairs }
+    ensures { result ≡ kills_here (net_of net.now.sheet.now).rule (net_arc arc).entry (K (net_of net.now.sheet.now) arc.pair.0) }
 {
-    let rule = net.rule;
-    let pair = arc.pair;
-    let most = capacity(s, net, pair);
-    if !kills_by(CapacityRule::Strong, most, arc) {
-        return false;
-    }
-    kills_by(rule, most, arc)
+    let most = capacity(net, arc.pair);
+    kills_by(CapacityRule::Strong, most, arc) && kills_by(net.shape.rule, most, arc)
 }
 
 // Dead by the arcs of a mode: looked for there alone, since nothing is above a bound where there is none.
-fn dead_by(s: &[u8], net: NetShape, arcs: Segment) -> bool
-    requires fact { Open s.now net }
-    requires mode_arcs { ModeArcs (net_of s.now).arcs arcs.mode arcs.start arcs.count }
-    ensures { result ≡ is_dead (net_of s.now) arcs.mode }
+fn dead_by(net: &OpenNet, arcs: Segment) -> bool
+    requires mode_arcs { ModeArcs (net_of net.now.sheet.now).arcs arcs.mode arcs.start arcs.count }
+    ensures { result ≡ is_dead (net_of net.now.sheet.now) arcs.mode }
 {
-    let count = arcs.count;
-    let mut i = 0;
-    while i < count {
-        if kills(s, net, arc(s, net, arcs, i)) {
+    for i in 0..arcs.count {
+        if kills(net, arc(net, arcs, i)) {
             return true;
         }
-        i += 1;
     }
     false
 }
 
-fn dead_at(s: &[u8], net: NetShape, mode: Mode) -> bool
-    requires fact { Open s.now net }
-    requires mode_lt_modes { mode.0 < net.modes }
-    ensures { result ≡ is_dead (net_of s.now) mode }
+fn dead_at(net: &OpenNet, mode: Mode) -> bool
+    requires mode_lt_modes { mode.0 < net.now.shape.modes }
+    ensures { result ≡ is_dead (net_of net.now.sheet.now) mode }
 {
-    dead_by(s, net, find_arcs(s, net, mode))
+    dead_by(net, find_arcs(net, mode))
 }
 
 // The arcs of the t-th mode.
-fn arcs_at(s: &[u8], net: NetShape, table: &[u16; 257], t: usize) -> Segment
-    requires fact { Open s.now net }
-    requires starts_are { StartsAre (net_of s.now).arcs table.now }
-    requires t_lt_modes { (t < net.modes) × (net.modes ≤ 256) }
-    ensures { SegmentOf (net_of s.now).arcs (mode_no t) result }
+fn arcs_at(net: &OpenNet, table: &[u16; 257], t: usize) -> Segment
+    requires starts_are { StartsAre (net_of net.now.sheet.now).arcs table.now }
+    requires t_lt_modes { (t < net.now.shape.modes) × (net.now.shape.modes ≤ 256) }
+    ensures { SegmentOf (net_of net.now.sheet.now).arcs (mode_no t) result }
 {
-    arcs_of(s, net, table, Mode(t as u16))
+    arcs_of(net, table, Mode(t as u16))
 }
 
 // The searches over modes and over their arcs both stop at the first fault; each arc is visited at most once.
-fn search(s: &[u8], net: NetShape) -> FirstDead
-    requires { Open s.now net }
-    ensures { result ≡ named none (first_dead (net_of s.now)) }
+fn search(net: &OpenNet) -> Option<(Mode, Pair)>
+    ensures { result ≡ name (first_dead (net_of net.now.sheet.now)) }
 {
-    let table = starts(s, net);
-    let modes = net.modes;
-    let mut found = FirstDead::None;
-    let mut t = 0;
-    'search: while t < modes {
-        let arcs = arcs_at(s, net, &table, t);
-        let count = arcs.count;
-        let mut i = 0;
-        while i < count {
-            let here = arc(s, net, arcs, i);
-            if kills(s, net, here) {
-                let mode = here.mode;
-                let pair = here.pair;
-                found = FirstDead::At(mode, pair);
+    let table = starts(net);
+    let mut found = None;
+    'search: for t in 0..net.shape.modes {
+        let arcs = arcs_at(net, &table, t);
+        for i in 0..arcs.count {
+            let here = arc(net, arcs, i);
+            if kills(net, here) {
+                found = Some((here.mode, here.pair));
                 break 'search;
             }
-            i += 1;
         }
-        t += 1;
     }
     found
 }
 
-fn mode_answer(s: &[u8], net: NetShape, mode: Mode) -> Deadness
-    requires { Open s.now net }
-    ensures { result ≡ deadness (absent Argument (modes (net_of s.now)) mode) (is_dead (net_of s.now) mode) }
+fn mode_answer(net: &OpenNet, mode: Mode) -> Result<bool, Refusal>
+    ensures { result ≡ deadness (absent Argument (modes (net_of net.now.sheet.now)) mode) (is_dead (net_of net.now.sheet.now) mode) }
 {
-    if net.modes <= mode.0 as usize {
-        return Deadness::Refused(Refusal {
+    if net.shape.modes <= mode.0 as usize {
+        return Err(Refusal {
             thing: Thing::Argument,
             fault: Fault::NotThere,
         });
     }
-    if dead_at(s, net, mode) {
-        return Deadness::Dead;
-    }
-    Deadness::Alive
+    Ok(dead_at(net, mode))
 }
 
-pub fn is_dead(net: &[u8], mode: Mode) -> Deadness
+pub fn is_dead(net: &[u8], mode: Mode) -> Result<bool, Refusal>
     ensures { IsDeadAllows net.now mode result }
 {
-    let opened = open_net(net);
-    match opened {
-        Opened::Refused(refusal) => Deadness::Refused(refusal),
-        Opened::Open(shape) => mode_answer(net, shape, mode),
-    }
+    let net = open_net(net)?;
+    mode_answer(&net, mode)
 }
 
-pub fn first_dead(net: &[u8]) -> FirstDead
+pub fn first_dead(net: &[u8]) -> Result<Option<(Mode, Pair)>, Refusal>
     ensures { FirstDeadAllows net.now result }
 {
-    let opened = open_net(net);
-    match opened {
-        Opened::Refused(refusal) => FirstDead::Refused(refusal),
-        Opened::Open(shape) => search(net, shape),
-    }
+    let net = open_net(net)?;
+    Ok(search(&net))
 }

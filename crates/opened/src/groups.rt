@@ -29,10 +29,8 @@ pub(crate) fn arcs_before(s: &[u8], base: usize, n: usize) -> usize
     ensures { Before s.now base n result }
 {
     let mut k = 0;
-    let mut t = 0;
-    while t < n {
+    for t in 0..n {
         k = group_end(s, base, t, k);
-        t += 1;
     }
     k
 }

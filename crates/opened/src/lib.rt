@@ -7,32 +7,27 @@ pub mod dead;
 pub mod finite;
 mod groups;
 pub mod listed;
+pub mod open;
 mod rule;
 pub mod shape;
 pub mod size;
 pub mod starts;
 
-ghost use Rattle.std.specs.Prelude.{◌≡◌};
-ghost use Rattle.opened.specs.Shape.{shape_of};
+ghost use Rattle.std.specs.Prelude.{◌≡◌, MatchResult};
+ghost use Rattle.std.proofs.Math.Option.{none, some};
 ghost use Rattle.sheets.specs.Whole.{whole_net};
-ghost use Rattle.opened.specs.Opened.{opened};
 
-use crate::shape::{NetShape, shape_of};
-use model::{Answer, Refusal};
+use crate::open::OpenNet;
+use crate::shape::shape_of;
+use model::Refusal;
 use sheets::whole::whole_net;
 
-#[derive(Clone, Copy)]
-pub enum Opened {
-    Open(NetShape),
-    Refused(Refusal),
-}
-
-pub fn open_net(s: &[u8]) -> Opened
-    ensures { result ≡ opened (whole_net s.now) (shape_of s.now) }
+pub fn open_net(s: &[u8]) -> Result<OpenNet, Refusal>
+    ensures { MatchResult result (λ net. (whole_net s.now ≡ none) × (net.sheet.now ≡ s.now)) (λ r. whole_net s.now ≡ some r) }
 {
-    let answer = whole_net(s);
-    match answer {
-        Answer::Refused(refusal) => Opened::Refused(refusal),
-        Answer::Accepted => Opened::Open(shape_of(s)),
-    }
+    whole_net(s)?;
+    Ok(OpenNet {
+        sheet: s,
+        shape: shape_of(s),
+    })
 }

@@ -7,9 +7,10 @@ ghost use Rattle.heads.specs.Layout.{pairs_offset, pair_at};
 ghost use Rattle.fields.specs.Numbers.{bound};
 ghost use Rattle.sheets.specs.nets.Nets.{net_refusal};
 ghost use Rattle.sheets.specs.Decoded.{net_of};
-ghost use Rattle.opened.specs.Shape.{shape_of, Open};
+ghost use Rattle.opened.specs.Shape.{shape_of};
 
 use crate::groups::count_arcs;
+use crate::open::OpenNet;
 use crate::rule::rule_of;
 use fields::read::count_at;
 use heads::bytes::u32_at;
@@ -60,46 +61,44 @@ pub fn shape_of(s: &[u8]) -> NetShape
 }
 
 // How many colours a place has.
-pub fn colours_of(s: &[u8], net: NetShape, place: usize) -> usize
-    requires fact { Open s.now net }
-    requires place_lt_places { place < net.places }
-    ensures { (result ≡ get_or (net_of s.now).colours place 0) × (1 ≤ result) × (result ≤ 64) }
+pub fn colours_of(net: &OpenNet, place: usize) -> usize
+    requires place_lt_places { place < net.now.shape.places }
+    ensures { (result ≡ get_or (net_of net.now.sheet.now).colours place 0) × (1 ≤ result) × (result ≤ 64) }
 {
-    count_at(s, fields_at(s) + 4 + 2 * place)
+    count_at(net.sheet, fields_at(net.sheet) + 4 + 2 * place)
 }
 
 // How many modes a transition has.
-pub fn modes_of(s: &[u8], net: NetShape, transition: usize) -> usize
-    requires fact { Open s.now net }
-    requires transition_lt_transitions { transition < net.transitions }
-    ensures { (result ≡ get_or (net_of s.now).modes_of transition 0) × (1 ≤ result) × (result ≤ 64) }
+pub fn modes_of(net: &OpenNet, transition: usize) -> usize
+    requires transition_lt_transitions { transition < net.now.shape.transitions }
+    ensures { (result ≡ get_or (net_of net.now.sheet.now).modes_of transition 0) × (1 ≤ result) × (result ≤ 64) }
 {
-    count_at(s, fields_at(s) + 4 + 2 * net.places + 2 * transition)
+    count_at(
+        net.sheet,
+        fields_at(net.sheet) + 4 + 2 * net.shape.places + 2 * transition,
+    )
 }
 
 // Where the pair's K stands, and after it the first marking: the position of refusal 19 at a pair.
-pub fn pair_at(s: &[u8], net: NetShape, pair: Pair) -> usize
-    requires fact { Open s.now net }
-    requires pair_lt_pairs { pair.0 < net.pairs }
-    ensures { (result ≡ pair_at (pairs_offset s.now) pair.0) × (result + 8 ≤ length s.now) }
+pub fn pair_at(net: &OpenNet, pair: Pair) -> usize
+    requires pair_lt_pairs { pair.0 < net.now.shape.pairs }
+    ensures { (result ≡ pair_at (pairs_offset net.now.sheet.now) pair.0) × (result + 8 ≤ length net.now.sheet.now) }
 {
-    net.pairs_at + 8 * (pair.0 as usize)
+    net.shape.pairs_at + 8 * (pair.0 as usize)
 }
 
 // K of a pair, as the sheet writes it: 4,294,967,295 is unbounded.
-pub fn capacity(s: &[u8], net: NetShape, pair: Pair) -> u32
-    requires fact { Open s.now net }
-    requires pair_lt_pairs { pair.0 < net.pairs }
-    ensures { bound result ≡ K (net_of s.now) pair.0 }
+pub fn capacity(net: &OpenNet, pair: Pair) -> u32
+    requires pair_lt_pairs { pair.0 < net.now.shape.pairs }
+    ensures { bound result ≡ K (net_of net.now.sheet.now) pair.0 }
 {
-    u32_at(s, pair_at(s, net, pair))
+    u32_at(net.sheet, pair_at(net, pair))
 }
 
 // The first marking's count at a pair.
-pub fn start_count(s: &[u8], net: NetShape, pair: Pair) -> u32
-    requires fact { Open s.now net }
-    requires pair_lt_pairs { pair.0 < net.pairs }
-    ensures { (result ≡ count (net_of s.now).start pair.0) × (result ≤ limit) }
+pub fn start_count(net: &OpenNet, pair: Pair) -> u32
+    requires pair_lt_pairs { pair.0 < net.now.shape.pairs }
+    ensures { (result ≡ count (net_of net.now.sheet.now).start pair.0) × (result ≤ limit) }
 {
-    u32_at(s, pair_at(s, net, pair) + 4)
+    u32_at(net.sheet, pair_at(net, pair) + 4)
 }

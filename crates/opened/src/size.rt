@@ -1,12 +1,11 @@
 // How large a net is, so that no caller looks into its sheet: how many counts its markings have, and which modes there are.
 ghost use Rattle.std.specs.Prelude.{◌≡◌};
 ghost use Rattle.sheets.specs.Decoded.{net_of};
-ghost use Rattle.opened.specs.Shape.{Open};
 ghost use Rattle.opened.specs.size.Sizes.{size_of};
 ghost use Rattle.opened.specs.size.Allowed.{SizeAllows};
 
-use crate::shape::NetShape;
-use crate::{Opened, open_net};
+use crate::open::OpenNet;
+use crate::open_net;
 use model::Refusal;
 
 #[derive(Clone, Copy)]
@@ -16,30 +15,19 @@ pub struct NetSize {
     pub arcs: usize,
 }
 
-// How large, or why not.
-#[derive(Clone, Copy)]
-pub enum Measured {
-    Is(NetSize),
-    Refused(Refusal),
-}
-
-fn size_of(s: &[u8], net: NetShape) -> NetSize
-    requires { Open s.now net }
-    ensures { result ≡ size_of (net_of s.now) }
+fn size_of(net: &OpenNet) -> NetSize
+    ensures { result ≡ size_of (net_of net.now.sheet.now) }
 {
     NetSize {
-        pairs: net.pairs,
-        modes: net.modes,
-        arcs: net.arcs,
+        pairs: net.shape.pairs,
+        modes: net.shape.modes,
+        arcs: net.shape.arcs,
     }
 }
 
-pub fn size(net: &[u8]) -> Measured
+pub fn size(net: &[u8]) -> Result<NetSize, Refusal>
     ensures { SizeAllows net.now result }
 {
-    let opened = open_net(net);
-    match opened {
-        Opened::Refused(refusal) => Measured::Refused(refusal),
-        Opened::Open(shape) => Measured::Is(size_of(net, shape)),
-    }
+    let net = open_net(net)?;
+    Ok(size_of(&net))
 }

@@ -10,7 +10,7 @@ ghost use Rattle.progress.specs.Progress.{Tables, Accepts};
 
 use numbers::trying::{tried_arcs, try_movement};
 use opened::listed::mode_at;
-use opened::shape::NetShape;
+use opened::open::OpenNet;
 
 // How far a run has come: the movements accepted, and the arcs visited, those of a refused movement too.
 #[derive(Clone, Copy)]
@@ -22,8 +22,7 @@ pub struct Progress {
 // How many movements are accepted, up to the first that is refused: which refusal it is, is looked for once, after the loop.
 // The sum of at most 8,192 movements of at most 2,048 arcs does not wrap.
 pub fn count_accepted(
-    s: &[u8],
-    net: NetShape,
+    net: &OpenNet,
     starts: &[u16; 257],
     numbers: &[u32],
     movements: &[u8],
@@ -31,27 +30,25 @@ pub fn count_accepted(
     count: usize,
     marking: &mut [u32],
 ) -> Progress
-    requires tables { Tables s.now net starts.now numbers.now }
+    requires tables { Tables net.now.sheet.now net.now.shape starts.now numbers.now }
     requires modes_stand { ModesStand movements.now start count }
     requires count_le_most_movements { count ≤ most_movements }
-    requires marking { Marking (net_of s.now) marking.old }
-    ensures { Accepts (net_of s.now) (modes_from movements.now start count) marking.old result marking.new }
+    requires marking { Marking (net_of net.now.sheet.now) marking.old }
+    ensures { Accepts (net_of net.now.sheet.now) (modes_from movements.now start count) marking.old result marking.new }
 {
-    let mut k = 0;
     let mut visited = 0;
-    while k < count {
-        let arcs = tried_arcs(s, net, starts, mode_at(movements, start, k));
+    for k in 0..count {
+        let arcs = tried_arcs(net, starts, mode_at(movements, start, k));
         visited += arcs.count;
-        if !try_movement(s, net, numbers, arcs, marking) {
+        if !try_movement(net, numbers, arcs, marking) {
             return Progress {
                 accepted: k,
                 visited,
             };
         }
-        k += 1;
     }
     Progress {
-        accepted: k,
+        accepted: count,
         visited,
     }
 }

@@ -22,7 +22,7 @@ use Rattle.model.specs.declared.CapacityRule.TheVariants.{Strong, Weak}
 use Rattle.model.specs.declared.Version.{Version}
 use Rattle.model.specs.declared.Version.TheVariants.{One, Two}
 use Rattle.model.specs.declared.Refusal.{Refusal}
-use Rattle.model.specs.declared.Answer.TheVariants.{Refused}
+use Rattle.std.specs.Prelude.{Err}
 use Rattle.model.specs.First.{◌▸◌, first, only_if}
 use Rattle.model.specs.Refusals.{carries, carried, wrong, thing_number}
 use Rattle.model.specs.RefusalTables.{Table, row, ◌then◌, each, Reads}
@@ -157,9 +157,9 @@ module _ (net movements marking : List ℕ) where
 module _ (net : PNet) (ts : List Mode) (m : List ℕ) where
   sums-read : (why : Why) {P : ℕ → Type 0} {by : ℕ → ℕ} → ((p : ℕ) → Decided (stops why (together net ts p) (rooms net (together net ts) p) (count m p)) (P p))
       → ((p : ℕ) → by p ≡ stopped_by why (together net ts p) (rooms net (together net ts) p) (count m p))
-      → Reads (each (pairs net) (λ p. row (P p) (carried (Refused (stopped Argument why p (by p))))))
+      → Reads (each (pairs net) (λ p. row (P p) (carried (Err (stopped Argument why p (by p))))))
       (lowest_stop Argument (pairs net) (rooms net (together net ts)) (together net ts) (count m) why)
-  sums-read why d same = reads-each (pairs net) (λ p l. reads-row _ (d p) (λ h. ap (λ n. carried (Refused (stopped Argument why p n))) (same p)))
+  sums-read why d same = reads-each (pairs net) (λ p l. reads-row _ (d p) (λ h. ap (λ n. carried (Err (stopped Argument why p n))) (same p)))
 
   step-reads : Reads (step_table net ts m) (step_refusal net ts m)
   unfolding step_refusal row_refusal rule_refusal

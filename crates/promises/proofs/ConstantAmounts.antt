@@ -1,4 +1,6 @@
 -- Of document 01's own example: what is accepted carries 0, and what is refused another amount.
+use Rattle.run.specs.declared.salvage.Report.{Report}
+use Rattle.std.specs.Prelude.{Result, Ok, Err}
 use Prim.Native.Nat.{ℕ, ◌<◌}
 use mathlib.Core.Path.{◌≡◌, refl, ◌∙◌, ap}
 use mathlib.Core.List.{List, [], ◌∷◌}
@@ -6,15 +8,13 @@ use mathlib.Core.Option.{Option}
 use native.Mathlib.Omega.{arith}
 use Rattle.model.specs.declared.Mode.{Mode}
 use Rattle.model.specs.declared.Refusal.{Refusal}
-use Rattle.model.specs.declared.Answer.{Answer}
+use Rattle.model.specs.Refusals.{Answer}
 use Rattle.model.specs.Refusals.{answer, amount}
 use Rattle.model.specs.Nets.{mode_no}
 use Rattle.fire.specs.Allowed.{TestAllows, FireAllows}
 use Rattle.fire.specs.step.Allowed.{TestStepAllows, FireStepAllows}
 use Rattle.run.specs.Allowed.{RunAllows, CertifyAllows}
 use Rattle.answers.specs.declared.Answered.{Answered}
-use Rattle.run.specs.declared.salvage.Salvaged.{Salvaged}
-use Rattle.run.specs.declared.salvage.Salvaged.TheVariants.{Written, Refused}
 use Rattle.run.specs.salvage.Salvaged as salvaging
 use Rattle.run.specs.salvage.Allowed.{SalvageAllows}
 use Rattle.answers.specs.declared.Tallied.{Tallied}
@@ -67,9 +67,9 @@ salvage-varies =
     (λ o a. ap stop_by (a.0 ∙ salvages-whole)) (λ o a. ap stop_by (a.0 ∙ salvages-three))
 
 -- what the calls for C tell
-stop-told : (x : Salvaged) → (reported (salvaging.told x)).stop.amount ≡ stop_by x
-stop-told (Written report) = refl
-stop-told (Refused r) = refl
+stop-told : (x : Result Report Refusal) → (reported (salvaging.told x)).stop.amount ≡ stop_by x
+stop-told (Ok report) = refl
+stop-told (Err r) = refl
 
 module _ {I O P : Type 0} {Allows : I → O → Type 0} {amount_of : O → ℕ} (Tells : I → P → Type 0) (told : P → ℕ) where
   told-varies : Varies Allows amount_of → ((i : I) (p : P) → Tells i p → (o : O) × Allows i o × (told p ≡ amount_of o)) → NotConstant Tells told

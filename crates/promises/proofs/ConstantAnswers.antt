@@ -1,4 +1,5 @@
 -- An input with the number 0 alone and one that never has it exclude every constant answer.
+use Rattle.std.specs.Prelude.{Result, Option as Perhaps}
 use Prim.Native.Nat.{ℕ, ◌≤◌, ◌<◌}
 use mathlib.Core.Path.{◌≡◌, refl, sym, ◌∙◌, ap}
 use mathlib.Core.Bool.{Bool, true, false}
@@ -13,7 +14,7 @@ use Rattle.model.specs.declared.Thing.{Thing}
 use Rattle.model.specs.declared.Thing.TheVariants.{Net, Weights, Movements}
 use Rattle.model.specs.declared.Fault.TheVariants.{CutShort}
 use Rattle.model.specs.declared.Refusal.{Refusal}
-use Rattle.model.specs.declared.Answer.{Answer}
+use Rattle.model.specs.Refusals.{Answer}
 use Rattle.model.specs.declared.Version.{Version}
 use Rattle.model.specs.declared.Version.TheVariants.{One, Two}
 use Rattle.model.specs.First.{◌▸◌}
@@ -57,11 +58,9 @@ use Rattle.complement.specs.audit.Audits.{finds, auditing_refusal}
 use Rattle.complement.specs.audit.Audits as auditing
 use Rattle.run.specs.salvage.Salvaged.{salvage_refusal}
 use Rattle.run.specs.salvage.Salvaged as salvaging
-use Rattle.text.specs.declared.Put.{Put}
 use Rattle.text.specs.Decimals.{digit, decimal, decimal_within, signed_decimal}
 use Rattle.text.specs.Puts.{end_within, put_to}
 use Rattle.text.specs.Allowed.{PutBytesAllows}
-use Rattle.sheets.specs.declared.Emitted.{Emitted}
 use Rattle.statement.specs.Replay.{room, stated}
 use Rattle.statement.specs.Allowed.{StatementAllows}
 use Rattle.promises.specs.OwnExample as own
@@ -210,11 +209,11 @@ back_whole s e = rw e
 abbrev digits : List ℕ
 digits = digit 0 ∷ []
 
-fits : (o : Put × List ℕ) → PutBytesAllows lone 0 digits o → full o.0 ≡ 0
+fits : (o : Perhaps ℕ × List ℕ) → PutBytesAllows lone 0 digits o → full o.0 ≡ 0
 unfolding put_to end_within
 fits o a = ap full a.0
 
-no_room : (o : Put × List ℕ) → PutBytesAllows [] 0 digits o → full o.0 ≡ 1
+no_room : (o : Perhaps ℕ × List ℕ) → PutBytesAllows [] 0 digits o → full o.0 ≡ 1
 unfolding put_to end_within
 no_room o a = ap full a.0
 
@@ -222,7 +221,7 @@ no_room o a = ap full a.0
 slice : (n : ℕ) → (out : List ℕ) × (n ≤ length out)
 slice n = (replicate n 0, omega (arith, length-replicate {A = ℕ} n 0))
 
-module _ (input out : List ℕ) (o : Emitted × List ℕ) (allowed : StatementAllows input out o) where
+module _ (input out : List ℕ) (o : Result ℕ Refusal × List ℕ) (allowed : StatementAllows input out o) where
   text-written : room ≤ length out → (emitting.told o.0).carried.number ≡ 0
   unfolding stated
   text-written h = ap (λ s. (emitting.told s).carried.number) allowed.0 ∙ rw (le-ltb (length out) room h)

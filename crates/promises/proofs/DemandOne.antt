@@ -1,4 +1,5 @@
 -- A refused call leaves what it was lent: each answer with a number has a refusal behind it.
+use Rattle.std.specs.Prelude.{Some, None}
 use Prim.Native.Nat.{ℕ, ◌+◌}
 use mathlib.Core.Path.{◌≡◌, refl, sym, ◌∙◌, ap, subst}
 use mathlib.Core.Bool.{Bool, true, false, cond}
@@ -31,7 +32,6 @@ use Rattle.convert.specs.strip.Stripped.{stripped_sheet, stripping_refusal}
 use Rattle.export.specs.Exports.{export_text, export_refusal}
 use Rattle.import.proofs.Promises.{import_kept}
 use Rattle.run.specs.salvage.Salvaged as salvaging
-use Rattle.text.specs.declared.Put.TheVariants.{To, Full}
 use Rattle.writes.specs.Writes.{put_into}
 use Rattle.text.specs.Puts.{end_within, put_to}
 use Rattle.statement.specs.Replay.{replay_text, statement_refusal, stated, stated_in}
@@ -53,11 +53,11 @@ salvaged-kept net damaged out =
     left_alone (λ o. (salvaging.told (salvaging.salvaged o (salvaging.report net damaged))).carried.number) (λ o. output o (salvaging.fresh_sheet net damaged) out)
     refl (λ r. refl) (salvaging.salvage_refusal net damaged (length out))
 
-put_kept : (out : List ℕ) (at : ℕ) (bytes : List ℕ) → put_to out at bytes ≡ Full → put_into out at bytes ≡ out
+put_kept : (out : List ℕ) (at : ℕ) (bytes : List ℕ) → put_to out at bytes ≡ None → put_into out at bytes ≡ out
 unfolding end_within put_to put_into
 put_kept out at bytes e = go (leb (at + length bytes) (length out)) e
   where
-    go : (t : Bool) → cond t (To (at + length bytes)) Full ≡ Full → cond t (take at out ++ bytes ++ drop (at + length bytes) out) out ≡ out
+    go : (t : Bool) → cond t (Some (at + length bytes)) None ≡ None → cond t (take at out ++ bytes ++ drop (at + length bytes) out) out ≡ out
     go true e = let z : ◌≡◌ {A = ℕ} 0 1 = cc in absurd (omega arith)
     go false e = refl
 

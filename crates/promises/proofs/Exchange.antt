@@ -1,4 +1,6 @@
 -- Export and import there and back: the text is the net's, and import is of whatever net's text it is.
+use Rattle.std.specs.Prelude.{Result, Ok, Err}
+use Rattle.model.specs.declared.Refusal.{Refusal}
 use Prim.Native.Nat.{ℕ, ◌≤◌, ◌<◌}
 use mathlib.Core.Path.{◌≡◌, refl, sym, ◌∙◌, ap, subst}
 use mathlib.Core.List.{List}
@@ -18,8 +20,6 @@ use Rattle.model.proofs.First.{left-none, right-none, none_then}
 use Rattle.second_form.proofs.Demand3.{demand3}
 use Rattle.sheets.specs.Whole.{whole_net}
 use Rattle.sheets.specs.Decoded.{net_of}
-use Rattle.sheets.specs.declared.Emitted.{Emitted}
-use Rattle.sheets.specs.declared.Emitted.TheVariants.{Length, Refused}
 use Rattle.sheets.specs.Emitted as emitting
 use Rattle.complement.specs.Complemented as complementing
 use Rattle.pnml.specs.Pnml.{body, pnml, Exportable}
@@ -39,7 +39,7 @@ use Rattle.promises.proofs.DemandThree.{complementable}
 use Rattle.promises.proofs.TwoRuns.{length-accepted, written}
 
 -- an export that answers a length leaves the text of an exportable net
-module _ (net out : List ℕ) (o : Emitted × List ℕ) (n : ℕ) (allows : ExportPnmlAllows net out o) (e : emitting.told o.0 ≡ yields n) where
+module _ (net out : List ℕ) (o : Result ℕ Refusal × List ℕ) (n : ℕ) (allows : ExportPnmlAllows net out o) (e : emitting.told o.0 ≡ yields n) where
   abbrev text : List ℕ
   text = export_text net
 
@@ -55,7 +55,7 @@ module _ (net out : List ℕ) (o : Emitted × List ℕ) (n : ℕ) (allows : Expo
   text-there = ap (take n) (allows.1 ∙ ap (λ r. emitting.output r text out) told-length.0) ∙ take_at text (drop (length text) out) n (sym told-length.1)
 
 -- the sheet of an exportable net is refused for want of room alone
-module _ (net out : List ℕ) (o : Emitted × List ℕ) (allows : ExportPnmlAllows net out o) (whole : whole_net net ≡ none) (x : Exportable (net_of net)) where
+module _ (net out : List ℕ) (o : Result ℕ Refusal × List ℕ) (allows : ExportPnmlAllows net out o) (whole : whole_net net ≡ none) (x : Exportable (net_of net)) where
   fits : length (export_text net) ≤ length out → export_refusal net (length out) ≡ none
   unfolding export_refusal room_refusal
   fits h = none_then whole (none_then (exports-exactly.all net x) (rw (le-ltb (length out) (length (export_text net)) h) refl))
@@ -73,7 +73,7 @@ module _ (net out : List ℕ) (o : Emitted × List ℕ) (allows : ExportPnmlAllo
       }
 
 -- what import answers to the export of a net
-module _ (net : PNet) (x : Exportable net) (out : List ℕ) (o : Emitted × List ℕ) (allows : ImportPnmlAllows (pnml net) out o) where
+module _ (net : PNet) (x : Exportable net) (out : List ℕ) (o : Result ℕ Refusal × List ℕ) (allows : ImportPnmlAllows (pnml net) out o) where
   answer-is : o.0 ≡ importing.import_of net out
   answer-is = (of-net net x refl out o allows).0
 
@@ -125,9 +125,9 @@ module _ (net : PNet) (w : Small net) where
   unfolding pnml body
   same_text = rw (pairs-same net, modes-same net)
 
-length-told : (a : Emitted) {n : ℕ} → emitting.told a ≡ yields n → a ≡ Length n
-length-told (Length l) {n} e = let v : some l ≡ some n = ap (λ r. r.value) e in let same : l ≡ n = cc in ap Length same
-length-told (Refused r) {n} e = let v : none ≡ some n = ap (λ r. r.value) e in absurd (none-ne-some n v)
+length-told : (a : Result ℕ Refusal) {n : ℕ} → emitting.told a ≡ yields n → a ≡ Ok n
+length-told (Ok l) {n} e = let v : some l ≡ some n = ap (λ r. r.value) e in let same : l ≡ n = cc in ap Ok same
+length-told (Err r) {n} e = let v : none ≡ some n = ap (λ r. r.value) e in absurd (none-ne-some n v)
 
 pub import_then-export : ImportThenExport
 import_then-export text out o n allows e out' o' allows' =

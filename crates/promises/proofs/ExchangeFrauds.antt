@@ -1,4 +1,6 @@
 -- An export has a place between its opening and its closing, import takes it, and 20 is where a text ceases to be one.
+use Rattle.std.specs.Prelude.{Result}
+use Rattle.model.specs.declared.Refusal.{Refusal}
 use Prim.Native.Nat.{ℕ}
 use mathlib.Core.Path.{◌≡◌, refl, sym, ◌∙◌, ap}
 use mathlib.Core.List.{List, [], ◌∷◌}
@@ -8,7 +10,6 @@ use native.Mathlib.Omega.{arith}
 use Rattle.model.specs.Nets.{PNet}
 use Rattle.both_forms.specs.WorkedExamples.{own_example}
 use Rattle.sheets.specs.Decoded.{net_of}
-use Rattle.sheets.specs.declared.Emitted.{Emitted}
 use Rattle.sheets.specs.Emitted as emitting
 use Rattle.pnml.specs.Agrees.{Agrees}
 use Rattle.pnml.specs.Pnml.{opening, closing, pnml}
@@ -25,12 +26,12 @@ use Rattle.promises.proofs.Exchange.{exportable, text-there}
 use Rattle.promises.proofs.OwnExample.{printed-exportable}
 
 -- to an export the answer is 4, 10 or a length
-never_20 : (net : PNet) (out : List ℕ) {a : Emitted} → a ≡ importing.import_of net out → Way net (length out) → (emitting.told a).carried.number ≢ 20
+never_20 : (net : PNet) (out : List ℕ) {a : Result ℕ Refusal} → a ≡ importing.import_of net out → Way net (length out) → (emitting.told a).carried.number ≢ 20
 never_20 net out is (many h r) e = omega (arith, ap (λ a. (emitting.told a).carried.number) (answered net out is r))
 never_20 net out is (full p m h r) e = omega (arith, ap (λ a. (emitting.told a).carried.number) (answered net out is r))
 never_20 net out is (whole p m h r) e = omega (arith, ap (λ a. (emitting.told a).carried.number) (answered net out is r))
 
-abbrev position_of : Emitted → ℕ
+abbrev position_of : Result ℕ Refusal → ℕ
 position_of a = (emitting.told a).carried.position
 
 -- an empty text ceases at its end, and the first byte of an export after it
@@ -41,11 +42,11 @@ opens : Agrees bracket 0 1 (pnml own_example.printed)
 unfolding pnml opening
 opens = record { in_run = omega arith; in_text = omega arith; each = λ i h. let z : i ≡ 0 = omega arith in rw z refl }
 
-ends-empty : (o : Emitted × List ℕ) → ImportPnmlAllows [] [] o → position_of o.0 ≡ 0
+ends-empty : (o : Result ℕ Refusal × List ℕ) → ImportPnmlAllows [] [] o → position_of o.0 ≡ 0
 ends-empty o (inl x) = absurd (omega (arith, ap length x.is, between x.net x.exportable))
 ends-empty o (inr x) = let p : position_of o.0 ≡ x.at = ap position_of x.answer in omega (arith, x.refused.first.one.1.in_run)
 
-ends-after : (o : Emitted × List ℕ) → ImportPnmlAllows bracket [] o → position_of o.0 ≢ 0
+ends-after : (o : Result ℕ Refusal × List ℕ) → ImportPnmlAllows bracket [] o → position_of o.0 ≢ 0
 unfolding opening closing
 ends-after o (inl x) e = omega (arith, ap length x.is, between x.net x.exportable)
 ends-after o (inr x) e =

@@ -18,7 +18,7 @@ use Rattle.model.specs.declared.Version.TheVariants.{One, Two}
 use Rattle.model.specs.declared.Fault.{Fault}
 use Rattle.model.specs.declared.Fault.TheVariants.{CutShort, WrongVersion, WrongLength, CountOutside, NumberOutside, NotThereAt, NotThere, NotRising, Blank, StartAboveCapacity, NotOneEach, Stopped}
 use Rattle.model.specs.declared.Refusal.{Refusal}
-use Rattle.model.specs.declared.Answer.TheVariants.{Refused}
+use Rattle.std.specs.Prelude.{Err}
 use Rattle.model.specs.First.{◌▸◌, first, only_if}
 use Rattle.model.specs.Lists.{table}
 use Rattle.model.specs.Numbers.{ℕ∞, fin, ∞, above, above_by, limit}
@@ -52,7 +52,7 @@ pub record Small (r : Refusal) : Type 0 where
   pub position : (line r.fault).position < most
   pub amount : (line r.fault).amount < most
 
-pub thing-small : (r : Refusal) → thing (Refused r) < 10
+pub thing-small : (r : Refusal) → thing (Err r) < 10
 thing-small r = go (always_net (line r.fault).number) r.thing
   where
     go : (b : Bool) (t : Thing) → cond b 0 (thing_number t) < 10

@@ -12,7 +12,7 @@ use borrow.Author.Tests.{leb-false, not-false}
 use Rattle.model.specs.declared.Pair.{Pair}
 use Rattle.model.specs.declared.Mode.{Mode}
 use Rattle.model.specs.declared.Version.{Version}
-use Rattle.model.specs.declared.Answer.{Answer}
+use Rattle.model.specs.Refusals.{Answer}
 use Rattle.model.specs.declared.Thing.TheVariants.{Movements, Argument}
 use Rattle.model.specs.Numbers.{ℕ∞, fin, ∞}
 use Rattle.model.specs.Nets.{PNet, total, pairs, modes, K, count}
@@ -197,7 +197,7 @@ module _ (net sheet : List ℕ) (p : Pair) (k : ℕ) (w : whole_net net ≡ none
           change = λ weights t l o h. rw (change-same weights t l, same, kept.changes (weights_of weights) t l) h;
           add_ship = λ found weights movements old o h. rw (ship-same found weights movements old) h;
           is_dead = λ t l o h. rw (dead-refusal-same t l, dead-same t l) h;
-          first_dead = λ o h. rw (w', same, no_new-dead (net_of net) p k well bounded, ← w) h;
+          first_dead = λ o h. rw (w', same, no_new-dead (net_of net) p k well bounded) (rw w at h);
           statement = λ more out bytes l l' old o h. rw (texts-same more bytes l l' old) h;
         }
 

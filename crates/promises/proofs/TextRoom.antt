@@ -1,4 +1,5 @@
 -- The call compares the slice's length with 262,144 before all else.
+use Rattle.std.specs.Prelude.{Ok, Err}
 use Prim.Native.Nat.{ℕ, ◌≤◌, ◌<◌}
 use mathlib.Core.Path.{◌≡◌, sym, ◌∙◌, ap}
 use mathlib.Core.List.{List}
@@ -10,7 +11,6 @@ use Rattle.model.specs.declared.Thing.TheVariants.{Net}
 use Rattle.model.specs.declared.Fault.TheVariants.{NoRoom}
 use Rattle.model.specs.Refusals.{wrong}
 use Rattle.model.proofs.First.{below_or}
-use Rattle.sheets.specs.declared.Emitted.TheVariants.{Length, Refused}
 use Rattle.sheets.specs.Emitted.{told}
 use Rattle.statement.specs.Replay.{room, replay_text, stated}
 use Rattle.answers.specs.Told.{counted}
@@ -26,11 +26,11 @@ by-room out apart less more =
     }
 
 module _ (input out : List ℕ) where
-  no_room : length out < room → stated input out ≡ Refused (wrong Net NoRoom)
+  no_room : length out < room → stated input out ≡ Err (wrong Net NoRoom)
   unfolding stated
   no_room l = rw (lt-ltb (length out) room l)
 
-  all-written : room ≤ length out → stated input out ≡ Length (length (replay_text input))
+  all-written : room ≤ length out → stated input out ≡ Ok (length (replay_text input))
   unfolding stated
   all-written l = rw (le-ltb (length out) room l)
 

@@ -1,5 +1,5 @@
 -- "Refusing all, or one constant answer, breaks the exact refusal table": each contract accepts something, refuses something, and excludes every answer somewhere.
-use Rattle.std.specs.Prelude.{ℕ, ◌≡◌, List, ◌≢◌, ℤ, length}
+use Rattle.std.specs.Prelude.{ℕ, ◌≡◌, List, ◌≢◌, ℤ, length, Some, None, Option as Perhaps}
 use Rattle.model.specs.declared.Pair.{Pair}
 use Rattle.model.specs.declared.Mode.{Mode}
 use Rattle.model.specs.Refusals.{number}
@@ -29,8 +29,6 @@ use Rattle.complement.specs.audit.Audits as auditing
 use Rattle.complement.specs.audit.Allowed.{AuditAllows}
 use Rattle.run.specs.salvage.Salvaged as salvaging
 use Rattle.run.specs.salvage.Allowed.{SalvageAllows}
-use Rattle.text.specs.declared.Put.{Put}
-use Rattle.text.specs.declared.Put.TheVariants.{To, Full}
 use Rattle.text.specs.Allowed.{PutBytesAllows, PutDecimalAllows, PutSignedAllows}
 use Rattle.statement.specs.Allowed.{StatementAllows}
 
@@ -57,9 +55,9 @@ pub record PartVaries {I : Type 0} (Allows : I → List ℕ → Type 0) (run : I
   pub not_constant : NotConstant Allows length
 
 -- a put has no number of document 01: 0 where the bytes are put, 1 where there is no room for them
-abbrev pub full : Put → ℕ
-full (To after) = 0
-full Full = 1
+abbrev pub full : Perhaps ℕ → ℕ
+full (Some after) = 0
+full None = 1
 
 -- a field for each public call; the text of `replay` has the number that C is told
 pub record ConstantAnswers : Type 0 where

@@ -1,6 +1,7 @@
 -- Document 02, P9: "equal nets answer equally; only offsets in the net sheet, the sheets written and their lengths, refusal 10 for a short output, and the
 -- conversions may differ". A field for each call that takes a net sheet, but the conversions, for all else that it may be given.
-use Rattle.std.specs.Prelude.{ℕ, ◌≤◌, ◌<◌, ◌≡◌, List, ◌++◌, ◌≢◌, length, take}
+use Rattle.model.specs.declared.Refusal.{Refusal}
+use Rattle.std.specs.Prelude.{Option as Perhaps, ℕ, ◌≤◌, ◌<◌, ◌≡◌, List, ◌++◌, ◌≢◌, length, take, Result, ℤ}
 use Rattle.std.proofs.Math.Option.{none}
 use Rattle.model.specs.declared.Pair.{Pair}
 use Rattle.model.specs.declared.Mode.{Mode}
@@ -11,7 +12,6 @@ use Rattle.sheets.specs.nets.Allowed.{ReadNetAllows}
 use Rattle.sheets.specs.Whole.{whole_net}
 use Rattle.sheets.specs.Decoded.{net_of}
 use Rattle.sheets.specs.Allowed.{AfterNetAllows, WholeNetAllows}
-use Rattle.sheets.specs.declared.Emitted.{Emitted}
 use Rattle.sheets.specs.Emitted as emitting
 use Rattle.fire.specs.Allowed.{BeginAllows, TestAllows, FireAllows}
 use Rattle.run.specs.Allowed.{RunAllows, CertifyAllows}
@@ -27,7 +27,6 @@ use Rattle.complement.specs.Allowed.{ComplementAllows}
 use Rattle.convert.specs.strip.Stripped as stripping
 use Rattle.convert.specs.strip.Allowed.{StripAllows}
 use Rattle.export.specs.Allowed.{ExportPnmlAllows}
-use Rattle.complement.specs.declared.audit.Found.{Found}
 use Rattle.complement.specs.audit.Audits as auditing
 use Rattle.complement.specs.audit.Allowed.{AuditAllows}
 use Rattle.run.specs.salvage.Allowed.{SalvageAllows}
@@ -55,7 +54,7 @@ abbrev pub Fits : List ℕ → List ℕ → Type 0
 Fits net out = length (complementing.complement_sheet net) ≤ length out
 
 -- "the sheets written and their lengths": where both calls write, they write one net again
-pub record ComplementsAlike (o o' : Emitted × List ℕ) : Type 0 where
+pub record ComplementsAlike (o o' : Result ℕ Refusal × List ℕ) : Type 0 where
   pub carried : OffsetAside (emitting.told o.0).carried (emitting.told o'.0).carried
   pub written : (n n' : ℕ) → emitting.told o.0 ≡ yields n → emitting.told o'.0 ≡ yields n' → OneNet (take n o.1) (take n' o'.1)
 
@@ -63,7 +62,7 @@ pub record ComplementsAlike (o o' : Emitted × List ℕ) : Type 0 where
 abbrev pub StripFits : List ℕ → Pair → List ℕ → Type 0
 StripFits net p out = length (stripping.stripped_sheet net p) ≤ length out
 
-pub record StripsAlike (o o' : Emitted × List ℕ) : Type 0 where
+pub record StripsAlike (o o' : Result ℕ Refusal × List ℕ) : Type 0 where
   pub carried : (emitting.told o.0).carried ≡ (emitting.told o'.0).carried
   pub written : (n n' : ℕ) → emitting.told o.0 ≡ yields n → emitting.told o'.0 ≡ yields n' → OneNet (take n o.1) (take n' o'.1)
 
@@ -102,13 +101,13 @@ pub record Alike (a b : List ℕ) : Type 0 where
   -- the sheet written is a movement sheet, the same to the byte
   pub salvage : (damaged out : List ℕ) → Within (SalvageAllows a damaged out) (SalvageAllows b damaged out)
   -- a text in PNML says neither version nor rule: it is the same to the byte
-  pub export_pnml : (out : List ℕ) (o o' : Emitted × List ℕ) → ExportPnmlAllows a out o → ExportPnmlAllows b out o'
+  pub export_pnml : (out : List ℕ) (o o' : Result ℕ Refusal × List ℕ) → ExportPnmlAllows a out o → ExportPnmlAllows b out o'
       → RepliesAlike (emitting.told o.0) (emitting.told o'.0) × (o.1 ≡ o'.1)
-  pub complement : (out out' : List ℕ) (o o' : Emitted × List ℕ) → Fits a out → Fits b out'
+  pub complement : (out out' : List ℕ) (o o' : Result ℕ Refusal × List ℕ) → Fits a out → Fits b out'
       → ComplementAllows a out o → ComplementAllows b out' o' → ComplementsAlike o o'
-  pub strip : (p : Pair) (out out' : List ℕ) (o o' : Emitted × List ℕ) → StripFits a p out → StripFits b p out'
+  pub strip : (p : Pair) (out out' : List ℕ) (o o' : Result ℕ Refusal × List ℕ) → StripFits a p out → StripFits b p out'
       → StripAllows a p out o → StripAllows b p out' o' → StripsAlike o o'
-  pub audit : (marking beside : List ℕ) (o o' : Found) → AuditAllows a marking beside o → AuditAllows b marking beside o'
+  pub audit : (marking beside : List ℕ) (o o' : Result (Perhaps (Pair × ℤ)) Refusal) → AuditAllows a marking beside o → AuditAllows b marking beside o'
       → RepliesAlike (auditing.told o) (auditing.told o')
   pub before : (more : List ℕ) → Bytes a → Bytes b → AlikeBefore a b more
 

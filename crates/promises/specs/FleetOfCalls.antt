@@ -1,6 +1,6 @@
 -- The fleet statement of the calls (document 02, P13): "from a record of zeros and with each ship given the record as the one before left it".
-use Rattle.std.specs.Prelude.{◌≤◌, ◌≡◌, List, [], ◌∷◌, ◌≢◌, ◌+ℤ◌, ◌-ℤ◌, length}
-use Rattle.model.specs.declared.Answer.{Answer}
+use Rattle.std.specs.Prelude.{◌≤◌, ◌≡◌, List, [], ◌∷◌, ◌≢◌, ◌+ℤ◌, ◌-ℤ◌, length, ℤ}
+use Rattle.model.specs.Refusals.{Answer}
 use Rattle.model.specs.Refusals.{number}
 use Rattle.ships.specs.declared.Fleet.{Fleet}
 use Rattle.ships.specs.Ships.{Ship, start_figure, last_figure, totals}

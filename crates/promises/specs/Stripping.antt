@@ -1,9 +1,10 @@
 -- Document 02, P7, over bytes: a net sheet and the sheet that stripping writes of it, call by call.
-use Rattle.std.specs.Prelude.{ℕ, ◌≤◌, ◌<◌, ◌≡◌, List, ◌++◌, ◌↔◌, ◌≢◌, length, take, drop}
+use Rattle.model.specs.declared.Refusal.{Refusal}
+use Rattle.std.specs.Prelude.{ℕ, ◌≤◌, ◌<◌, ◌≡◌, List, ◌++◌, ◌↔◌, ◌≢◌, length, take, drop, Result}
 use Rattle.std.proofs.Math.Option.{none}
 use Rattle.model.specs.declared.Pair.{Pair}
 use Rattle.model.specs.declared.Mode.{Mode}
-use Rattle.model.specs.declared.Answer.{Answer}
+use Rattle.model.specs.Refusals.{Answer}
 use Rattle.model.specs.Refusals.{answer, number}
 use Rattle.model.specs.Replies.{yields}
 use Rattle.model.specs.Nets.{pairs, modes, K, count}
@@ -12,7 +13,6 @@ use Rattle.heads.specs.Version.{version_of}
 use Rattle.sheets.specs.lists.Weights.{weights_refusal}
 use Rattle.sheets.specs.Whole.{whole_net, rest}
 use Rattle.sheets.specs.Decoded.{net_of, movements_of}
-use Rattle.sheets.specs.declared.Emitted.{Emitted}
 use Rattle.sheets.specs.Emitted.{told}
 use Rattle.fire.specs.Allowed.{BeginAllows, TestAllows, FireAllows}
 use Rattle.run.specs.Allowed.{RunAllows, CertifyAllows}
@@ -75,5 +75,5 @@ pub record StripWritten (net : List ℕ) (p : Pair) (out left : List ℕ) (n : �
   pub old_calls : OldCalls net (take n left)
 
 abbrev pub Stripping : Type 0
-Stripping = (net : List ℕ) (p : Pair) (out : List ℕ) (o : Emitted × List ℕ) (n : ℕ) → StripAllows net p out o → told o.0 ≡ yields n
+Stripping = (net : List ℕ) (p : Pair) (out : List ℕ) (o : Result ℕ Refusal × List ℕ) (n : ℕ) → StripAllows net p out o → told o.0 ≡ yields n
     → StripWritten net p out o.1 n

@@ -3,7 +3,6 @@
 
 ghost use Rattle.std.specs.Prelude.{◌≤◌, length};
 
-use sheets::Emitted;
 use statement::statement;
 use std::io::{Read, Write};
 
@@ -25,11 +24,10 @@ fn main(rt: HostRuntime) {
     let mut input = [0u8; 65_537];
     let read = read_full(&mut rt.stdin(), &mut input);
     let mut out = [0u8; 262_144];
-    let stated = statement(&input[..read], &mut out);
-    let mut whole = false;
-    if let Emitted::Length(length) = stated {
-        whole = rt.stdout().write_all(&out[..length]).is_ok();
-    }
+    let whole = match statement(&input[..read], &mut out) {
+        Ok(length) => rt.stdout().write_all(&out[..length]).is_ok(),
+        Err(_) => false,
+    };
     if !whole {
         let _said = rt
             .stderr()

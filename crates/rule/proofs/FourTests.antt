@@ -1,7 +1,7 @@
 -- The four tests at one arc: one that stops the mode, or none.
 use Prim.Native.Nat.{ℕ, ◌≤◌}
 use mathlib.Core.Path.{◌≡◌, refl, sym, ◌∙◌}
-use mathlib.Core.Bool.{Bool, true, false, cond}
+use mathlib.Core.Bool.{Bool, true, false, cond, not, ◌||◌}
 use lib.Dec.{ltb, eqb}
 use borrow.Author.Tests.{le-ltb, eqb-true}
 use mathlib.Core.Logic.{◌↔◌}
@@ -32,10 +32,26 @@ above-small m i h = go (eqb i unbounded) refl
 pub finite_in_range : (k : ℕ) → InRange (bound k) → (k ≡ unbounded → ⊥) → k ≤ limit
 finite_in_range k h not = rw (bound-finite k not) at h
 
+-- what `p || r` gives where p is a: p itself where it is true, and otherwise what r is then
+pub or-first : {a p v : Bool} (b : Bool) → p ≡ a → p ≡ true → v ≡ p → v ≡ a || b
+or-first b e q h = rw (← e, h, q)
+
+pub or-second : {a b p v r : Bool} → p ≡ a → p ≡ false → r ≡ b → v ≡ r → v ≡ a || b
+or-second e q f h = rw (← e, q, h, f)
+
 module _ (e : Entry) (k : ℕ∞) (m : ℕ) where
-  pub one-stops : (why : Why) → stops why e k m ≡ true → (false ≡ true) ↔ Unstopped e k m
+  one-stops : (why : Why) → stops why e k m ≡ true → (false ≡ true) ↔ Unstopped e k m
   one-stops why h = (λ z. clash (sym z), λ free. clash (sym h ∙ free why))
 
-  pub none-stops : stops Lacking e k m ≡ false → stops OverCapacity e k m ≡ false → stops Inhibited e k m ≡ false → stops OverLimit e k m ≡ false
-      → (true ≡ true) ↔ Unstopped e k m
-  none-stops a b c d = (λ _. elim [ Lacking ↦ a | OverCapacity ↦ b | Inhibited ↦ c | OverLimit ↦ d ], λ _. refl)
+  pub unless-stopped : {t : Bool}
+      → t ≡ stops Lacking e k m || stops OverCapacity e k m || stops Inhibited e k m || stops OverLimit e k m
+      → (not t ≡ true) ↔ Unstopped e k m
+  unless-stopped h = rw h (go (stops Lacking e k m) (stops OverCapacity e k m) (stops Inhibited e k m) (stops OverLimit e k m) refl refl refl refl)
+    where
+      go : (a b c d : Bool) → stops Lacking e k m ≡ a → stops OverCapacity e k m ≡ b → stops Inhibited e k m ≡ c → stops OverLimit e k m ≡ d
+          → (not (a || b || c || d) ≡ true) ↔ Unstopped e k m
+      go true b c d p q r s = one-stops Lacking p
+      go false true c d p q r s = one-stops OverCapacity q
+      go false false true d p q r s = one-stops Inhibited r
+      go false false false true p q r s = one-stops OverLimit s
+      go false false false false p q r s = (λ _. elim [ Lacking ↦ p | OverCapacity ↦ q | Inhibited ↦ r | OverLimit ↦ s ], λ _. refl)

@@ -23,10 +23,7 @@ pub fn moved(arc: Arc, count: u32) -> u32
     requires { Counted arc count }
     ensures { result ≡ after (net_arc arc).entry count }
 {
-    if count < arc.pre {
-        return arc.post;
-    }
-    count - arc.pre + arc.post
+    count.saturating_sub(arc.pre) + arc.post
 }
 
 // M + Post, which either rule compares: "Pre is not taken off before the capacity test."

@@ -6,8 +6,8 @@ use lib.ListN.{length, get_or}
 use native.Mathlib.Omega.{arith}
 use Rattle.model.specs.declared.Mode.{Mode}
 use Rattle.model.specs.declared.Thing.TheVariants.{Movements}
-use Rattle.model.specs.declared.Answer.{Answer}
-use Rattle.model.specs.declared.Answer.TheVariants.{Accepted}
+use Rattle.model.specs.Refusals.{Answer}
+use Rattle.std.specs.Prelude.{Ok}
 use Rattle.model.specs.Nets.{PNet, mode_no}
 use Rattle.model.specs.Markings.{Marking}
 use Rattle.model.specs.Firing.{mode_refusal}
@@ -55,7 +55,7 @@ module _ (net : PNet) (s : List ℕ) (start count : ℕ) (m₀ : List ℕ) {done
       let refusal = rw (← is.accepted, ← is.leaves, this) at ((runs net ts m₀).refused (rw (← is.accepted) there)) in
       reports (e ∙ ap answer (sym refusal))
 
-  pub reports-whole : count ≤ done.accepted → Reports (run net ts m₀) (visited net ts m₀) (told done.accepted done.visited Accepted) m
+  pub reports-whole : count ≤ done.accepted → Reports (run net ts m₀) (visited net ts m₀) (told done.accepted done.visited (Ok tt)) m
   reports-whole h =
       let all = runs net ts m₀ in
       let whole : (run net ts m₀).accepted ≡ length ts = omega (arith, all.part, is.accepted, modes_from_length s start count) in

@@ -1,6 +1,6 @@
 -- The contracts of the public calls, which the source states by these names: what each allows of its answer, and of the marking that a run leaves.
 use Rattle.std.specs.Prelude.{ℕ, ◌≡◌, List}
-use Rattle.model.specs.declared.Answer.{Answer}
+use Rattle.model.specs.Refusals.{Answer}
 use Rattle.model.specs.Refusals.{answer}
 use Rattle.run.specs.declared.Ran.{Ran}
 use Rattle.run.specs.Calls.{ran_of, run_of, visited_by, certify_refusal}

@@ -9,7 +9,6 @@ ghost use Rattle.movement.specs.Runs.{run};
 ghost use Rattle.both_forms.specs.Visits.{visited};
 ghost use Rattle.sheets.specs.Decoded.{net_of, movements_of};
 ghost use Rattle.sheets.specs.lists.Movements.{most_movements, movements_refusal};
-ghost use Rattle.opened.specs.Shape.{Open};
 ghost use Rattle.opened.specs.Starts.{StartsAre};
 ghost use Rattle.sheets.specs.Listed.{modes_from, ModesStand};
 ghost use Rattle.progress.specs.Progress.{Tables};
@@ -21,30 +20,25 @@ use fire::firing::mode::find_refusal;
 use model::{Answer, Mode, Thing};
 use numbers::write_numbers;
 use opened::listed::{mode_at, movements_at};
-use opened::shape::NetShape;
+use opened::open::OpenNet;
 use opened::starts::{arcs_of, starts};
 use progress::count_accepted;
 use sheets::lists::movements::movement_count;
 
 // Why a movement is refused.
-fn refusal_of(s: &[u8], net: NetShape, starts: &[u16; 257], mode: Mode, marking: &[u32]) -> Answer
-    requires fact { Open s.now net }
-    requires starts_are { StartsAre (net_of s.now).arcs starts.now }
-    requires marking { Marking (net_of s.now) marking.now }
-    ensures { result ≡ answer (mode_refusal Movements (net_of s.now) mode marking.now) }
+fn refusal_of(net: &OpenNet, starts: &[u16; 257], mode: Mode, marking: &[u32]) -> Answer
+    requires starts_are { StartsAre (net_of net.now.sheet.now).arcs starts.now }
+    requires marking { Marking (net_of net.now.sheet.now) marking.now }
+    ensures { result ≡ answer (mode_refusal Movements (net_of net.now.sheet.now) mode marking.now) }
 {
-    let there = mode_answer(net, Thing::Movements, mode);
-    if let Answer::Refused(_) = there {
-        return there;
-    }
-    let arcs = arcs_of(s, net, starts, mode);
-    find_refusal(s, net, arcs, Thing::Movements, marking)
+    mode_answer(net.shape, Thing::Movements, mode)?;
+    let arcs = arcs_of(net, starts, mode);
+    find_refusal(net, arcs, Thing::Movements, marking)
 }
 
 // The inner part of a run: `count` mode numbers that stand in a run of bytes from `start` on.
 pub(crate) fn run_modes(
-    s: &[u8],
-    net: NetShape,
+    net: &OpenNet,
     starts: &[u16; 257],
     numbers: &[u32],
     movements: &[u8],
@@ -52,47 +46,45 @@ pub(crate) fn run_modes(
     count: usize,
     marking: &mut [u32],
 ) -> Ran
-    requires tables { Tables s.now net starts.now numbers.now }
+    requires tables { Tables net.now.sheet.now net.now.shape starts.now numbers.now }
     requires modes_stand { ModesStand movements.now start count }
     requires count_le_most_movements { count ≤ most_movements }
-    requires marking { Marking (net_of s.now) marking.old }
-    ensures { Reports (run (net_of s.now) (modes_from movements.now start count) marking.old) (visited (net_of s.now) (modes_from movements.now start count) marking.old) result marking.new }
+    requires marking { Marking (net_of net.now.sheet.now) marking.old }
+    ensures { Reports (run (net_of net.now.sheet.now) (modes_from movements.now start count) marking.old) (visited (net_of net.now.sheet.now) (modes_from movements.now start count) marking.old) result marking.new }
 {
-    let done = count_accepted(s, net, starts, numbers, movements, start, count, marking);
-    let k = done.accepted;
-    let visited = done.visited;
-    if k < count {
-        let answer = refusal_of(s, net, starts, mode_at(movements, start, k), marking);
-        return Ran {
-            accepted: k,
-            visited,
-            answer,
-        };
-    }
+    let done = count_accepted(net, starts, numbers, movements, start, count, marking);
+    let answer = if done.accepted < count {
+        refusal_of(
+            net,
+            starts,
+            mode_at(movements, start, done.accepted),
+            marking,
+        )
+    } else {
+        Ok(())
+    };
     Ran {
-        accepted: k,
-        visited,
-        answer: Answer::Accepted,
+        accepted: done.accepted,
+        visited: done.visited,
+        answer,
     }
 }
 
 // The list of a movement sheet that was accepted, with both tables lent.
 pub fn run_listed(
-    s: &[u8],
-    net: NetShape,
+    net: &OpenNet,
     starts: &[u16; 257],
     numbers: &[u32],
     movements: &[u8],
     marking: &mut [u32],
 ) -> Ran
-    requires tables { Tables s.now net starts.now numbers.now }
+    requires tables { Tables net.now.sheet.now net.now.shape starts.now numbers.now }
     requires movements_value { movements_refusal movements.now ≡ none }
-    requires marking { Marking (net_of s.now) marking.old }
-    ensures { Reports (run (net_of s.now) (movements_of movements.now) marking.old) (visited (net_of s.now) (movements_of movements.now) marking.old) result marking.new }
+    requires marking { Marking (net_of net.now.sheet.now) marking.old }
+    ensures { Reports (run (net_of net.now.sheet.now) (movements_of movements.now) marking.old) (visited (net_of net.now.sheet.now) (movements_of movements.now) marking.old) result marking.new }
 {
     let count = movement_count(movements);
     run_modes(
-        s,
         net,
         starts,
         numbers,
@@ -104,14 +96,13 @@ pub fn run_listed(
 }
 
 // The same with both tables made once.
-pub(crate) fn run_sheet(s: &[u8], net: NetShape, movements: &[u8], marking: &mut [u32]) -> Ran
-    requires fact { Open s.now net }
+pub(crate) fn run_sheet(net: &OpenNet, movements: &[u8], marking: &mut [u32]) -> Ran
     requires movements_value { movements_refusal movements.now ≡ none }
-    requires marking { Marking (net_of s.now) marking.old }
-    ensures { Reports (run (net_of s.now) (movements_of movements.now) marking.old) (visited (net_of s.now) (movements_of movements.now) marking.old) result marking.new }
+    requires marking { Marking (net_of net.now.sheet.now) marking.old }
+    ensures { Reports (run (net_of net.now.sheet.now) (movements_of movements.now) marking.old) (visited (net_of net.now.sheet.now) (movements_of movements.now) marking.old) result marking.new }
 {
-    let starts = starts(s, net);
+    let starts = starts(net);
     let mut numbers = [0u32; 2048];
-    write_numbers(s, net, &starts, &mut numbers);
-    run_listed(s, net, &starts, &numbers, movements, marking)
+    write_numbers(net, &starts, &mut numbers);
+    run_listed(net, &starts, &numbers, movements, marking)
 }

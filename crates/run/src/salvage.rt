@@ -6,7 +6,6 @@ mod trial;
 ghost use Rattle.std.specs.Prelude.{◌≡◌, ◌≤◌, length};
 ghost use Rattle.model.specs.First.{◌▸◌};
 ghost use Rattle.sheets.specs.Emitted.{output, too_short};
-ghost use Rattle.opened.specs.Shape.{Open};
 ghost use Rattle.damaged.specs.Damaged.{damaged_refusal, considered};
 ghost use Rattle.damaged.specs.Parts.{Legible};
 ghost use Rattle.run.specs.salvage.Salvaged.{sheet_of_first, report_of, salvaged, kept as kept_by, report, fresh_sheet};
@@ -17,8 +16,8 @@ use crate::salvage::fresh::put_fresh;
 use crate::salvage::trial::run_considered;
 use damaged::count_considered;
 use model::{Answer, Fault, Refusal, Thing};
-use opened::shape::NetShape;
-use opened::{Opened, open_net};
+use opened::open::OpenNet;
+use opened::open_net;
 
 // How long the fresh sheet is, how many movements it keeps, how many more were considered, and the first refusal among these.
 #[derive(Clone, Copy)]
@@ -29,28 +28,27 @@ pub struct Report {
     pub stop: Answer,
 }
 
-// What was written, or why nothing.
-#[derive(Clone, Copy)]
-pub enum Salvaged {
-    Written(Report),
-    Refused(Refusal),
-}
-
 // "10 for a short output", or the sheet.
-fn write_kept(damaged: &[u8], count: usize, kept: usize, stop: Answer, out: &mut [u8]) -> Salvaged
+fn write_kept(
+    damaged: &[u8],
+    count: usize,
+    kept: usize,
+    stop: Answer,
+    out: &mut [u8],
+) -> Result<Report, Refusal>
     requires legible { Legible damaged.now }
     requires count_value { (count ≡ considered damaged.now) × (kept ≤ count) }
     ensures value { result ≡ salvaged (too_short (sheet_of_first damaged.now kept) (length out.old)) (report_of damaged.now kept stop) }
     ensures out_after { out.new ≡ output (too_short (sheet_of_first damaged.now kept) (length out.old)) (sheet_of_first damaged.now kept) out.old }
 {
     if out.len() < 5 + 2 * kept {
-        return Salvaged::Refused(Refusal {
+        return Err(Refusal {
             thing: Thing::Net,
             fault: Fault::NoRoom,
         });
     }
     let length = put_fresh(damaged, kept, out);
-    Salvaged::Written(Report {
+    Ok(Report {
         length,
         kept,
         dropped: count - kept,
@@ -58,28 +56,20 @@ fn write_kept(damaged: &[u8], count: usize, kept: usize, stop: Answer, out: &mut
     })
 }
 
-fn salvage_open(s: &[u8], net: NetShape, damaged: &[u8], out: &mut [u8]) -> Salvaged
-    requires { Open s.now net }
-    ensures value { result ≡ salvaged (damaged_refusal damaged.now ▸ too_short (fresh_sheet s.now damaged.now) (length out.old)) (report s.now damaged.now) }
-    ensures out_after { out.new ≡ output (damaged_refusal damaged.now ▸ too_short (fresh_sheet s.now damaged.now) (length out.old)) (fresh_sheet s.now damaged.now) out.old }
+fn salvage_open(net: &OpenNet, damaged: &[u8], out: &mut [u8]) -> Result<Report, Refusal>
+    ensures value { result ≡ salvaged (damaged_refusal damaged.now ▸ too_short (fresh_sheet net.now.sheet.now damaged.now) (length out.old)) (report net.now.sheet.now damaged.now) }
+    ensures out_after { out.new ≡ output (damaged_refusal damaged.now ▸ too_short (fresh_sheet net.now.sheet.now damaged.now) (length out.old)) (fresh_sheet net.now.sheet.now damaged.now) out.old }
 {
-    let answer = read_damaged(damaged);
-    if let Answer::Refused(refusal) = answer {
-        return Salvaged::Refused(refusal);
-    }
+    read_damaged(damaged)?;
     let count = count_considered(damaged);
-    let ran = run_considered(s, net, damaged, count);
-    let stop = ran.answer;
-    write_kept(damaged, count, ran.accepted, stop, out)
+    let ran = run_considered(net, damaged, count);
+    write_kept(damaged, count, ran.accepted, ran.answer, out)
 }
 
 // Writes what can be kept of a damaged movement sheet from the first byte of `out` on.
-pub fn salvage(net: &[u8], damaged: &[u8], out: &mut [u8]) -> Salvaged
+pub fn salvage(net: &[u8], damaged: &[u8], out: &mut [u8]) -> Result<Report, Refusal>
     ensures { SalvageAllows net.now damaged.now out.old (result, out.new) }
 {
-    let opened = open_net(net);
-    match opened {
-        Opened::Refused(refusal) => Salvaged::Refused(refusal),
-        Opened::Open(shape) => salvage_open(net, shape, damaged, out),
-    }
+    let net = open_net(net)?;
+    salvage_open(&net, damaged, out)
 }

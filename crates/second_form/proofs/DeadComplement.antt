@@ -14,8 +14,8 @@ use Rattle.model.specs.declared.Why.TheVariants.{Lacking, OverCapacity, Inhibite
 use Rattle.model.specs.declared.Fault.{Fault}
 use Rattle.model.specs.declared.Fault.TheVariants.{CutShort, WrongVersion, WrongLength, CountOutside, NumberOutside, MarkingOutside, NotThereAt, NotThere, NotRising, Blank, StartAboveCapacity, MarkingAboveCapacity, NoRoom, Stopped, InhibitedUnbounded, NotOneEach, EndsElsewhere, NotUnbounded, NotAnExport, Unbalanced, EqualFigures, RuleLost, FigurePast, RecordOutside}
 use Rattle.model.specs.declared.Refusal.{Refusal}
-use Rattle.model.specs.declared.Answer.{Answer}
-use Rattle.model.specs.declared.Answer.TheVariants.{Accepted, Refused}
+use Rattle.model.specs.Refusals.{Answer}
+use Rattle.std.specs.Prelude.{Ok, Err}
 use Rattle.model.specs.First.{◌▸◌, lowest}
 use Rattle.model.specs.Refusals.{line, number, answer}
 use Rattle.model.specs.Numbers.{ℕ∞, ∞, Above, least_of}
@@ -67,8 +67,8 @@ not_16 FigurePast e = omega arith
 not_16 RecordOutside e = omega arith
 
 reserved : (a : Answer) → ¬ (number a ≡ 16)
-reserved Accepted e = omega arith
-reserved (Refused r) e = not_16 r.fault e
+reserved (Ok tt) e = omega arith
+reserved (Err r) e = not_16 r.fault e
 
 pub never16 : Never16
 never16 = record { numbers = numbers_in_range; reserved = reserved }

@@ -3,7 +3,7 @@ use Rattle.std.specs.Prelude.{ℕ, ◌≤◌, ◌<◌, ◌≡◌, true, List, �
 use Rattle.std.proofs.Math.Option.{none}
 use Rattle.model.specs.declared.Mode.{Mode}
 use Rattle.model.specs.declared.Thing.{Thing}
-use Rattle.model.specs.declared.Answer.{Answer}
+use Rattle.model.specs.Refusals.{Answer}
 use Rattle.model.specs.Refusals.{answer, number}
 use Rattle.model.specs.Numbers.{limit}
 use Rattle.model.specs.Nets.{PNet, pairs, modes, count, arc_no}

@@ -1,11 +1,12 @@
 -- An audit of what the calls leave: no refusal stands before it, and it finds what the model's does.
+use Rattle.model.specs.declared.Pair.{Pair}
+use Rattle.std.specs.Prelude.{Option as Perhaps, Result, ℤ}
 use lib.IntN.{pos}
 use Rattle.model.specs.First.{lowest}
 use Rattle.model.specs.Refusals.{number, answer}
 use Rattle.complement.proofs.audit.Promises.{says-audited}
 use lib.Dec.{ltb}
 use Rattle.model.specs.declared.Refusal.{Refusal}
-use Rattle.complement.specs.declared.audit.Found.{Found}
 use Rattle.complement.specs.audit.Allowed.{AuditAllows}
 use Prim.Native.Nat.{ℕ, ◌<◌}
 use mathlib.Core.Path.{refl, ◌≡◌, ◌∙◌, ap, sym}
@@ -84,7 +85,7 @@ module _ (sheet marking : List ℕ) (t : Mode) (of : PNet) (same : net_of sheet 
   fired_from e = rw (e, same)
 
 -- what an audit that is accepted finds
-pub audit-finds-so : (net marking beside : List ℕ) (f : Found) → AuditAllows net marking beside f → (told f).carried.number ≡ 0 → Finds net marking beside f
+pub audit-finds-so : (net marking beside : List ℕ) (f : Result (Perhaps (Pair × ℤ)) Refusal) → AuditAllows net marking beside f → (told f).carried.number ≡ 0 → Finds net marking beside f
 audit-finds-so net marking beside f h z =
     let e = number-none (auditing_refusal net marking beside) (sym (ap (λ f. (told f).carried.number) h ∙ finds-number _ (audited (net_of net) marking beside)) ∙ z) in
     let is = ap told h ∙ told-found (audited (net_of net) marking beside) e in

@@ -22,7 +22,7 @@ use Rattle.model.specs.declared.CapacityRule.TheVariants.{Strong, Weak}
 use Rattle.model.specs.declared.Version.{Version}
 use Rattle.model.specs.declared.Version.TheVariants.{One, Two}
 use Rattle.model.specs.declared.Refusal.{Refusal}
-use Rattle.model.specs.declared.Answer.TheVariants.{Accepted, Refused}
+use Rattle.std.specs.Prelude.{Ok, Err, Result}
 use Rattle.model.specs.First.{◌▸◌, first, only_if}
 use Rattle.model.specs.Refusals.{answer, number, Carried, carries, carried, wrong, thing_number}
 use Rattle.model.specs.RefusalTables.{Table, row, ◌then◌, each, Reads, mode_table}
@@ -71,9 +71,6 @@ use Rattle.export.specs.Exports.{capacity_offset, bounded_capacity, bounded_inhi
 use Rattle.import.proofs.RefusalTable.{import_table_lem}
 use Rattle.complement.specs.audit.Audits.{auditing_refusal}
 use Rattle.sentences.specs.Calls.{Public, emits, call}
-use Rattle.sheets.specs.declared.Emitted.{Emitted}
-use Rattle.sheets.specs.declared.Emitted.TheVariants.{Length}
-use Rattle.sheets.specs.declared.Emitted.TheVariants as emitting-variants
 use Rattle.sheets.specs.Emitted as emitting
 use Rattle.statement.specs.weigh.Calls as figuring
 use Rattle.opened.specs.dead.IsDead as one
@@ -176,9 +173,9 @@ module _ (net movements marking : List ℕ) where
 module _ (net : PNet) (ts : List Mode) (m : List ℕ) where
   sums-read : (why : Why) {P : ℕ → Type 0} {by : ℕ → ℕ} → ((p : ℕ) → Decided (stops why (together net ts p) (rooms net (together net ts) p) (count m p)) (P p))
       → ((p : ℕ) → by p ≡ stopped_by why (together net ts p) (rooms net (together net ts) p) (count m p))
-      → Reads (each (pairs net) (λ p. row (P p) (carried (Refused (stopped Argument why p (by p))))))
+      → Reads (each (pairs net) (λ p. row (P p) (carried (Err (stopped Argument why p (by p))))))
       (lowest_stop Argument (pairs net) (rooms net (together net ts)) (together net ts) (count m) why)
-  sums-read why d same = reads-each (pairs net) (λ p l. reads-row _ (d p) (λ h. ap (λ n. carried (Refused (stopped Argument why p n))) (same p)))
+  sums-read why d same = reads-each (pairs net) (λ p l. reads-row _ (d p) (λ h. ap (λ n. carried (Err (stopped Argument why p n))) (same p)))
 
   step-reads : Reads (step_table net ts m) (step_refusal net ts m)
   unfolding step_refusal row_refusal rule_refusal
@@ -377,16 +374,16 @@ module _ {table : Table} {o : Option Refusal} {x : Carried} (reads : Reads table
       }
 
 -- a call that tells its refusal, or a value
-told-by : (tell : Option Refusal → Carried) → tell none ≡ carried Accepted → ((r : Refusal) → tell (some r) ≡ carried (Refused r)) → (o : Option Refusal) → tell o ≡ carried (answer o)
+told-by : (tell : Option Refusal → Carried) → tell none ≡ carried (Ok tt) → ((r : Refusal) → tell (some r) ≡ carried (Err r)) → (o : Option Refusal) → tell o ≡ carried (answer o)
 told-by tell there gone none = there
 told-by tell there gone (some r) = gone r
 
 emits-it : (o : Option Refusal) (n : ℕ) → emits (emitting.emitted o n) ≡ carried (answer o)
 emits-it o n = told-by (λ o. emits (emitting.emitted o n)) refl (λ r. refl) o
 
-emits-own : (e : Emitted) → emits e ≡ carried (answer (emitting.refusal_of e))
-emits-own (Length n) = refl
-emits-own (emitting-variants.Refused r) = refl
+emits-own : (e : Result ℕ Refusal) → emits e ≡ carried (answer (emitting.refusal_of e))
+emits-own (Ok n) = refl
+emits-own (Err r) = refl
 
 weighs-it : (o : Option Refusal) (z : ℤ) → (figuring.told (figuring.figured o z)).carried ≡ carried (answer o)
 unfolding figuring.figured

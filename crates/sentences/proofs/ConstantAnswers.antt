@@ -1,4 +1,6 @@
 -- An input with the number 0 alone and one that never has it exclude every constant answer.
+use Rattle.run.specs.declared.salvage.Report.{Report}
+use Rattle.std.specs.Prelude.{Result, Ok, Err, Option as Perhaps}
 use Prim.Native.Nat.{ℕ, ◌≤◌, ◌<◌}
 use mathlib.Core.Path.{◌≡◌, refl, sym, ◌∙◌, ap}
 use mathlib.Core.Bool.{Bool, true, false}
@@ -13,7 +15,7 @@ use Rattle.model.specs.declared.Thing.{Thing}
 use Rattle.model.specs.declared.Thing.TheVariants.{Net, Weights, Movements}
 use Rattle.model.specs.declared.Fault.TheVariants.{CutShort}
 use Rattle.model.specs.declared.Refusal.{Refusal}
-use Rattle.model.specs.declared.Answer.{Answer}
+use Rattle.model.specs.Refusals.{Answer}
 use Rattle.model.specs.declared.Version.{Version}
 use Rattle.model.specs.declared.Version.TheVariants.{One, Two}
 use Rattle.model.specs.First.{◌▸◌}
@@ -21,8 +23,6 @@ use Rattle.model.specs.Lists.{table}
 use Rattle.model.specs.Refusals.{answer, number, amount, wrong}
 use Rattle.both_forms.specs.WorkedExamples.{own_example}
 use Rattle.pnml.specs.Pnml.{opening, closing}
-use Rattle.run.specs.declared.salvage.Salvaged.{Salvaged}
-use Rattle.run.specs.declared.salvage.Salvaged.TheVariants.{Written, Refused}
 use Rattle.answers.specs.Told.{reported}
 use Rattle.model.specs.Nets.{pair_no, mode_no}
 use Rattle.model.proofs.First.{left-none, none_then, some_then}
@@ -62,11 +62,9 @@ use Rattle.complement.specs.audit.Audits.{finds, auditing_refusal}
 use Rattle.complement.specs.audit.Audits as auditing
 use Rattle.run.specs.salvage.Salvaged.{salvage_refusal}
 use Rattle.run.specs.salvage.Salvaged as salvaging
-use Rattle.text.specs.declared.Put.{Put}
 use Rattle.text.specs.Decimals.{digit, decimal, decimal_within, signed_decimal}
 use Rattle.text.specs.Puts.{end_within, put_to}
 use Rattle.text.specs.Allowed.{PutBytesAllows}
-use Rattle.sheets.specs.declared.Emitted.{Emitted}
 use Rattle.statement.specs.Replay.{room, stated}
 use Rattle.statement.specs.Allowed.{StatementAllows}
 use Rattle.sentences.specs.more.OwnExample as own
@@ -221,11 +219,11 @@ back_whole s e = rw e
 abbrev digits : List ℕ
 digits = digit 0 ∷ []
 
-fits : (p : Put) (l : List ℕ) → PutBytesAllows lone 0 digits (p, l) → (full p).number ≡ 0
+fits : (p : Perhaps ℕ) (l : List ℕ) → PutBytesAllows lone 0 digits (p, l) → (full p).number ≡ 0
 unfolding put_to end_within
 fits p l h = ap (λ p. (full p).number) h.0
 
-no_room : (p : Put) (l : List ℕ) → PutBytesAllows [] 0 digits (p, l) → (full p).number ≡ 1
+no_room : (p : Perhaps ℕ) (l : List ℕ) → PutBytesAllows [] 0 digits (p, l) → (full p).number ≡ 1
 unfolding put_to end_within
 no_room p l h = ap (λ p. (full p).number) h.0
 
@@ -233,7 +231,7 @@ no_room p l h = ap (λ p. (full p).number) h.0
 slice : (n : ℕ) → (out : List ℕ) × (n ≤ length out)
 slice n = (replicate n 0, omega (arith, length-replicate {A = ℕ} n 0))
 
-module _ (input out : List ℕ) (o : Emitted × List ℕ) (allowed : StatementAllows input out o) where
+module _ (input out : List ℕ) (o : Result ℕ Refusal × List ℕ) (allowed : StatementAllows input out o) where
   text-written : room ≤ length out → (emitting.told o.0).carried.number ≡ 0
   unfolding stated
   text-written h = ap (λ s. (emitting.told s).carried.number) allowed.0 ∙ rw (le-ltb (length out) room h)
@@ -506,9 +504,9 @@ salvage-varies =
     varies _ _ 1 (own.net, own.three, own.room) (own.net, sheets.movements, own.room) (omega arith)
     ((net-bytes, three-bytes, room-bytes), λ a l h. ap stop_by (h.0 ∙ salvages-whole)) ((net-bytes, movement-bytes, room-bytes), λ a l h. ap stop_by (h.0 ∙ salvages-three))
 
-stop-told : (x : Salvaged) → (reported (salvaging.told x)).stop.amount ≡ stop_by x
-stop-told (Written report) = refl
-stop-told (Refused r) = refl
+stop-told : (x : Result Report Refusal) → (reported (salvaging.told x)).stop.amount ≡ stop_by x
+stop-told (Ok report) = refl
+stop-told (Err r) = refl
 
 amounts-told : (c : Public) → AmountVaries (call c) → AmountVaries (for_c c)
 amounts-told c = tells (call c) (told c) _ _ (λ g a. ap (λ x. x.amount) (carried-told c g a))

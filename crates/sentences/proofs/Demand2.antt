@@ -1,4 +1,6 @@
 -- Demand 2, from what the crates below prove of the refusals that the calls find first.
+use Rattle.model.specs.declared.Pair.{Pair}
+use Rattle.std.specs.Prelude.{Option as Perhaps, Result}
 use Prim.Native.Nat.{ℕ}
 use mathlib.Core.Path.{◌≡◌, refl, sym, ◌∙◌, ap}
 use mathlib.Core.Bool.{Bool, true, false}
@@ -39,8 +41,6 @@ use Rattle.run.specs.Calls.{before_run, run_of}
 use Rattle.run.specs.Allowed.{RunAllows}
 use Rattle.run.proofs.Promises.{runs_leave_lem, certified}
 use Rattle.complement.specs.Complemented.{complementing_refusal, complement_sheet}
-use Rattle.opened.specs.declared.dead.Deadness.{Deadness}
-use Rattle.opened.specs.declared.dead.FirstDead.{FirstDead}
 use Rattle.opened.specs.dead.IsDead as one
 use Rattle.opened.specs.dead.FirstDead as first
 use Rattle.opened.specs.dead.IsDead.{dead_refusal}
@@ -159,7 +159,7 @@ names-yes : (d : Option DeadMode) → first.told (first.named none d) ≡ yields
 names-yes none = refl
 names-yes (some d) = refl
 
-module _ (net : List ℕ) (t : Mode) (d : Deadness) (h : IsDeadAllows net t d) (z : (one.told d).carried.number ≡ 0) where
+module _ (net : List ℕ) (t : Mode) (d : Result Bool Refusal) (h : IsDeadAllows net t d) (z : (one.told d).carried.number ≡ 0) where
   pub dead-accepted : dead_refusal net t ≡ none
   dead-accepted = number-none (dead_refusal net t) (sym (ap (λ d. (one.told d).carried.number) h ∙ says-it (dead_refusal net t) (is_dead (net_of net) t)) ∙ z)
 
@@ -172,7 +172,7 @@ module _ (net : List ℕ) (t : Mode) (d : Deadness) (h : IsDeadAllows net t d) (
     λ e. dead-told ∙ ap yields e,
   )
 
-module _ (net : List ℕ) (d : FirstDead) (h : FirstDeadAllows net d) (z : (first.told d).carried.number ≡ 0) where
+module _ (net : List ℕ) (d : Result (Perhaps (Mode × Pair)) Refusal) (h : FirstDeadAllows net d) (z : (first.told d).carried.number ≡ 0) where
   net-accepted : whole_net net ≡ none
   net-accepted = number-none (whole_net net) (sym (ap (λ d. (first.told d).carried.number) h ∙ names-it (whole_net net) (first_dead (net_of net))) ∙ z)
 

@@ -1,4 +1,5 @@
 -- A refused call leaves what it was lent: each answer with a number has a refusal behind it.
+use Rattle.std.specs.Prelude.{Some, None}
 use Prim.Native.Nat.{ℕ, ◌+◌}
 use mathlib.Core.Path.{◌≡◌, refl, ◌∙◌, ap, subst}
 use mathlib.Core.Bool.{Bool, true, false, cond}
@@ -32,7 +33,6 @@ use Rattle.export.specs.Exports.{export_text, export_refusal}
 use Rattle.import.proofs.Promises.{import_kept}
 use Rattle.text.specs.Decimals.{decimal, signed_decimal}
 use Rattle.run.specs.salvage.Salvaged as salvaging
-use Rattle.text.specs.declared.Put.TheVariants.{To, Full}
 use Rattle.writes.specs.Writes.{put_into}
 use Rattle.text.specs.Puts.{end_within, put_to}
 use Rattle.statement.specs.Replay.{replay_text, statement_refusal, stated, stated_in}
@@ -61,7 +61,7 @@ put_kept : (out : List ℕ) (at : ℕ) (bytes : List ℕ) → (full (put_to out 
 unfolding end_within put_to put_into
 put_kept out at bytes e = go (leb (at + length bytes) (length out)) e
   where
-    go : (t : Bool) → (full (cond t (To (at + length bytes)) Full)).number ≢ 0 → cond t (take at out ++ bytes ++ drop (at + length bytes) out) out ≡ out
+    go : (t : Bool) → (full (cond t (Some (at + length bytes)) None)).number ≢ 0 → cond t (take at out ++ bytes ++ drop (at + length bytes) out) out ≡ out
     go true e = absurd (e refl)
     go false e = refl
 

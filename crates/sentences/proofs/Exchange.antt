@@ -1,4 +1,6 @@
 -- Export and import there and back: the text is the net's, and import is of whatever net's text it is.
+use Rattle.std.specs.Prelude.{Result, Ok, Err}
+use Rattle.model.specs.declared.Refusal.{Refusal}
 use Prim.Native.Nat.{ℕ, ◌≤◌, ◌<◌}
 use mathlib.Core.Path.{◌≡◌, refl, sym, ◌∙◌, ap, subst}
 use mathlib.Core.List.{List}
@@ -17,8 +19,6 @@ use Rattle.model.proofs.First.{left-none, right-none, none_then}
 use Rattle.second_form.proofs.Demand3.{demand3}
 use Rattle.sheets.specs.Whole.{whole_net}
 use Rattle.sheets.specs.Decoded.{net_of}
-use Rattle.sheets.specs.declared.Emitted.{Emitted}
-use Rattle.sheets.specs.declared.Emitted.TheVariants.{Length, Refused}
 use Rattle.sheets.specs.Emitted as emitting
 use Rattle.pnml.specs.Pnml.{body, pnml, Exportable}
 use Rattle.pnml.specs.Singles.{singles, imported_sheet, import_refusal}
@@ -38,7 +38,7 @@ use Rattle.sentences.proofs.Accepting.{yielded}
 use Rattle.sentences.proofs.Written.{can-complement, sheet-whole, sheet-same}
 
 -- an export that answers a length leaves the text of an exportable net
-module _ (net out : List ℕ) (o : Emitted × List ℕ) (n : ℕ) (allows : ExportPnmlAllows net out o) (e : emitting.told o.0 ≡ yields n) where
+module _ (net out : List ℕ) (o : Result ℕ Refusal × List ℕ) (n : ℕ) (allows : ExportPnmlAllows net out o) (e : emitting.told o.0 ≡ yields n) where
   abbrev text : List ℕ
   text = export_text net
 
@@ -54,7 +54,7 @@ module _ (net out : List ℕ) (o : Emitted × List ℕ) (n : ℕ) (allows : Expo
   text-there = ap (take n) (allows.1 ∙ ap (λ r. emitting.output r text out) told-length.0) ∙ take_at text (drop (length text) out) n (sym told-length.1)
 
 -- the sheet of an exportable net is refused for want of room alone
-module _ (net out : List ℕ) (o : Emitted × List ℕ) (allows : ExportPnmlAllows net out o) (whole : whole_net net ≡ none) (x : Exportable (net_of net)) where
+module _ (net out : List ℕ) (o : Result ℕ Refusal × List ℕ) (allows : ExportPnmlAllows net out o) (whole : whole_net net ≡ none) (x : Exportable (net_of net)) where
   fits : length (export_text net) ≤ length out → export_refusal net (length out) ≡ none
   unfolding export_refusal room_refusal
   fits h = none_then whole (none_then (exports-exactly.all net x) (rw (le-ltb (length out) (length (export_text net)) h) refl))
@@ -72,7 +72,7 @@ module _ (net out : List ℕ) (o : Emitted × List ℕ) (allows : ExportPnmlAllo
       }
 
 -- what import answers to the export of a net
-module _ (net : PNet) (x : Exportable net) (out : List ℕ) (o : Emitted × List ℕ) (allows : ImportPnmlAllows (pnml net) out o) where
+module _ (net : PNet) (x : Exportable net) (out : List ℕ) (o : Result ℕ Refusal × List ℕ) (allows : ImportPnmlAllows (pnml net) out o) where
   answer-is : o.0 ≡ importing.import_of net out
   answer-is = (of-net net x refl out o allows).0
 
@@ -106,8 +106,8 @@ module _ (net : PNet) (x : Exportable net) (out : List ℕ) (o : Emitted × List
   pub imports : ImportAnswers net out o
   imports = record { comes_back = comes_back_lem; too_many = too_many-told; too_short = too_short_lem }
 
-pub export-then_import : (net out : List ℕ) (o : Emitted × List ℕ) (n : ℕ) → ExportPnmlAllows net out o → emitting.told o.0 ≡ yields n
-    → (out' : List ℕ) (o' : Emitted × List ℕ) → ImportPnmlAllows (take n o.1) out' o' → ImportAnswers (net_of net) out' o'
+pub export-then_import : (net out : List ℕ) (o : Result ℕ Refusal × List ℕ) (n : ℕ) → ExportPnmlAllows net out o → emitting.told o.0 ≡ yields n
+    → (out' : List ℕ) (o' : Result ℕ Refusal × List ℕ) → ImportPnmlAllows (take n o.1) out' o' → ImportAnswers (net_of net) out' o'
 export-then_import net out o n allows e out' o' allows' =
     imports (net_of net) (exportable net out o n allows e) out' o' (subst (λ text. ImportPnmlAllows text out' o') (text-there net out o n allows e) allows')
 
@@ -125,12 +125,12 @@ module _ (net : PNet) (w : Small net) where
   unfolding pnml body
   same_text = rw (pairs-same net, modes-same net)
 
-pub length-told : (a : Emitted) {n : ℕ} → emitting.told a ≡ yields n → a ≡ Length n
-length-told (Length l) {n} e = let v : some l ≡ some n = ap (λ r. r.value) e in let same : l ≡ n = cc in ap Length same
-length-told (Refused r) {n} e = let v : none ≡ some n = ap (λ r. r.value) e in absurd (none-ne-some n v)
+pub length-told : (a : Result ℕ Refusal) {n : ℕ} → emitting.told a ≡ yields n → a ≡ Ok n
+length-told (Ok l) {n} e = let v : some l ≡ some n = ap (λ r. r.value) e in let same : l ≡ n = cc in ap Ok same
+length-told (Err r) {n} e = let v : none ≡ some n = ap (λ r. r.value) e in absurd (none-ne-some n v)
 
-pub import_then-export : (text out : List ℕ) (o : Emitted × List ℕ) (n : ℕ) → ImportPnmlAllows text out o → emitting.told o.0 ≡ yields n
-    → (out' : List ℕ) (o' : Emitted × List ℕ) → ExportPnmlAllows (take n o.1) out' o' → ExportAnswers text out' o'
+pub import_then-export : (text out : List ℕ) (o : Result ℕ Refusal × List ℕ) (n : ℕ) → ImportPnmlAllows text out o → emitting.told o.0 ≡ yields n
+    → (out' : List ℕ) (o' : Result ℕ Refusal × List ℕ) → ExportPnmlAllows (take n o.1) out' o' → ExportAnswers text out' o'
 import_then-export text out o n allows e out' o' allows' =
     let is-length = length-told o.0 e in
     let found = imports-exactly.only text out o allows n is-length in
@@ -167,7 +167,7 @@ pub export-text : (net text : List ℕ) → ExportWrote net text → text ≡ pn
 export-text net text w = wrote-is (ExportPnmlAllows net) (λ out. export_refusal net (length out)) (export_text net) (λ out o h. h) text w
 
 -- an import that answers a length read an export, and wrote its sheet
-import-writes-by : (text out left : List ℕ) (e : Emitted) (n : ℕ) → (h : ImportPnmlAllows text out (e, left)) → emitting.told e ≡ yields n
+import-writes-by : (text out left : List ℕ) (e : Result ℕ Refusal) (n : ℕ) → (h : ImportPnmlAllows text out (e, left)) → emitting.told e ≡ yields n
     → CallWrote (ImportPnmlAllows text) (take n left) × (drop n left ≡ drop n out)
 import-writes-by bytes out left e n (inl x) t =
     let y = x.each x.net x.exportable x.is in

@@ -1,4 +1,6 @@
 -- What the model proves of a claim, over accepted sheets.
+use Rattle.std.specs.Prelude.{Result, ℤ}
+use Rattle.model.specs.declared.Refusal.{Refusal}
 use Rattle.movement.specs.Exclusion.{Balanced}
 use Rattle.movement.specs.Promises.{Leads}
 use Rattle.model.specs.declared.Mode.{Mode}
@@ -18,9 +20,8 @@ use Rattle.statement.specs.weigh.Calls.{figure_refusal, figure_of}
 use Rattle.statement.specs.exclude.Calls.{exclude_refusal}
 use Rattle.statement.proofs.exclude.Promises.{excluded-exactly}
 use mathlib.Core.Logic.{◌↔◌, ◌≢◌}
-use Rattle.model.specs.declared.Answer.{Answer}
+use Rattle.model.specs.Refusals.{Answer}
 use Rattle.run.specs.Allowed.{CertifyAllows}
-use Rattle.statement.specs.declared.weigh.Figured.{Figured}
 use Rattle.statement.specs.weigh.Allowed.{FigureAllows}
 use Rattle.statement.specs.exclude.Allowed.{ExcludeAllows}
 use Rattle.statement.specs.exclude.Promises.{Excluded}
@@ -66,7 +67,7 @@ claims-no-sheet net weights claim x movements a h z = no_sheet-certifies net wei
 
 pub figure-stays : (net weights marking after : List ℕ) (ts : List Mode) → Balanced (net_of net) (weights_of weights)
     → Accepts Public.figure (net, weights, marking) → Leads (net_of net) ts marking after
-    → (f f' : Figured) → FigureAllows net weights marking f → FigureAllows net weights after f' → f' ≡ f
+    → (f f' : Result ℤ Refusal) → FigureAllows net weights marking f → FigureAllows net weights after f' → f' ≡ f
 figure-stays net weights marking after ts b a l f f' h h' =
     h' ∙ figure_call_constant_lem net weights b ts marking after (accepts-figure net weights marking a) l ∙ sym h
 

@@ -1,7 +1,7 @@
 -- Dead modes by the test of a mode: what the model proves of dead and live modes, over an accepted sheet.
+use Rattle.std.specs.Prelude.{Result}
 use Rattle.model.specs.Markings.{Marking}
 use Rattle.opened.specs.dead.Allowed.{IsDeadAllows}
-use Rattle.opened.specs.declared.dead.Deadness.{Deadness}
 use Rattle.model.specs.Replies.{yields}
 use mathlib.Core.Logic.{◌↔◌}
 use Prim.Native.Nat.{ℕ, ◌<◌}
@@ -75,7 +75,7 @@ live-exactly net t d h = (
   λ r. ap told h ∙ no-told (dead_refusal net t) (is_dead (net_of net) t) (tests_no net t r.0 (accepts-test net r.0 t r.1)),
 )
 
-pub dead-exactly-told : (net : List ℕ) (t : Mode) (d : Deadness) → IsDeadAllows net t d → (told d).carried.number ≡ 0
+pub dead-exactly-told : (net : List ℕ) (t : Mode) (d : Result Bool Refusal) → IsDeadAllows net t d → (told d).carried.number ≡ 0
     → (told d ≡ yields true) ↔ ((m : List ℕ) → Marking (net_of net) m → ¬ Satisfies net t m)
 unfolding dead_refusal
 dead-exactly-told net t d h z =

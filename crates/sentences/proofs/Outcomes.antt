@@ -8,19 +8,17 @@ use lib.IntN.{ℤ}
 use lib.ListN.{length, take, drop}
 use Rattle.model.specs.declared.Mode.{Mode}
 use Rattle.model.specs.declared.Refusal.{Refusal}
-use Rattle.model.specs.declared.Answer.{Answer}
-use Rattle.model.specs.declared.Answer.TheVariants.{Accepted, Refused}
+use Rattle.model.specs.Refusals.{Answer}
+use Rattle.std.specs.Prelude.{Ok, Err, Result}
 use Rattle.model.specs.Refusals.{answer, number, carried}
 use Rattle.model.specs.Replies.{yields}
 use Rattle.model.proofs.First.{left-none, right-none, none_then}
 use Rattle.movement.proofs.Markings.{marking-test}
 use Rattle.sheets.specs.Decoded.{net_of}
-use Rattle.sheets.specs.declared.Emitted.{Emitted}
 use Rattle.sheets.specs.Emitted.{told, emitted, output}
 use Rattle.fire.specs.Calls.{test_refusal}
 use Rattle.fire.specs.step.Calls.{test_step_refusal}
 use Rattle.run.specs.Calls.{before_run, run_of, visited_by, ran_of}
-use Rattle.statement.specs.declared.weigh.Figured.{Figured}
 use Rattle.statement.specs.weigh.Calls as figuring
 use Rattle.statement.specs.weigh.Calls.{figured, figure_refusal}
 use Rattle.statement.specs.exclude.Calls.{exclude_refusal}
@@ -36,9 +34,9 @@ accepted-none {o = o} e z = number-none o (sym (ap number e) ∙ z)
 pub none-accepted : {a : Answer} {o : Option Refusal} → a ≡ answer o → o ≡ none → number a ≡ 0
 none-accepted e n = ap number (e ∙ ap answer n)
 
-pub zero-accepted : (a : Answer) → number a ≡ 0 → a ≡ Accepted
-zero-accepted Accepted e = refl
-zero-accepted (Refused r) e = let z = number-none (some r) e in let y : ◌≡◌ {A = ℕ} 0 1 = cc in absurd (omega arith)
+pub zero-accepted : (a : Answer) → number a ≡ 0 → a ≡ Ok tt
+zero-accepted (Ok tt) e = refl
+zero-accepted (Err r) e = let z = number-none (some r) e in let y : ◌≡◌ {A = ℕ} 0 1 = cc in absurd (omega arith)
 
 -- the figure and the change
 pub weighs-it : (o : Option Refusal) (z : ℤ) → (figuring.told (figured o z)).carried ≡ carried (answer o)
@@ -46,7 +44,7 @@ unfolding figured
 weighs-it none z = refl
 weighs-it (some r) z = refl
 
-pub weighed-none : {f : Figured} {o : Option Refusal} (z : ℤ) → f ≡ figured o z → (figuring.told f).carried.number ≡ 0 → o ≡ none
+pub weighed-none : {f : Result ℤ Refusal} {o : Option Refusal} (z : ℤ) → f ≡ figured o z → (figuring.told f).carried.number ≡ 0 → o ≡ none
 weighed-none {o = o} z e n = number-none o (sym (ap (λ f. (figuring.told f).carried.number) e ∙ ap (λ c. c.number) (weighs-it o z)) ∙ n)
 
 -- calls that are accepted
@@ -117,7 +115,7 @@ module _ (o : Option Refusal) (bytes out left : List ℕ) {n : ℕ} (is : left �
 
 -- so a call that is known by such an equation wrote the length that it told
 pub writes-length : (Allows : Writing) (refusal : List ℕ → Option Refusal) (bytes : List ℕ)
-    → ((out : List ℕ) (o : Emitted × List ℕ) → Allows out o → (o.0 ≡ emitted (refusal out) (length bytes)) × (o.1 ≡ output (refusal out) bytes out)) → WritesLength Allows
+    → ((out : List ℕ) (o : Result ℕ Refusal × List ℕ) → Allows out o → (o.0 ≡ emitted (refusal out) (length bytes)) × (o.1 ≡ output (refusal out) bytes out)) → WritesLength Allows
 writes-length Allows refusal bytes known out left e n h t =
     let k = known out (e, left) h in
     let f = sym (ap told k.0) ∙ t in (
@@ -133,7 +131,7 @@ writes-length Allows refusal bytes known out left e n h t =
 
 -- and the bytes are those
 pub wrote-is : (Allows : Writing) (refusal : List ℕ → Option Refusal) (bytes : List ℕ)
-    → ((out : List ℕ) (o : Emitted × List ℕ) → Allows out o → (o.0 ≡ emitted (refusal out) (length bytes)) × (o.1 ≡ output (refusal out) bytes out))
+    → ((out : List ℕ) (o : Result ℕ Refusal × List ℕ) → Allows out o → (o.0 ≡ emitted (refusal out) (length bytes)) × (o.1 ≡ output (refusal out) bytes out))
     → (written : List ℕ) → CallWrote Allows written → written ≡ bytes
 wrote-is Allows refusal bytes known written w =
     let k = known w.out w.outcome w.allowed in

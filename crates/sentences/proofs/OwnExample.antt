@@ -1,4 +1,5 @@
 -- Document 01's own example: its sheet is read back, and the rest is computed from the net.
+use Rattle.run.specs.declared.salvage.Report.{Report}
 use Prim.Native.Nat.{ℕ, ◌+◌, ◌*◌, ◌≤◌}
 use mathlib.Core.Path.{◌≡◌, refl, sym, ◌∙◌, ap, ap₂, subst}
 use mathlib.Core.Bool.{false}
@@ -16,7 +17,7 @@ use Rattle.model.specs.declared.Fault.TheVariants.{Unbalanced, EqualFigures}
 use Rattle.model.specs.declared.Version.TheVariants.{One}
 use Rattle.model.specs.declared.Why.TheVariants.{Lacking}
 use Rattle.model.specs.declared.Refusal.{Refusal}
-use Rattle.model.specs.declared.Answer.TheVariants as answers
+use Rattle.std.specs.Prelude.{Ok, Err, Result}
 use Rattle.model.specs.Numbers.{∞}
 use Rattle.model.specs.First.{◌▸◌, first}
 use Rattle.model.specs.Nets.{mode_no, entry_at, pair_no}
@@ -50,7 +51,6 @@ use Rattle.sheets.specs.written.Promises.{ReadBack}
 use Rattle.sheets.specs.written.Written.{bytes16, bytes32, version_bytes, of_mode, sheet_of}
 use Rattle.sheets.proofs.written.RoundTrip.{written-then-read}
 use Rattle.sheets.proofs.written.SheetLength.{section_one, fields-length, sheet-length}
-use Rattle.sheets.specs.declared.Emitted.{Emitted}
 use Rattle.sheets.specs.Emitted.{output}
 use Rattle.sheets.specs.Emitted as emitting
 use Rattle.fire.specs.Calls.{begin_refusal, test_refusal}
@@ -82,8 +82,6 @@ use Rattle.complement.specs.audit.Audits as auditing
 use Rattle.complement.specs.audit.Audits.{auditing_refusal}
 use Rattle.complement.proofs.audit.Answers.{told-found}
 use Rattle.damaged.specs.Damaged.{considered}
-use Rattle.run.specs.declared.salvage.Salvaged.{Salvaged}
-use Rattle.run.specs.declared.salvage.Salvaged.TheVariants.{Written}
 use Rattle.run.specs.salvage.MovementSheet.{movement_sheet}
 use Rattle.run.specs.salvage.Salvaged.{sheet_of_first, report_of, salvaged, trial, kept, report, fresh_sheet, salvage_refusal, salvage_of}
 use Rattle.run.specs.salvage.Salvaged as salvaging
@@ -248,7 +246,7 @@ unfolding change sum weights_of table signed u16_at u32_at entry_at
 change-is = refl
 
 sailed : voyage_of (ship own.net sheets.weights sheets.movements)
-    ≡ record { accepted = 3; answer = answers.Refused (lacking Movements 1); added = pos 0; removed = pos 750 }
+    ≡ record { accepted = 3; answer = Err (lacking Movements 1); added = pos 0; removed = pos 750 }
 unfolding voyage_of added_by removed_by change sum weights_of movements_of table signed u16_at u32_at entry_at
 sailed = rw (read_back_lem.same, runs)
 
@@ -351,14 +349,14 @@ module _ (s : List ℕ) (read : whole_movements s ≡ none) (o : Outcome) (is : 
       none_then read_back_lem.accepted
       (none_then (not_damaged s read) (roomy s (kept own.net s) (kept-part own.net s) (omega (arith, ap (λ o. o.accepted) trial-is))))
 
-  salvage-told : salvage_of own.net s own.room ≡ Written (report_of s o.accepted (answer o.refusal))
+  salvage-told : salvage_of own.net s own.room ≡ Ok (report_of s o.accepted (answer o.refusal))
   salvage-told =
-      ap (λ r. salvaged r (report own.net s)) salvage-accepted ∙ ap (λ o. Written (report_of s o.accepted (answer o.refusal))) trial-is
+      ap (λ r. salvaged r (report own.net s)) salvage-accepted ∙ ap (λ o. Ok (report_of s o.accepted (answer o.refusal))) trial-is
 
-pub salvages-whole : salvage_of own.net own.three own.room ≡ Written (report_of own.three 3 answers.Accepted)
+pub salvages-whole : salvage_of own.net own.three own.room ≡ Ok (report_of own.three 3 (Ok tt))
 salvages-whole = salvage-told own.three three-read _ lands (omega arith)
 
-pub salvages-three : salvage_of own.net sheets.movements own.room ≡ Written (report_of sheets.movements 3 (answers.Refused (lacking Movements 1)))
+pub salvages-three : salvage_of own.net sheets.movements own.room ≡ Ok (report_of sheets.movements 3 (Err (lacking Movements 1)))
 salvages-three = salvage-told sheets.movements movements-read stops runs (omega arith)
 
 four-considered : considered sheets.movements ≡ 4
@@ -375,12 +373,12 @@ fresh-is =
     ∙ ap (λ ts. movement_sheet (take 3 ts)) (same-modes sheets.movements movements-read)
     ∙ three-written
 
-salvage_allows : (o : Salvaged × List ℕ) → SalvageAllows own.net sheets.movements own.room o → SalvagesTo o
+salvage_allows : (o : Result Report Refusal × List ℕ) → SalvageAllows own.net sheets.movements own.room o → SalvagesTo o
 salvage_allows o a =
     let s = sheets.movements in
     let long = first-length s 3 (omega (arith, four-considered)) in
     record {
-      report = report_of s 3 (answers.Refused (lacking Movements 1));
+      report = report_of s 3 (Err (lacking Movements 1));
       told = ap salvaging.told (a.0 ∙ salvages-three);
       counts = (long, refl, omega (arith, four-considered));
       stop = refl;
@@ -409,7 +407,7 @@ printed-text : pnml own_example.printed ≡ own.text
 unfolding opening closing three place_text transition_text weight_text pre_text post_text arc_text mode_text body pnml joined of_mode flat_map decimal decimal_within
 printed-text = refl
 
-export_allows : (o : Emitted × List ℕ) → ExportPnmlAllows own.complement_net (replicate 887 0) o → (emitting.told o.0 ≡ yields 887) × (o.1 ≡ own.text)
+export_allows : (o : Result ℕ Refusal × List ℕ) → ExportPnmlAllows own.complement_net (replicate 887 0) o → (emitting.told o.0 ≡ yields 887) × (o.1 ≡ own.text)
 unfolding opening closing
 export_allows o a =
     let same = printed-back.same in
@@ -420,7 +418,7 @@ export_allows o a =
 singles-printed : singles own_example.printed ≡ own_example.printed
 singles-printed = refl
 
-import_allows : (o : Emitted × List ℕ) → ImportPnmlAllows own.text own.room o → (emitting.told o.0 ≡ yields 91) × (o.1 ≡ own.complement_net)
+import_allows : (o : Result ℕ Refusal × List ℕ) → ImportPnmlAllows own.text own.room o → (emitting.told o.0 ≡ yields 91) × (o.1 ≡ own.complement_net)
 import_allows o a =
     let net = own_example.printed in
     let small : Small net = record { exportable = printed-exportable; pairs = omega arith; modes = omega arith } in

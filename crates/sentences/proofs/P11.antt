@@ -5,8 +5,8 @@ use mathlib.Core.List.{List}
 use mathlib.Core.Option.{some, none-ne-some}
 use lib.ListN.{length}
 use Rattle.model.specs.declared.Refusal.{Refusal}
-use Rattle.model.specs.declared.Answer.{Answer}
-use Rattle.model.specs.declared.Answer.TheVariants.{Refused}
+use Rattle.model.specs.Refusals.{Answer}
+use Rattle.std.specs.Prelude.{Err}
 use Rattle.model.specs.Refusals.{answer, number}
 use Rattle.sheets.specs.Emitted.{output}
 use Rattle.run.specs.declared.salvage.Report.{Report}
@@ -20,7 +20,7 @@ use Rattle.sentences.proofs.Accepting.{number-none}
 use Rattle.sentences.proofs.Outcomes.{zero-accepted, run-accepts}
 use Rattle.sentences.proofs.Written.{wrote, salvages-so}
 
-refused-not : (r : Refusal) {a : Answer} → a ≡ Refused r → ¬ (number a ≡ 0)
+refused-not : (r : Refusal) {a : Answer} → a ≡ Err r → ¬ (number a ≡ 0)
 refused-not r e z = none-ne-some r (sym (number-none (some r) (sym (ap number e) ∙ z)))
 
 pub salvages : (net damaged sheet : List ℕ) (report : Report) → Bytes damaged → SalvageWrote net damaged sheet report → Salvages net damaged sheet report

@@ -1,4 +1,5 @@
 -- Conversions there and back by what the calls wrote (document 02, P9).
+use Rattle.std.specs.Prelude.{Ok}
 use Prim.Native.Nat.{ℕ}
 use mathlib.Core.Path.{◌≡◌, sym, ◌∙◌, ap, subst}
 use mathlib.Core.List.{List}
@@ -7,7 +8,6 @@ use lib.ListN.{length}
 use Rattle.model.specs.declared.Version.{Version}
 use Rattle.model.proofs.First.{left-none, right-none}
 use Rattle.sheets.specs.Decoded.{net_of}
-use Rattle.sheets.specs.declared.Emitted.TheVariants.{Length}
 use Rattle.sheets.specs.Emitted.{told}
 use Rattle.convert.specs.Converted.{of_version, converted_sheet, lost_rule, open_refusal, convert_refusal, conversion_of, output_of}
 use Rattle.convert.proofs.Promises.{converted_reads_lem, there_and_back_lem}
@@ -51,7 +51,7 @@ module _ (source target : Version) (s sheet : List ℕ) (w : CallWrote (Converti
         room = λ out left e h l.
             let told-first = sym (length-told w.outcome.0 w.answered) ∙ w.allowed.0 in
             let again = (back.calls w.out out w.outcome.1 (length sheet) l told-first w.allowed.1).0 in
-            ap told (h.0 ∙ sym (subst (λ t. Length (length s) ≡ conversion_of target source t out) w.written again));
+            ap told (h.0 ∙ sym (subst (λ t. Ok (length s) ≡ conversion_of target source t out) w.written again));
       }
 
 pub converts : (source target : Version) (s : List ℕ) → Converts target (Converting source target) (Converting target source) s

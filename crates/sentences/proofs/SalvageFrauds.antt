@@ -1,4 +1,6 @@
 -- A salvage keeps a mode that the net accepts first, and not one that it refuses.
+use Rattle.std.specs.Prelude.{Result, Ok}
+use Rattle.model.specs.declared.Refusal.{Refusal}
 use Prim.Native.Nat.{ℕ, ◌<◌}
 use mathlib.Core.Path.{◌≡◌, sym, ◌∙◌, ap}
 use mathlib.Core.List.{List}
@@ -16,8 +18,6 @@ use Rattle.sheets.specs.Decoded.{net_of}
 use Rattle.damaged.specs.Damaged.{modes_in}
 use Rattle.run.proofs.salvage.Considered.{modes-length}
 use Rattle.run.specs.declared.salvage.Report.{Report}
-use Rattle.run.specs.declared.salvage.Salvaged.{Salvaged}
-use Rattle.run.specs.declared.salvage.Salvaged.TheVariants.{Written}
 use Rattle.run.specs.salvage.Salvaged.{trial, kept, salvage_refusal}
 use Rattle.run.specs.salvage.Allowed.{SalvageAllows}
 use Rattle.run.proofs.salvage.Promises.{report-told}
@@ -33,7 +33,7 @@ first-kept net ts m h e q =
     omega (arith, r.whole.0 (refusal ∙ e))
 
 -- what is told to be kept
-kept-told : (net damaged out : List ℕ) (o : Salvaged × List ℕ) → SalvageAllows net damaged out o → (told : Report) → o.0 ≡ Written told → told.kept ≡ kept net damaged
+kept-told : (net damaged out : List ℕ) (o : Result Report Refusal × List ℕ) → SalvageAllows net damaged out o → (told : Report) → o.0 ≡ Ok told → told.kept ≡ kept net damaged
 kept-told net damaged out o allows told e = ap (λ r. r.kept) (report-told (salvage_refusal net damaged (length out)) (sym e ∙ allows.0)).1
 
 pub salvage-frauds : SalvageFrauds

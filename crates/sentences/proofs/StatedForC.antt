@@ -1,7 +1,8 @@
 -- The calls for C: their source's contracts and `ForC`.
+use Rattle.std.specs.Prelude.{ℕ, Result}
+use Rattle.model.specs.declared.Refusal.{Refusal}
 use mathlib.Core.Path.{◌≡◌, refl, ◌∙◌, ap}
 use mathlib.Core.Logic.{◌↔◌}
-use Rattle.sheets.specs.declared.Emitted.{Emitted}
 use Rattle.sheets.specs.Emitted as emitting
 use Rattle.opened.specs.dead.IsDead as one
 use Rattle.opened.specs.dead.FirstDead as first
@@ -22,7 +23,7 @@ module _ {A D : Type 0} (tell : A → D) (x : A) (d : D) where
   leaves : {L : Type 0} (y l : L) → ((d ≡ tell x) × (l ≡ y)) ↔ ((a : A) × ((a ≡ x) × (l ≡ y)) × (d ≡ tell a))
   leaves y l = (λ h. (x, (refl, h.1), h.0), λ h. (h.2 ∙ ap tell h.1.0, h.1.1))
 
-abbrev emits : Emitted → Counted
+abbrev emits : Result ℕ Refusal → Counted
 emits e = counted (emitting.told e)
 
 pub stated-for-c : StatedForC

@@ -1,7 +1,8 @@
 -- Each call asks of the net what stripping keeps.
+use Rattle.std.specs.Prelude.{Result}
+use Rattle.model.specs.declared.Refusal.{Refusal}
 use Rattle.model.specs.Replies.{yields}
 use Rattle.convert.specs.strip.Allowed.{StripAllows}
-use Rattle.sheets.specs.declared.Emitted.{Emitted}
 use Prim.Native.Nat.{ℕ, suc, ◌+◌, ◌≤◌, ◌<◌}
 use mathlib.Core.Path.{◌≡◌, refl, sym, ◌∙◌, ap, subst}
 use mathlib.Core.Bool.{true, false≢true}
@@ -15,7 +16,7 @@ use borrow.Author.Tests.{leb-false, not-false}
 use Rattle.model.specs.declared.Pair.{Pair}
 use Rattle.model.specs.declared.Mode.{Mode}
 use Rattle.model.specs.declared.Version.{Version}
-use Rattle.model.specs.declared.Answer.{Answer}
+use Rattle.model.specs.Refusals.{Answer}
 use Rattle.model.specs.declared.Thing.TheVariants.{Movements, Argument}
 use Rattle.model.specs.Numbers.{ℕ∞, fin, ∞}
 use Rattle.model.specs.Nets.{PNet, total, pairs, modes, K, count}
@@ -213,7 +214,7 @@ module _ (net sheet : List ℕ) (p : Pair) (k : ℕ) (w : whole_net net ≡ none
           change = λ weights t l answer left h. rw (change-same weights t l, same, kept.changes (weights_of weights) t l) h;
           add_ship = λ found weights movements old answer left h. rw (ship-same found weights movements old) h;
           is_dead = λ t l answer left h. rw (dead-refusal-same t l, dead-same t l) h;
-          first_dead = λ answer left h. rw (w', same, no_new-dead (net_of net) p k well bounded, ← w) h;
+          first_dead = λ answer left h. rw (w', same, no_new-dead (net_of net) p k well bounded) (rw w at h);
           statement = λ more out bytes l l' old answer left h. rw (texts-same more bytes l l' old) h;
         }
 
@@ -258,7 +259,7 @@ pair-there net p e = (
   bound-is (K net p.0) (not-false _ (only_if_none _ _ (left-none _ _ (right-none _ _ e)))),
 )
 
-pub stripping : (net : List ℕ) (p : Pair) (out : List ℕ) (o : Emitted × List ℕ) (n : ℕ) → StripAllows net p out o → answered o.0 ≡ yields n
+pub stripping : (net : List ℕ) (p : Pair) (out : List ℕ) (o : Result ℕ Refusal × List ℕ) (n : ℕ) → StripAllows net p out o → answered o.0 ≡ yields n
     → StripWritten net p out o.1 n
 unfolding whole_net
 stripping net p out o n allows e =

@@ -12,8 +12,8 @@ use native.Mathlib.Omega.{arith}
 use Rattle.model.specs.declared.Mode.{Mode}
 use Rattle.model.specs.declared.Thing.TheVariants.{Movements}
 use Rattle.model.specs.declared.Refusal.{Refusal}
-use Rattle.model.specs.declared.Answer.{Answer}
-use Rattle.model.specs.declared.Answer.TheVariants.{Accepted, Refused}
+use Rattle.model.specs.Refusals.{Answer}
+use Rattle.std.specs.Prelude.{Ok, Err}
 use Rattle.model.specs.Refusals.{line, answer, thing}
 use Rattle.model.specs.Nets.{PNet, pairs, mode_no}
 use Rattle.model.specs.Markings.{Marking}
@@ -71,7 +71,7 @@ bad_size r s =
     simp length-append
     (omega (
       arith,
-      length-at-most (thing (Refused r)) 0 (thing-small r),
+      length-at-most (thing (Err r)) 0 (thing-small r),
       length-at-most (line r.fault).number 1 s.number,
       length-at-most (line r.fault).position 18 s.position,
     ))
@@ -84,8 +84,8 @@ unless_most (some r) text says h = omega (arith, bad_size r (says.small r refl))
 
 rest_bytes_lem : (a : Answer) (s : List ℕ) → ((i : ℕ) → byte_at s i < 256) → (i : ℕ) → byte_at (rest a s) i < 256
 unfolding rest
-rest_bytes_lem Accepted s byte i = rw (get_or-drop (sheet_end s) s i 0) (byte (sheet_end s + i))
-rest_bytes_lem (Refused r) s byte i = byte i
+rest_bytes_lem (Ok tt) s byte i = rw (get_or-drop (sheet_end s) s i 0) (byte (sheet_end s + i))
+rest_bytes_lem (Err r) s byte i = byte i
 
 module _ (s : List ℕ) (accepted : net_refusal s ≡ none) (w : List ℕ) (weighed : weights_refusal (pairs (net_of s)) w ≡ none) where
   abbrev net : PNet

@@ -1,4 +1,6 @@
 -- The call compares the slice's length with 262,144 before all else.
+use Rattle.std.specs.Prelude.{Result, Ok, Err}
+use Rattle.model.specs.declared.Refusal.{Refusal}
 use Rattle.statement.specs.Allowed.{StatementAllows}
 use Rattle.sentences.specs.Calls.{Public, emits, for_c}
 use Rattle.model.specs.Refusals.{carries, wrong}
@@ -12,8 +14,6 @@ use borrow.Author.Tests.{lt-ltb, le-ltb}
 use Rattle.model.specs.declared.Thing.TheVariants.{Net}
 use Rattle.model.specs.declared.Fault.TheVariants.{NoRoom}
 use Rattle.model.proofs.First.{below_or}
-use Rattle.sheets.specs.declared.Emitted.TheVariants.{Length, Refused}
-use Rattle.sheets.specs.declared.Emitted.{Emitted}
 use Rattle.answers.specs.declared.Counted.{Counted}
 use Rattle.sheets.specs.Emitted.{told}
 use Rattle.statement.specs.Replay.{room, replay_text, stated}
@@ -29,15 +29,15 @@ by-room out apart less more =
     }
 
 module _ (input out : List ℕ) where
-  no_room : length out < room → stated input out ≡ Refused (wrong Net NoRoom)
+  no_room : length out < room → stated input out ≡ Err (wrong Net NoRoom)
   unfolding stated
   no_room l = rw (lt-ltb (length out) room l)
 
-  all-written : room ≤ length out → stated input out ≡ Length (length (replay_text input))
+  all-written : room ≤ length out → stated input out ≡ Ok (length (replay_text input))
   unfolding stated
   all-written l = rw (le-ltb (length out) room l)
 
-pub by-statement : (input out : List ℕ) (o : Emitted × List ℕ) → StatementAllows input out o → ByRoom (emits o.0) (carries 10 0 0) (carries 0 0 0) out
+pub by-statement : (input out : List ℕ) (o : Result ℕ Refusal × List ℕ) → StatementAllows input out o → ByRoom (emits o.0) (carries 10 0 0) (carries 0 0 0) out
 by-statement input out o a =
     by-room out (λ e. let z : ◌≡◌ {A = ℕ} 10 0 = ap (λ c. c.number) e in absurd (omega arith))
     (λ l. ap (λ s. (told s).carried) (a.0 ∙ no_room input out l))

@@ -3,7 +3,7 @@ use Prim.Native.Nat.{ℕ}
 use mathlib.Core.Path.{◌≡◌, subst}
 use mathlib.Core.List.{List}
 use Rattle.model.specs.declared.Mode.{Mode}
-use Rattle.model.specs.declared.Answer.{Answer}
+use Rattle.model.specs.Refusals.{Answer}
 use Rattle.model.specs.declared.CapacityRule.TheVariants.{Weak}
 use Rattle.model.specs.Refusals.{number}
 use Rattle.model.specs.Nets.{pairs, K, count, row}

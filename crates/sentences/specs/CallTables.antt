@@ -1,6 +1,7 @@
 -- The exact refusal table of each call, row by row in document 01's words and order. A row is given, with its number, thing, position and amount, exactly
 -- when its proposition holds and no earlier row's does.
-use Rattle.std.specs.Prelude.{ℕ, ◌+◌, ◌-◌, ◌≤◌, ◌<◌, ◌≡◌, List, [], ◌∷◌, map, ◌↔◌, ◌⊎◌, ◌≢◌, ℤ, pos, ◌+ℤ◌, length, take, get_or}
+use Rattle.model.specs.declared.Refusal.{Refusal}
+use Rattle.std.specs.Prelude.{ℕ, ◌+◌, ◌-◌, ◌≤◌, ◌<◌, ◌≡◌, List, [], ◌∷◌, map, ◌↔◌, ◌⊎◌, ◌≢◌, ℤ, pos, ◌+ℤ◌, length, take, get_or, Result}
 use Rattle.model.specs.declared.Pair.{Pair}
 use Rattle.model.specs.declared.Mode.{Mode}
 use Rattle.model.specs.declared.CapacityRule.TheVariants.{Weak}
@@ -41,7 +42,6 @@ use Rattle.export.specs.Exports.{capacity_offset, export_text}
 use Rattle.import.specs.RefusalTable.{import_table}
 use Rattle.damaged.specs.Damaged.{modes_in}
 use Rattle.run.specs.declared.salvage.Report.{Report}
-use Rattle.run.specs.declared.salvage.Salvaged.{Salvaged}
 use Rattle.run.specs.salvage.Salvaged.{fresh_sheet}
 use Rattle.run.specs.salvage.Salvaged as salvaging
 use Rattle.run.specs.salvage.Allowed.{SalvageAllows}
@@ -259,7 +259,7 @@ pub record CallTables : Type 0 where
   pub run_stops : (net movements marking left : List ℕ) (r : Ran) → RunAllows net movements marking (r, left) → Begins net movements marking
       → r.accepted < length (movements_of movements) → Carries (mode_table 2 (net_of net) (movement_no movements r.accepted) left) (carried r.answer)
   -- and "the first refusal" that a salvage reports is that of the first of its modes that is refused
-  pub salvage_stops : (net damaged out left : List ℕ) (o : Salvaged) (report : Report) → SalvageAllows net damaged out (o, left)
+  pub salvage_stops : (net damaged out left : List ℕ) (o : Result Report Refusal) (report : Report) → SalvageAllows net damaged out (o, left)
       → salvaging.told o ≡ yields report
       → Carries (moves_table (net_of net) (modes_in damaged) (net_of net).start) (carried report.stop)
 

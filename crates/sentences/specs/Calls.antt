@@ -1,12 +1,12 @@
 -- The public calls, each once: its contract and what it carries; and what C is told of it. A call for C allows what is told of an answer that the library's
 -- contract allows, and leaves what that leaves.
-use Rattle.std.specs.Prelude.{◌<◌}
+use Rattle.model.specs.declared.Refusal.{Refusal}
+use Rattle.std.specs.Prelude.{ℕ, ◌<◌, Result}
 use Rattle.model.specs.declared.Pair.{Pair}
 use Rattle.model.specs.declared.Mode.{Mode}
 use Rattle.model.specs.Refusals.{Carried, carries_by, carried}
 use Rattle.sheets.specs.lists.Allowed.{ReadWeightsAllows, ReadMovementsAllows}
 use Rattle.sheets.specs.nets.Allowed.{ReadNetAllows}
-use Rattle.sheets.specs.declared.Emitted.{Emitted}
 use Rattle.sheets.specs.Emitted as emitting
 use Rattle.fire.specs.Allowed.{BeginAllows, TestAllows, FireAllows}
 use Rattle.run.specs.Allowed.{RunAllows, CertifyAllows}
@@ -43,7 +43,7 @@ pub data Public : Type 0 where
   figure change fleet_add exclude is_dead first_dead size audit : Public
   complement to_version2 to_version1 strip export_pnml import_pnml salvage statement : Public
 
-abbrev pub emits : Emitted → Carried
+abbrev pub emits : Result ℕ Refusal → Carried
 emits e = (emitting.told e).carried
 
 abbrev pub AMode : Mode → Type 0

@@ -1,8 +1,8 @@
 -- "Refusing all, or one constant answer, breaks the exact refusal table": each contract accepts something, refuses something, and excludes every answer somewhere.
-use Rattle.std.specs.Prelude.{ℕ, ◌≡◌, ◌≢◌}
+use Rattle.run.specs.declared.salvage.Report.{Report}
+use Rattle.model.specs.declared.Refusal.{Refusal}
+use Rattle.std.specs.Prelude.{ℕ, ◌≡◌, ◌≢◌, Result, Ok, Err}
 use Rattle.model.specs.Refusals.{amount}
-use Rattle.run.specs.declared.salvage.Salvaged.{Salvaged}
-use Rattle.run.specs.declared.salvage.Salvaged.TheVariants.{Written, Refused}
 use Rattle.sentences.specs.Call.{Call}
 use Rattle.sentences.specs.Calls.{Public, call, for_c}
 use Rattle.sentences.specs.EveryCall.{Alone, EveryCall, alone, every}
@@ -40,9 +40,9 @@ abbrev pub ByAmount : Call → Type 0
 ByAmount c = NotConstant c (λ a. (c.carried a).amount)
 
 -- the amount of the first refusal that a salvage reports, 0 where the call is refused
-abbrev pub stop_by : Salvaged → ℕ
-stop_by (Written report) = amount report.stop
-stop_by (Refused r) = 0
+abbrev pub stop_by : Result Report Refusal → ℕ
+stop_by (Ok report) = amount report.stop
+stop_by (Err r) = 0
 
 pub record Stopped (calls : Public → Call) : Type 0 where
   pub test : ByAmount (calls Public.test)

@@ -1,11 +1,12 @@
 -- Demand 2: "Reading, firing, running a list, complementing, checking a reachability certificate, naming dead modes and summing the figure answer as Billington's P-net
 -- definition and document 01 say. The figure after a list is the starting figure plus the weight change of each accepted movement." Which refusals, demand 1 says.
-use Rattle.std.specs.Prelude.{ℕ, ◌≤◌, ◌<◌, ◌≡◌, true, List, ◌↔◌, ◌≢◌, ℤ, pos, ◌+ℤ◌, ◌-ℤ◌, ◌*ℤ◌, length, take, drop}
+use Rattle.model.specs.declared.Pair.{Pair}
+use Rattle.std.specs.Prelude.{Option as Perhaps, ℕ, ◌≤◌, ◌<◌, ◌≡◌, true, List, ◌↔◌, ◌≢◌, ℤ, pos, ◌+ℤ◌, ◌-ℤ◌, ◌*ℤ◌, length, take, drop, Result, Bool}
 use Rattle.std.proofs.Math.Option.{Option, none, some}
 use Rattle.model.specs.declared.Mode.{Mode}
 use Rattle.model.specs.declared.Refusal.{Refusal}
 use Rattle.model.specs.declared.Version.TheVariants.{One}
-use Rattle.model.specs.declared.Answer.{Answer}
+use Rattle.model.specs.Refusals.{Answer}
 use Rattle.model.specs.Refusals.{carries, number}
 use Rattle.model.specs.Replies.{yields}
 use Rattle.model.specs.First.{Lowest, NoneBelow}
@@ -30,18 +31,14 @@ use Rattle.sheets.specs.Accepted.{AcceptedNet, AcceptedMovements, AcceptedWeight
 use Rattle.sheets.specs.lists.Promises.{SignedWeights}
 use Rattle.sheets.specs.written.Promises.{WrittenThenRead, ReadThenWritten}
 use Rattle.sentences.specs.Largest.{Largest}
-use Rattle.sheets.specs.declared.Emitted.{Emitted}
 use Rattle.fire.specs.Allowed.{BeginAllows, TestAllows, FireAllows}
 use Rattle.fire.specs.Promises.{Fires}
 use Rattle.run.specs.declared.Ran.{Ran}
 use Rattle.run.specs.Allowed.{RunAllows, CertifyAllows}
 use Rattle.complement.specs.Allowed.{ComplementAllows}
-use Rattle.opened.specs.declared.dead.Deadness.{Deadness}
-use Rattle.opened.specs.declared.dead.FirstDead.{FirstDead}
 use Rattle.opened.specs.dead.IsDead as one
 use Rattle.opened.specs.dead.FirstDead as first
 use Rattle.opened.specs.dead.Allowed.{IsDeadAllows, FirstDeadAllows}
-use Rattle.statement.specs.declared.weigh.Figured.{Figured}
 use Rattle.statement.specs.weigh.Calls.{told}
 use Rattle.statement.specs.weigh.Allowed.{FigureAllows, ChangeAllows}
 use Rattle.text.specs.Promises.{Decimals}
@@ -124,20 +121,20 @@ DeadAt net t p = (p < pairs (net_of net)) × KillsAt (net_of net) (mode_no t) p
 
 pub record NamingDead : Type 0 where
   -- "gives yes or no"
-  pub is_dead : (net : List ℕ) (t : Mode) (d : Deadness) → IsDeadAllows net t d → (one.told d).carried.number ≡ 0
+  pub is_dead : (net : List ℕ) (t : Mode) (d : Result Bool Refusal) → IsDeadAllows net t d → (one.told d).carried.number ≡ 0
       → (one.told d ≡ yields true) ↔ ((p : ℕ) × DeadAt net t.0 p)
   -- "its lowest locally dead mode with the lowest pair that makes it so, or none"
-  pub first_dead : (net : List ℕ) (d : FirstDead) → FirstDeadAllows net d → (first.told d).carried.number ≡ 0 → (t p : ℕ)
+  pub first_dead : (net : List ℕ) (d : Result (Perhaps (Mode × Pair)) Refusal) → FirstDeadAllows net d → (first.told d).carried.number ≡ 0 → (t p : ℕ)
       → (first.told d ≡ yields (some (record { mode = mode_no t; pair = pair_no p })))
       ↔ (Lowest (modes (net_of net)) (λ u. (q : ℕ) × DeadAt net u q) t × Lowest (pairs (net_of net)) (KillsAt (net_of net) (mode_no t)) p)
-  pub none : (net : List ℕ) (d : FirstDead) → FirstDeadAllows net d → (first.told d).carried.number ≡ 0
+  pub none : (net : List ℕ) (d : Result (Perhaps (Mode × Pair)) Refusal) → FirstDeadAllows net d → (first.told d).carried.number ≡ 0
       → (first.told d ≡ yields none) ↔ NoneBelow (modes (net_of net)) (λ t. (p : ℕ) × DeadAt net t p)
 
 -- Summing the figure. "The figure is the sum over all pairs of weight times count."; "A mode's weight change is the sum of weight times (Post less Pre)."
 pub record Summing : Type 0 where
-  pub figure : (net weights marking : List ℕ) (f : Figured) → FigureAllows net weights marking f → (told f).carried.number ≡ 0
+  pub figure : (net weights marking : List ℕ) (f : Result ℤ Refusal) → FigureAllows net weights marking f → (told f).carried.number ≡ 0
       → told f ≡ yields (sum (pairs (net_of net)) (λ p. weight (weights_of weights) p *ℤ pos (count marking p)))
-  pub change : (net weights : List ℕ) (t : Mode) (f : Figured) → ChangeAllows net weights t f → (told f).carried.number ≡ 0
+  pub change : (net weights : List ℕ) (t : Mode) (f : Result ℤ Refusal) → ChangeAllows net weights t f → (told f).carried.number ≡ 0
       → told f ≡ yields (sum (pairs (net_of net)) (λ p. weight (weights_of weights) p *ℤ (pos (row (net_of net) t p).post -ℤ pos (row (net_of net) t p).pre)))
 
 -- "The figure after a list is the starting figure plus the weight change of each accepted movement."
@@ -146,9 +143,9 @@ module _ (net weights movements marking left : List ℕ) (r : Ran) where
     pub start : ℤ
     pub change : ℕ → ℤ
     -- the figure call answers the starting figure, the change call the change of each accepted movement, and the figure call of the marking that the run leaves
-    pub starts : (f : Figured) → FigureAllows net weights marking f → told f ≡ yields start
-    pub moves : (k : ℕ) → k < r.accepted → (f : Figured) → ChangeAllows net weights (movement_no movements k) f → told f ≡ yields (change k)
-    pub ends : (f : Figured) → FigureAllows net weights left f → told f ≡ yields (start +ℤ sum r.accepted change)
+    pub starts : (f : Result ℤ Refusal) → FigureAllows net weights marking f → told f ≡ yields start
+    pub moves : (k : ℕ) → k < r.accepted → (f : Result ℤ Refusal) → ChangeAllows net weights (movement_no movements k) f → told f ≡ yields (change k)
+    pub ends : (f : Result ℤ Refusal) → FigureAllows net weights left f → told f ≡ yields (start +ℤ sum r.accepted change)
 
 abbrev pub FigureOverList : Type 0
 FigureOverList = (net weights movements marking left : List ℕ) (r : Ran) → Accepts Public.figure (net, weights, marking)
@@ -163,7 +160,7 @@ pub record ByRoom {A : Type 0} (told refused accepted : A) (out : List ℕ) : Ty
 pub record Replay : Type 0 where
   pub writes : (input : List ℕ) → WritesLength (StatementAllows input)
   pub text : (input text : List ℕ) → CallWrote (StatementAllows input) text → text ≡ replay_text input
-  pub statement : (input out : List ℕ) (o : Emitted × List ℕ) → StatementAllows input out o → ByRoom (emits o.0) (carries 10 0 0) (carries 0 0 0) out
+  pub statement : (input out : List ℕ) (o : Result ℕ Refusal × List ℕ) → StatementAllows input out o → ByRoom (emits o.0) (carries 10 0 0) (carries 0 0 0) out
   pub statement_for_c : (input out : List ℕ) (told : Counted) (left : List ℕ) → (for_c Public.statement).Allows (input, out) told left
       → ByRoom told.answer.number 10 0 out
   pub longest : (input : List ℕ) → Bytes input → length (replay_text input) ≤ 262144

@@ -1,9 +1,7 @@
 -- Every call: those of the library, the same for C, and those that the library has alone.
-use Rattle.std.specs.Prelude.{ℕ, List, length}
+use Rattle.std.specs.Prelude.{ℕ, List, length, Some, None, Option as Perhaps}
 use Rattle.model.specs.Refusals.{Carried, carries, carried}
 use Rattle.sheets.specs.Allowed.{AfterNetAllows, AfterWeightsAllows, AfterMovementsAllows, WholeNetAllows, WholeWeightsAllows, WholeMovementsAllows}
-use Rattle.text.specs.declared.Put.{Put}
-use Rattle.text.specs.declared.Put.TheVariants.{To, Full}
 use Rattle.text.specs.Allowed.{PutBytesAllows, PutDecimalAllows, PutSignedAllows}
 use Rattle.sentences.specs.Bytes.{Bytes}
 use Rattle.sentences.specs.Call.{Call, answering, writing, Word, Signed, on₂, on₃, both, all₃}
@@ -18,9 +16,9 @@ pub data Alone : Type 0 where
 abbrev pub part : List ℕ → Carried
 part s = carries (length s) 0 0
 
-abbrev pub full : Put → Carried
-full (To after) = carries 0 0 0
-full Full = carries 1 0 0
+abbrev pub full : Perhaps ℕ → Carried
+full (Some after) = carries 0 0 0
+full None = carries 1 0 0
 
 abbrev pub alone : Alone → Call
 alone after_net = answering AfterNetAllows part Bytes

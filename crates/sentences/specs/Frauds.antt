@@ -1,10 +1,11 @@
 -- "These frauds are shown to break it." Each is excluded by the contract that the call's source states.
-use Rattle.std.specs.Prelude.{ℕ, ◌+◌, ◌≤◌, ◌<◌, ◌≡◌, List, [], ◌∷◌, ◌++◌, map, ◌↔◌, ◌≢◌, negsuc, length, take, drop, get_or}
+use Rattle.model.specs.declared.Refusal.{Refusal}
+use Rattle.std.specs.Prelude.{Option as Perhaps, ℕ, ◌+◌, ◌≤◌, ◌<◌, ◌≡◌, List, [], ◌∷◌, ◌++◌, map, ◌↔◌, ◌≢◌, negsuc, length, take, drop, get_or, Result, Ok, None, ℤ}
 use Rattle.std.proofs.Math.Option.{none}
 use Rattle.model.specs.declared.Pair.{Pair}
 use Rattle.model.specs.declared.Mode.{Mode}
 use Rattle.model.specs.declared.Thing.TheVariants.{Movements}
-use Rattle.model.specs.declared.Answer.{Answer}
+use Rattle.model.specs.Refusals.{Answer}
 use Rattle.model.specs.Refusals.{number}
 use Rattle.model.specs.Replies.{yields}
 use Rattle.model.specs.Numbers.{fin}
@@ -17,7 +18,6 @@ use Rattle.movement.specs.Promises.{Leads}
 use Rattle.both_forms.specs.Visits.{arcs_of_mode}
 use Rattle.movement.specs.Figures.{change}
 use Rattle.sheets.specs.Decoded.{net_of, weights_of, movements_of}
-use Rattle.sheets.specs.declared.Emitted.{Emitted}
 use Rattle.sheets.specs.Emitted as emitting
 use Rattle.fire.specs.Allowed.{FireAllows}
 use Rattle.run.specs.declared.Ran.{Ran}
@@ -35,14 +35,10 @@ use Rattle.convert.specs.strip.Allowed.{StripAllows}
 use Rattle.pnml.specs.Pnml.{opening, closing}
 use Rattle.export.specs.Allowed.{ExportPnmlAllows}
 use Rattle.import.specs.Allowed.{ImportPnmlAllows}
-use Rattle.complement.specs.declared.audit.Found.{Found}
-use Rattle.complement.specs.declared.audit.Found.TheVariants.{Nothing}
 use Rattle.complement.specs.audit.Audits as audits
 use Rattle.complement.specs.audit.Allowed.{AuditAllows}
 use Rattle.damaged.specs.Damaged.{considered, modes_in}
 use Rattle.run.specs.declared.salvage.Report.{Report}
-use Rattle.run.specs.declared.salvage.Salvaged.{Salvaged}
-use Rattle.run.specs.declared.salvage.Salvaged.TheVariants.{Written}
 use Rattle.run.specs.salvage.Salvaged.{trial}
 use Rattle.run.specs.salvage.Allowed.{SalvageAllows}
 use Rattle.sentences.specs.Calls.{Public, emits, call, for_c}
@@ -58,30 +54,30 @@ WritesNothing = (net marking : List ℕ) (t : Mode) (p : ℕ) → p < pairs (net
 pub record CopiesNet : Type 0 where
   -- where complementing accepts, the net's own sheet is no output
   pub excluded : (net out : List ℕ) (p k : ℕ) → p < pairs (net_of net) → K (net_of net) p ≡ fin k
-      → (o : Emitted × List ℕ) → ComplementAllows net out o → (emitting.told o.0).carried.number ≡ 0 → take (length net) o.1 ≢ net
+      → (o : Result ℕ Refusal × List ℕ) → ComplementAllows net out o → (emitting.told o.0).carried.number ≡ 0 → take (length net) o.1 ≢ net
   -- no marking of the copy corresponds to one of the net: it has no pair that holds the rest of the capacity
   pub no_sum : (net : PNet) (m m' : List ℕ) → length m' ≡ pairs net → (p k : ℕ) → p < pairs net → K net p ≡ fin k → ¬ Corresponds net m m'
 
 -- a conversion that copies the sheet: where one accepts, the sheet that it was given is no output
 pub record CopiesSheet : Type 0 where
-  pub to_version2 : (net out : List ℕ) (o : Emitted × List ℕ) → ToVersion2Allows net out o → (emitting.told o.0).carried.number ≡ 0
+  pub to_version2 : (net out : List ℕ) (o : Result ℕ Refusal × List ℕ) → ToVersion2Allows net out o → (emitting.told o.0).carried.number ≡ 0
       → take (length net) o.1 ≢ net
-  pub to_version1 : (net out : List ℕ) (o : Emitted × List ℕ) → ToVersion1Allows net out o → (emitting.told o.0).carried.number ≡ 0
+  pub to_version1 : (net out : List ℕ) (o : Result ℕ Refusal × List ℕ) → ToVersion1Allows net out o → (emitting.told o.0).carried.number ≡ 0
       → take (length net) o.1 ≢ net
 
 -- A strip that appends nothing: where one accepts, the sheet that it was given is no output, and no sheet of the same net is one.
 pub record StripFrauds : Type 0 where
-  pub copied : (net : List ℕ) (p : Pair) (out : List ℕ) (o : Emitted × List ℕ) → StripAllows net p out o → (emitting.told o.0).carried.number ≡ 0
+  pub copied : (net : List ℕ) (p : Pair) (out : List ℕ) (o : Result ℕ Refusal × List ℕ) → StripAllows net p out o → (emitting.told o.0).carried.number ≡ 0
       → take (length net) o.1 ≢ net
-  pub same_net : (net : List ℕ) (p : Pair) (out : List ℕ) (o : Emitted × List ℕ) (n : ℕ) → StripAllows net p out o → emitting.told o.0 ≡ yields n
+  pub same_net : (net : List ℕ) (p : Pair) (out : List ℕ) (o : Result ℕ Refusal × List ℕ) (n : ℕ) → StripAllows net p out o → emitting.told o.0 ≡ yields n
       → net_of (take n o.1) ≢ net_of net
 
 -- An export of the opening and the closing text alone; an import that answers 20 to all, though export wrote the text, or that names one position always (document 02, P5).
 pub record ExchangeFrauds : Type 0 where
-  pub empty_page : (net out : List ℕ) (o : Emitted × List ℕ) (n : ℕ) → ExportPnmlAllows net out o → emitting.told o.0 ≡ yields n
+  pub empty_page : (net out : List ℕ) (o : Result ℕ Refusal × List ℕ) (n : ℕ) → ExportPnmlAllows net out o → emitting.told o.0 ≡ yields n
       → take n o.1 ≢ opening ++ closing
-  pub none_read : (net out : List ℕ) (o : Emitted × List ℕ) (n : ℕ) → ExportPnmlAllows net out o → emitting.told o.0 ≡ yields n
-      → (out' : List ℕ) (o' : Emitted × List ℕ) → ImportPnmlAllows (take n o.1) out' o' → (emitting.told o'.0).carried.number ≢ 20
+  pub none_read : (net out : List ℕ) (o : Result ℕ Refusal × List ℕ) (n : ℕ) → ExportPnmlAllows net out o → emitting.told o.0 ≡ yields n
+      → (out' : List ℕ) (o' : Result ℕ Refusal × List ℕ) → ImportPnmlAllows (take n o.1) out' o' → (emitting.told o'.0).carried.number ≢ 20
   pub one_position : NotConstant (call Public.import_pnml) (λ e. (emits e).position)
   pub one_position_for_c : NotConstant (for_c Public.import_pnml) (λ d. d.answer.position)
 
@@ -132,7 +128,7 @@ FirstMemberAlone = (net marking : List ℕ) (first : ℕ) (later : List ℕ) (p 
 -- An audit that always finds none: some pair is out of step.
 abbrev pub AlwaysInStep : Type 0
 AlwaysInStep = (net marking beside : List ℕ) (p : ℕ) → p < pairs (net_of net) → OutOfStep (net_of net) marking beside p
-    → (o : Found) → AuditAllows net marking beside o → (audits.told o).carried.number ≡ 0 → o ≢ Nothing
+    → (o : Result (Perhaps (Pair × ℤ)) Refusal) → AuditAllows net marking beside o → (audits.told o).carried.number ≡ 0 → o ≢ (Ok None)
 
 -- An exclusion that accepts every claim, or none: a claim that is certified is refused, whatever the weights; one that they exclude is accepted.
 pub record ExclusionFrauds : Type 0 where
@@ -144,9 +140,9 @@ pub record ExclusionFrauds : Type 0 where
 pub record SalvageFrauds : Type 0 where
   pub nothing : (net damaged out : List ℕ) → 0 < considered damaged
       → mode_refusal Movements (net_of net) (get_or (modes_in damaged) 0 (mode_no 0)) (net_of net).start ≡ none
-      → (o : Salvaged × List ℕ) → SalvageAllows net damaged out o → (report : Report) → o.0 ≡ Written report → report.kept ≢ 0
+      → (o : Result Report Refusal × List ℕ) → SalvageAllows net damaged out o → (report : Report) → o.0 ≡ Ok report → report.kept ≢ 0
   pub everything : (net damaged out : List ℕ) → (trial net damaged).refusal ≢ none
-      → (o : Salvaged × List ℕ) → SalvageAllows net damaged out o → (report : Report) → o.0 ≡ Written report → report.kept ≢ considered damaged
+      → (o : Result Report Refusal × List ℕ) → SalvageAllows net damaged out o → (report : Report) → o.0 ≡ Ok report → report.kept ≢ considered damaged
 
 -- A fleet statement that never raises `removed`, with an accepted movement that takes weight off, or that counts no ship.
 pub record FleetFrauds : Type 0 where

@@ -1,7 +1,7 @@
 -- Document 02, P1. Several movements as one step.
 use Rattle.std.specs.Prelude.{ℕ, ◌≤◌, ◌<◌, ◌≡◌, List, ◌↔◌, length, get_or}
 use Rattle.std.proofs.Math.Option.{none}
-use Rattle.model.specs.declared.Answer.{Answer}
+use Rattle.model.specs.Refusals.{Answer}
 use Rattle.model.specs.declared.CapacityRule.TheVariants.{Strong}
 use Rattle.model.specs.Refusals.{number}
 use Rattle.model.specs.Numbers.{fin, ∞, limit}

@@ -1,7 +1,7 @@
 -- Document 02, P10. Yards with the weak capacity rule. Statements over a net, and tables, are over its rule, but where they say which.
 use Rattle.std.specs.Prelude.{ℕ, ◌+◌, ◌-◌, ◌<◌, max, ◌≡◌, false, List}
 use Rattle.model.specs.declared.Mode.{Mode}
-use Rattle.model.specs.declared.Answer.{Answer}
+use Rattle.model.specs.Refusals.{Answer}
 use Rattle.model.specs.declared.CapacityRule.TheVariants.{Weak}
 use Rattle.model.specs.Refusals.{number}
 use Rattle.model.specs.Numbers.{fin}

@@ -1,5 +1,6 @@
 -- Document 02, P11. Salvage of a cut movement sheet.
-use Rattle.std.specs.Prelude.{ℕ, ◌+◌, ◌<◌, ◌≡◌, List, [], ◌∷◌, ◌++◌, ◌↔◌, ◌≢◌, take, drop, get_or, length}
+use Rattle.model.specs.declared.Refusal.{Refusal}
+use Rattle.std.specs.Prelude.{ℕ, ◌+◌, ◌<◌, ◌≡◌, List, [], ◌∷◌, ◌++◌, ◌↔◌, ◌≢◌, take, drop, get_or, length, Result}
 use Rattle.std.proofs.Math.Option.{none}
 use Rattle.model.specs.Refusals.{number}
 use Rattle.model.specs.Replies.{yields}
@@ -10,7 +11,6 @@ use Rattle.damaged.specs.Damaged.{considered, modes_in}
 use Rattle.run.specs.declared.Ran.{Ran}
 use Rattle.run.specs.Allowed.{RunAllows}
 use Rattle.run.specs.declared.salvage.Report.{Report}
-use Rattle.run.specs.declared.salvage.Salvaged.{Salvaged}
 use Rattle.run.specs.salvage.MovementSheet.{movement_sheet}
 use Rattle.run.specs.salvage.Salvaged.{told}
 use Rattle.run.specs.salvage.Allowed.{SalvageAllows}
@@ -37,7 +37,7 @@ pub record Salvages (net damaged sheet : List ℕ) (report : Report) : Type 0 wh
 
 -- the report has the length written, and no byte after it is touched
 abbrev pub SalvageWrites : Type 0
-SalvageWrites = (net damaged out left : List ℕ) (o : Salvaged) (report : Report) → SalvageAllows net damaged out (o, left) → told o ≡ yields report
+SalvageWrites = (net damaged out left : List ℕ) (o : Result Report Refusal) (report : Report) → SalvageAllows net damaged out (o, left) → told o ≡ yields report
     → (length (take report.length left) ≡ report.length) × (drop report.length left ≡ drop report.length out)
 
 pub record P11 : Type 0 where

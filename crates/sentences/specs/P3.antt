@@ -1,6 +1,6 @@
 -- Document 02, P3. Say how much is short.
 use Rattle.std.specs.Prelude.{◌<◌, ◌≡◌, ◌⊎◌}
-use Rattle.model.specs.declared.Answer.{Answer}
+use Rattle.model.specs.Refusals.{Answer}
 use Rattle.model.specs.Refusals.{number, amount}
 use Rattle.statement.specs.Example.{Printed}
 use Rattle.sentences.specs.ConstantAnswers.{ConstantAmounts}

@@ -1,8 +1,10 @@
 -- Document 02, P4. Complement nets with dead modes.
-use Rattle.std.specs.Prelude.{ℕ, ◌<◌, ◌≡◌, true, List}
+use Rattle.model.specs.declared.Pair.{Pair}
+use Rattle.model.specs.declared.Refusal.{Refusal}
+use Rattle.std.specs.Prelude.{Option as Perhaps, ℕ, ◌<◌, ◌≡◌, true, List, Result, Bool}
 use Rattle.std.proofs.Math.Option.{none}
 use Rattle.model.specs.declared.Mode.{Mode}
-use Rattle.model.specs.declared.Answer.{Answer}
+use Rattle.model.specs.Refusals.{Answer}
 use Rattle.model.specs.Refusals.{number}
 use Rattle.model.specs.Replies.{yields}
 use Rattle.model.specs.Numbers.{fin}
@@ -14,8 +16,6 @@ use Rattle.second_form.specs.Dead.{is_dead}
 use Rattle.second_form.specs.DeadComplement.{Never16}
 use Rattle.sheets.specs.Decoded.{net_of}
 use Rattle.fire.specs.Allowed.{TestAllows}
-use Rattle.opened.specs.declared.dead.Deadness.{Deadness}
-use Rattle.opened.specs.declared.dead.FirstDead.{FirstDead}
 use Rattle.opened.specs.dead.IsDead as one
 use Rattle.opened.specs.dead.FirstDead as first
 use Rattle.opened.specs.dead.Allowed.{IsDeadAllows, FirstDeadAllows}
@@ -26,8 +26,8 @@ use Rattle.sentences.specs.CallTables.{HasTable}
 -- "such a mode never fires": of a mode that is dead in the net, `test` answers 11 at every marking of the complement that corresponds to one of the net. The
 -- complement itself has no dead mode, since its K and I are unbounded.
 pub record DeadBeside (net sheet : List ℕ) : Type 0 where
-  pub nowhere : (d : FirstDead) → FirstDeadAllows sheet d → first.told d ≡ yields none
-  pub by11 : (t : Mode) (d : Deadness) → IsDeadAllows net t d → one.told d ≡ yields true → (m m' : List ℕ) → Marking (net_of net) m
+  pub nowhere : (d : Result (Perhaps (Mode × Pair)) Refusal) → FirstDeadAllows sheet d → first.told d ≡ yields none
+  pub by11 : (t : Mode) (d : Result Bool Refusal) → IsDeadAllows net t d → one.told d ≡ yields true → (m m' : List ℕ) → Marking (net_of net) m
       → Corresponds (net_of net) m m'
       → (a : Answer) → TestAllows sheet m' t a → number a ≡ 11
 

@@ -1,13 +1,13 @@
 -- Document 02, P8. Proof that a state can't happen.
-use Rattle.std.specs.Prelude.{ℕ, ◌≡◌, List, ◌↔◌, ◌≢◌}
+use Rattle.model.specs.declared.Refusal.{Refusal}
+use Rattle.std.specs.Prelude.{ℕ, ◌≡◌, List, ◌↔◌, ◌≢◌, Result, ℤ}
 use Rattle.model.specs.declared.Mode.{Mode}
-use Rattle.model.specs.declared.Answer.{Answer}
+use Rattle.model.specs.Refusals.{Answer}
 use Rattle.model.specs.Refusals.{number}
 use Rattle.movement.specs.Promises.{Leads}
 use Rattle.movement.specs.Exclusion.{Balanced}
 use Rattle.sheets.specs.Decoded.{net_of, weights_of}
 use Rattle.run.specs.Allowed.{CertifyAllows}
-use Rattle.statement.specs.declared.weigh.Figured.{Figured}
 use Rattle.statement.specs.weigh.Allowed.{FigureAllows}
 use Rattle.statement.specs.exclude.Allowed.{ExcludeAllows}
 use Rattle.statement.specs.exclude.Promises.{Excluded}
@@ -26,7 +26,7 @@ pub record P8 : Type 0 where
   -- "and that for such weights the figure is constant over any list.": the figure call answers alike before and after
   pub figure_constant : (net weights marking after : List ℕ) (ts : List Mode) → Balanced (net_of net) (weights_of weights)
       → Accepts Public.figure (net, weights, marking) → Leads (net_of net) ts marking after
-      → (f f' : Figured) → FigureAllows net weights marking f → FigureAllows net weights after f' → f' ≡ f
+      → (f f' : Result ℤ Refusal) → FigureAllows net weights marking f → FigureAllows net weights after f' → f' ≡ f
   -- "Claims above capacity are refused by 9.": see `marking_table`.
   -- "Refusals: net, weights, marking, then 21 with the first unbalanced mode, then 22 when the figures are equal."
   pub exclude : HasTable Public.exclude

@@ -1,16 +1,15 @@
 -- Document 02, P9. Sheet version 2.
-use Rattle.std.specs.Prelude.{ℕ, ◌≤◌, ◌<◌, ◌≡◌, List, ◌++◌, ◌≢◌, length, take}
+use Rattle.model.specs.declared.Refusal.{Refusal}
+use Rattle.std.specs.Prelude.{Option as Perhaps, ℕ, ◌≤◌, ◌<◌, ◌≡◌, List, ◌++◌, ◌≢◌, length, take, Result, ℤ}
 use Rattle.std.proofs.Math.Option.{none}
 use Rattle.model.specs.declared.Pair.{Pair}
 use Rattle.model.specs.Refusals.{Carried, carries}
 use Rattle.model.specs.Replies.{Reply, yields}
 use Rattle.sheets.specs.Whole.{whole_net}
 use Rattle.sheets.specs.Decoded.{net_of}
-use Rattle.sheets.specs.declared.Emitted.{Emitted}
 use Rattle.sheets.specs.Emitted as emitting
 use Rattle.complement.specs.Complemented.{complement_sheet}
 use Rattle.convert.specs.strip.Stripped.{stripped_sheet}
-use Rattle.complement.specs.declared.audit.Found.{Found}
 use Rattle.complement.specs.audit.Audits as auditing
 use Rattle.sentences.specs.Bytes.{Bytes}
 use Rattle.sentences.specs.Call.{Call}
@@ -82,7 +81,7 @@ pub data ShortAside (Alike : Carried → Carried → Type 0) (short short' : Typ
   second_short : short' → x ≡ carries 0 0 0 → y ≡ carries 10 0 0 → ShortAside Alike short short' x y
 
 -- "the sheets written and their lengths": where both calls write, they write one net again
-pub record SheetsAlike (Alike : Carried → Carried → Type 0) (short short' : Type 0) (e e' : Emitted) (left left' : List ℕ) : Type 0 where
+pub record SheetsAlike (Alike : Carried → Carried → Type 0) (short short' : Type 0) (e e' : Result ℕ Refusal) (left left' : List ℕ) : Type 0 where
   pub carried : ShortAside Alike short short' (emits e) (emits e')
   pub written : (n n' : ℕ) → emitting.told e ≡ yields n → emitting.told e' ≡ yields n' → OneNet (take n left) (take n' left')
 
@@ -104,17 +103,17 @@ pub record Alike (a b : List ℕ) : Type 0 where
   pub each : (c : Public) (i : (call c).Given) → Within (call c) (with_net c a i) (with_net c b i)
   pub each_for_c : (c : Public) (i : (call c).Given) → Within (for_c c) (with_net c a i) (with_net c b i)
   -- a text in PNML says neither version nor rule: it is the same to the byte
-  pub export_pnml : (out : List ℕ) (e e' : Emitted) (left left' : List ℕ) → (call Public.export_pnml).Allows (a, out) e left
+  pub export_pnml : (out : List ℕ) (e e' : Result ℕ Refusal) (left left' : List ℕ) → (call Public.export_pnml).Allows (a, out) e left
       → (call Public.export_pnml).Allows (b, out) e' left'
       → RepliesAlike (emitting.told e) (emitting.told e') × (left ≡ left')
-  pub audit : (marking beside : List ℕ) (f f' : Found) → (call Public.audit).Allows (a, marking, beside) f tt
+  pub audit : (marking beside : List ℕ) (f f' : Result (Perhaps (Pair × ℤ)) Refusal) → (call Public.audit).Allows (a, marking, beside) f tt
       → (call Public.audit).Allows (b, marking, beside) f' tt
       → RepliesAlike (auditing.told f) (auditing.told f')
-  pub complement : (out out' : List ℕ) (e e' : Emitted) (left left' : List ℕ) → (call Public.complement).Allows (a, out) e left
+  pub complement : (out out' : List ℕ) (e e' : Result ℕ Refusal) (left left' : List ℕ) → (call Public.complement).Allows (a, out) e left
       → (call Public.complement).Allows (b, out') e' left'
       → SheetsAlike OffsetAside (length out < length (complement_sheet a)) (length out' < length (complement_sheet b)) e e' left left'
   -- stripping names no offset
-  pub strip : (p : Pair) (out out' : List ℕ) (e e' : Emitted) (left left' : List ℕ) → (call Public.strip).Allows (a, p, out) e left
+  pub strip : (p : Pair) (out out' : List ℕ) (e e' : Result ℕ Refusal) (left left' : List ℕ) → (call Public.strip).Allows (a, p, out) e left
       → (call Public.strip).Allows (b, p, out') e' left'
       → SheetsAlike (λ x y. x ≡ y) (length out < length (stripped_sheet a p)) (length out' < length (stripped_sheet b p)) e e' left left'
   pub before : (more : List ℕ) → Bytes a → Bytes b → AlikeBefore a b more
@@ -131,7 +130,7 @@ module _ (target : Version) (There Back : List ℕ → Writing) (s : List ℕ) w
     pub same : net_of sheet ≡ net_of s
     -- "with the old bytes returned exactly"
     pub back : (old : List ℕ) → CallWrote (Back sheet) old → old ≡ s
-    pub room : (out left : List ℕ) (e : Emitted) → Back sheet out (e, left) → length s ≤ length out → emitting.told e ≡ yields (length s)
+    pub room : (out left : List ℕ) (e : Result ℕ Refusal) → Back sheet out (e, left) → length s ≤ length out → emitting.told e ≡ yields (length s)
 
   abbrev pub Converts : Type 0
   Converts = WritesLength (There s) × (Bytes s → (sheet : List ℕ) → CallWrote (There s) sheet → Converted sheet)

@@ -13,4 +13,5 @@ pub mod RoundTrip
 mod Accepts
 mod NetAccepts
 pub mod Puts
+pub mod Copies
 pub mod Largest

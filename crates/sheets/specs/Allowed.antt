@@ -1,6 +1,6 @@
 -- The contracts of the public calls, which the source states by these names: what each allows of its answer, or of the part that it hands back.
 use Rattle.std.specs.Prelude.{ℕ, ◌≡◌, List}
-use Rattle.model.specs.declared.Answer.{Answer}
+use Rattle.model.specs.Refusals.{Answer}
 use Rattle.model.specs.Refusals.{answer}
 use Rattle.sheets.specs.nets.Nets.{net_refusal}
 use Rattle.sheets.specs.lists.Weights.{weights_refusal}

@@ -5,8 +5,8 @@ use Rattle.model.specs.declared.Thing.{Thing}
 use Rattle.model.specs.declared.Thing.TheVariants.{Net, Weights, Movements}
 use Rattle.model.specs.declared.Fault.TheVariants.{WrongLength}
 use Rattle.model.specs.declared.Refusal.{Refusal}
-use Rattle.model.specs.declared.Answer.{Answer}
-use Rattle.model.specs.declared.Answer.TheVariants.{Accepted, Refused}
+use Rattle.model.specs.Refusals.{Answer}
+use Rattle.std.specs.Prelude.{Ok, Err}
 use Rattle.model.specs.First.{◌▸◌, only_if}
 use Rattle.heads.specs.Layout.{sheet_end}
 use Rattle.model.specs.Refusals.{wrong}
@@ -29,5 +29,5 @@ whole_movements s = movements_refusal s ▸ bytes_after Movements s
 
 -- A reader "hands back the part of the caller's bytes after the sheet, which may be empty; on a refusal it hands back the whole run."
 unfoldable pub rest : Answer → List ℕ → List ℕ
-rest Accepted s = drop (sheet_end s) s
-rest (Refused r) s = s
+rest (Ok tt) s = drop (sheet_end s) s
+rest (Err r) s = s

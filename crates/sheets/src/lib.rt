@@ -5,12 +5,3 @@ pub mod lists;
 pub mod nets;
 pub mod whole;
 pub mod written;
-
-use model::Refusal;
-
-// What a call that writes a sheet or a text answers: how many bytes were written, or why none.
-#[derive(Clone, Copy)]
-pub enum Emitted {
-    Length(usize),
-    Refused(Refusal),
-}

@@ -19,45 +19,36 @@ fn bytes_after(s: &[u8], thing: Thing) -> Answer
     if end < s.len() {
         return refused(thing, Fault::WrongLength(end));
     }
-    Answer::Accepted
+    Ok(())
 }
 
 pub fn whole_net(s: &[u8]) -> Answer
     ensures { WholeNetAllows s.now result }
 {
-    let sheet = read_net(s);
-    if let Answer::Refused(_) = sheet {
-        return sheet;
-    }
+    read_net(s)?;
     bytes_after(s, Thing::Net)
 }
 
 pub fn whole_weights(s: &[u8], pairs: usize) -> Answer
     ensures { WholeWeightsAllows s.now pairs result }
 {
-    let sheet = read_weights(s, pairs);
-    if let Answer::Refused(_) = sheet {
-        return sheet;
-    }
+    read_weights(s, pairs)?;
     bytes_after(s, Thing::Weights)
 }
 
 pub fn whole_movements(s: &[u8]) -> Answer
     ensures { WholeMovementsAllows s.now result }
 {
-    let sheet = read_movements(s);
-    if let Answer::Refused(_) = sheet {
-        return sheet;
-    }
+    read_movements(s)?;
     bytes_after(s, Thing::Movements)
 }
 
 // The part of the caller's bytes after a sheet with this answer, the whole run on a refusal.
 pub fn after(s: &[u8], sheet: Answer) -> &[u8]
-    requires { sheet ≡ Answer.Accepted → Headed s.now }
+    requires { sheet ≡ Ok tt → Headed s.now }
     ensures { result.now ≡ rest sheet s.now }
 {
-    if let Answer::Refused(_) = sheet {
+    if let Err(_) = sheet {
         return s;
     }
     let end = sheet_end(s);

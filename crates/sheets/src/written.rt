@@ -38,13 +38,8 @@ pub fn put_part(s: &[u8], start: usize, n: usize, out: &mut [u8], at: usize) -> 
     requires room { Room out.old at (part_of s.now start n) }
     ensures { Puts out.old at (part_of s.now start n) out.new result }
 {
-    let mut next = at;
-    let mut i = 0;
-    while i < n {
-        next = put_byte(out, next, s[start + i]);
-        i += 1;
-    }
-    next
+    out[at..at + n].copy_from_slice(&s[start..start + n]);
+    at + n
 }
 
 // A count of 2 bytes.
@@ -69,16 +64,6 @@ fn put_version(out: &mut [u8], at: usize, version: Version, rule: u8) -> usize
     }
 }
 
-// "Rule byte 1 in version 2 means M + Post ≤ K + Pre" (document 02, P10)
-fn rule_byte(rule: CapacityRule) -> u8
-    ensures { result ≡ rule_number rule }
-{
-    match rule {
-        CapacityRule::Strong => 0,
-        CapacityRule::Weak => 1,
-    }
-}
-
 // The head of a sheet of `size` bytes: its length L, its version and its rule.
 pub fn put_head(out: &mut [u8], version: Version, rule: CapacityRule, size: usize) -> usize
     requires room { Room out.old 0 (head_bytes version (rule_number rule) (size - 4)) }
@@ -86,7 +71,7 @@ pub fn put_head(out: &mut [u8], version: Version, rule: CapacityRule, size: usiz
     ensures { Puts out.old 0 (head_bytes version (rule_number rule) (size - 4)) out.new result }
 {
     let next = put32(out, 0, (size - 4) as u32);
-    put_version(out, next, version, rule_byte(rule))
+    put_version(out, next, version, u8::from(rule))
 }
 
 // How many bytes that takes.

@@ -9,11 +9,10 @@ use Rattle.model.specs.declared.Fault.TheVariants.{CountOutside, FigurePast, Rec
 use Rattle.model.specs.declared.Refusal.{Refusal}
 use Rattle.model.specs.First.{◌▸◌, only_if}
 use Rattle.model.specs.Nets.{pairs}
-use Rattle.model.specs.Refusals.{wrong, answer}
+use Rattle.model.specs.Refusals.{Answer, wrong, answer}
 use Rattle.sheets.specs.Whole.{whole_net, whole_weights, whole_movements}
 use Rattle.sheets.specs.Decoded.{net_of}
 use Rattle.ships.specs.declared.Fleet.{Fleet}
-use Rattle.ships.specs.declared.Entered.{Entered}
 use Rattle.ships.specs.Ships.{Ship, voyage_of, with_voyage}
 
 -- "10^18"
@@ -77,6 +76,11 @@ ship_refusal f s =
 abbrev pub left : Option Refusal → Fleet → Fleet → Fleet
 left none f next = next
 left (some r) f next = f
+
+-- the record that the call leaves, and its answer
+pub record Entered : Type 0 where
+  pub fleet : Fleet
+  pub answer : Answer
 
 abbrev pub entered_by : Option Refusal → Fleet → Ship → Entered
 entered_by o f s = record { fleet = left o f (with_voyage f (voyage_of s)); answer = answer o }

@@ -26,10 +26,3 @@ pub struct Voyage {
     pub added: i64,
     pub removed: i64,
 }
-
-// The record with one ship more, or as it was found, and the answer.
-#[derive(Clone, Copy)]
-pub struct Entered {
-    pub fleet: Fleet,
-    pub answer: Answer,
-}

@@ -1,4 +1,6 @@
 -- The text at the front of a slice that has room for every text.
+use Rattle.std.specs.Prelude.{Result, Ok, Err}
+use Rattle.model.specs.declared.Refusal.{Refusal}
 use Prim.Native.Nat.{ℕ, ◌+◌, ◌≤◌, ◌<◌}
 use mathlib.Core.Path.{◌≡◌, refl, ◌∙◌, ap}
 use mathlib.Core.Bool.{Bool, true, false}
@@ -13,25 +15,23 @@ use Rattle.model.specs.declared.Fault.TheVariants.{NoRoom}
 use Rattle.model.specs.Refusals.{wrong}
 use Rattle.writes.specs.Writes.{Writes}
 use Rattle.writes.proofs.Into.{into_within}
-use Rattle.sheets.specs.declared.Emitted.{Emitted}
-use Rattle.sheets.specs.declared.Emitted.TheVariants.{Length, Refused}
 use Rattle.statement.specs.Allowed.{StatementAllows}
 use Rattle.statement.specs.Replay.{replay_text, room, stated, stated_in}
 
-pub too_short_lem : (input out : List ℕ) → length out < room → StatementAllows input out (Refused (wrong Net NoRoom), out)
+pub too_short_lem : (input out : List ℕ) → length out < room → StatementAllows input out (Err (wrong Net NoRoom), out)
 unfolding stated stated_in
 too_short_lem input out h = rw (lt-ltb (length out) room h) (refl, refl)
 
 pub text-stated : (input : List ℕ) {out now : List ℕ} {end : ℕ} → room ≤ length out → Writes room out 0 (replay_text input) end now
-    → StatementAllows input out (Length end, now)
+    → StatementAllows input out (Ok end, now)
 unfolding stated stated_in
 text-stated input {out} h p =
     let text = replay_text input in
     let e : 0 + length text ≡ length text = zero-add (length text) in
-    rw (le-ltb (length out) room h) (ap Length (p.next ∙ e), p.holds ∙ rw (into_within out 0 text (omega (arith, p.next, p.fits)), e))
+    rw (le-ltb (length out) room h) (ap Ok (p.next ∙ e), p.holds ∙ rw (into_within out 0 text (omega (arith, p.next, p.fits)), e))
 
 -- what was written lies within the slice
-pub written-within : (input out : List ℕ) {now : List ℕ} {answer : Emitted} {end : ℕ} → StatementAllows input out (answer, now) → answer ≡ Length end → end ≤ length now
+pub written-within : (input out : List ℕ) {now : List ℕ} {answer : Result ℕ Refusal} {end : ℕ} → StatementAllows input out (answer, now) → answer ≡ Ok end → end ≤ length now
 unfolding stated stated_in
 written-within input out {now} {answer} {end} allowed e = go (ltb (length out) room) refl
   where

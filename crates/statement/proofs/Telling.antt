@@ -14,8 +14,8 @@ use mir.Facts.{to_z-of_z}
 use Rattle.model.specs.declared.Mode.{Mode}
 use Rattle.model.specs.declared.Thing.TheVariants.{Movements}
 use Rattle.model.specs.declared.Refusal.{Refusal}
-use Rattle.model.specs.declared.Answer.{Answer}
-use Rattle.model.specs.declared.Answer.TheVariants.{Accepted, Refused}
+use Rattle.model.specs.Refusals.{Answer}
+use Rattle.std.specs.Prelude.{Ok, Err}
 use Rattle.model.specs.Nets.{PNet, modes, mode_no}
 use Rattle.model.specs.Markings.{Marking}
 use Rattle.model.specs.Firing.{mode_refusal, fired}
@@ -112,7 +112,7 @@ module _ {s : List ℕ} {shape : NetShape} {w movements : List ℕ} (read : Read
   passed_length = length-take-le _ ts (runs net ts net.start).part ∙ sym tells.accepted
 
   -- where a refusal is told, the list has a movement after those accepted
-  pub refused-there : {r : Refusal} → answer ≡ Refused r → accepted < length ts
+  pub refused-there : {r : Refusal} → answer ≡ Err r → accepted < length ts
   refused-there {r} e =
       let q : (outcome net ts).refusal ≡ some r = answer-refused _ (sym tells.answers ∙ e) in
       let short : ¬ (accepted ≡ length ts) = λ all. let n = (runs net ts net.start).whole.1 (sym tells.accepted ∙ all) in let z : ◌≡◌ {A = ℕ} 0 1 = cc in omega arith in
@@ -193,9 +193,6 @@ module _ {s : List ℕ} {shape : NetShape} {w movements : List ℕ} (read : Read
       unfolding accepted_lines
       lines_are = sym along.rest ∙ rw none_left (append-nil along.lines)
 
-      same : (outcome net ts).accepted ≡ k
-      same = sym tells.accepted ∙ omega arith
-
       weighs-last : figure net weights (outcome net ts).marking ≡ z
       unfolding run_from
       weighs-last = ap (figure net weights) (sym (leads-whole (rw none_left at along.leads)).1) ∙ sym along.weighs
@@ -206,11 +203,11 @@ module _ {s : List ℕ} {shape : NetShape} {w movements : List ℕ} (read : Read
           let all = along.told and p in
           rw (lines-of-run net weights ts net.start, lines_are, e) (within all (omega (arith, all.within, at_most)))
 
-      pub along-stops : {r : Refusal} {after : ℕ} {now : List ℕ} → answer ≡ Refused r
-          → Writes 159 out end (refused_line (k + 1) (get_or ts k (mode_no 0)) r ++ end_line k z) after now → Writes most_lines out₀ at whole after now
+      pub along-stops : {r : Refusal} {after : ℕ} {now : List ℕ} → answer ≡ Err r
+          → Writes 159 out end (refused_line (accepted + 1) (get_or ts accepted (mode_no 0)) r ++ end_line accepted z) after now → Writes most_lines out₀ at whole after now
       unfolding last_lines
-      along-stops e p = ended p (omega arith) (rw (answer-refused (outcome net ts).refusal (sym tells.answers ∙ e), same, weighs-last))
+      along-stops e p = ended p (omega arith) (rw (answer-refused (outcome net ts).refusal (sym tells.answers ∙ e), ← tells.accepted, weighs-last))
 
-      pub along-ends : {after : ℕ} {now : List ℕ} → answer ≡ Accepted → Writes 46 out end (end_line k z) after now → Writes most_lines out₀ at whole after now
+      pub along-ends : {after : ℕ} {now : List ℕ} → answer ≡ Ok tt → Writes 46 out end (end_line accepted z) after now → Writes most_lines out₀ at whole after now
       unfolding last_lines
-      along-ends e p = ended p (omega arith) (rw (answer-none (outcome net ts).refusal tells.answers e, same, weighs-last))
+      along-ends e p = ended p (omega arith) (rw (answer-none (outcome net ts).refusal tells.answers e, ← tells.accepted, weighs-last))

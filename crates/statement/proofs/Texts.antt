@@ -11,8 +11,8 @@ use mir.Facts.{to_z-of_z}
 use native.Mathlib.Omega.{arith}
 use Rattle.model.specs.declared.Mode.{Mode}
 use Rattle.model.specs.declared.Refusal.{Refusal}
-use Rattle.model.specs.declared.Answer.{Answer}
-use Rattle.model.specs.declared.Answer.TheVariants.{Accepted, Refused}
+use Rattle.model.specs.Refusals.{Answer}
+use Rattle.std.specs.Prelude.{Ok, Err}
 use Rattle.model.specs.Refusals.{answer}
 use Rattle.model.specs.Nets.{PNet}
 use Rattle.movement.specs.Figures.{figure}
@@ -27,11 +27,11 @@ use Rattle.statement.proofs.Telling.{most_lines}
 
 module _ {out : List ℕ} {after : ℕ} {now : List ℕ} where
   module _ {a : Answer} (o : Option Refusal) (text : List ℕ) (e : a ≡ answer o) where
-    pub bad_told : {r : Refusal} → a ≡ Refused r → Writes 67 out 0 (bad_line r) after now → Writes room out 0 (unless_refused o text bad_line) after now
+    pub bad_told : {r : Refusal} → a ≡ Err r → Writes 67 out 0 (bad_line r) after now → Writes room out 0 (unless_refused o text bad_line) after now
     unfolding unless_refused
     bad_told h p = rw (answer-refused o (sym e ∙ h)) (within p (omega (arith, p.within)))
 
-    pub text-told : a ≡ Accepted → Writes room out 0 text after now → Writes room out 0 (unless_refused o text bad_line) after now
+    pub text-told : a ≡ Ok tt → Writes room out 0 text after now → Writes room out 0 (unless_refused o text bad_line) after now
     unfolding unless_refused
     text-told h p = rw (answer-none o e h) p
 

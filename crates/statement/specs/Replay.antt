@@ -1,5 +1,5 @@
 -- Document 01, "`replay`": what is printed for an input. "Standard input: a net sheet, a weight sheet, a movement sheet, then nothing."
-use Rattle.std.specs.Prelude.{ℕ, ◌+◌, cond, List, [], ◌∷◌, ◌++◌, ltb, ℤ, length}
+use Rattle.std.specs.Prelude.{ℕ, ◌+◌, cond, List, [], ◌∷◌, ◌++◌, ltb, ℤ, length, Result}
 use Rattle.std.proofs.Math.Option.{Option, none, some}
 use Rattle.model.specs.declared.Mode.{Mode}
 use Rattle.model.specs.declared.Thing.TheVariants.{Net, Movements}
@@ -14,7 +14,6 @@ use Rattle.sheets.specs.nets.Nets.{net_refusal}
 use Rattle.sheets.specs.lists.Weights.{weights_refusal}
 use Rattle.sheets.specs.Whole.{whole_movements, rest}
 use Rattle.sheets.specs.Decoded.{net_of, weights_of, movements_of}
-use Rattle.sheets.specs.declared.Emitted.{Emitted}
 use Rattle.sheets.specs.Emitted.{emitted, output}
 use Rattle.statement.specs.lines.Lines.{start_line, accepted_line, refused_line, end_line, bad_line, long_line}
 
@@ -63,7 +62,7 @@ abbrev pub statement_refusal : ℕ → Option Refusal
 statement_refusal length = only_if (ltb length room) (wrong Net NoRoom)
 
 -- what it answers, and what it leaves in the slice
-unfoldable pub stated : List ℕ → List ℕ → Emitted
+unfoldable pub stated : List ℕ → List ℕ → Result ℕ Refusal
 stated input out = emitted (statement_refusal (length out)) (length (replay_text input))
 
 unfoldable pub stated_in : List ℕ → List ℕ → List ℕ

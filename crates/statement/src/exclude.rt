@@ -8,40 +8,29 @@ ghost use Rattle.model.specs.Markings.{marking_refusal};
 ghost use Rattle.movement.specs.Exclusion.{claim_refusal};
 ghost use Rattle.sheets.specs.Whole.{whole_weights};
 ghost use Rattle.sheets.specs.Decoded.{net_of, weights_of};
-ghost use Rattle.opened.specs.Shape.{Open};
 ghost use Rattle.statement.specs.exclude.Allowed.{ExcludeAllows};
 
 use crate::exclude::claim::claim_answer;
 use fire::marking::marking_answer;
 use model::Answer;
-use opened::shape::NetShape;
-use opened::{Opened, open_net};
+use opened::open::OpenNet;
+use opened::open_net;
 use sheets::whole::whole_weights;
 
 mod claim;
 
-fn exclude_open(s: &[u8], net: NetShape, weights: &[u8], claim: &[u32]) -> Answer
-    requires { Open s.now net }
-    ensures { result ≡ answer (whole_weights (pairs_of (net_of s.now)) weights.now ▸ marking_refusal (net_of s.now) claim.now ▸ claim_refusal (net_of s.now) (weights_of weights.now) claim.now) }
+fn exclude_open(net: &OpenNet, weights: &[u8], claim: &[u32]) -> Answer
+    ensures { result ≡ answer (whole_weights (pairs_of (net_of net.now.sheet.now)) weights.now ▸ marking_refusal (net_of net.now.sheet.now) claim.now ▸ claim_refusal (net_of net.now.sheet.now) (weights_of weights.now) claim.now) }
 {
-    let sheet = whole_weights(weights, net.pairs);
-    if let Answer::Refused(_) = sheet {
-        return sheet;
-    }
-    let counts = marking_answer(s, net, claim);
-    if let Answer::Refused(_) = counts {
-        return counts;
-    }
-    claim_answer(s, net, weights, claim)
+    whole_weights(weights, net.shape.pairs)?;
+    marking_answer(net, claim)?;
+    claim_answer(net, weights, claim)
 }
 
 // Whether the weights show that no list of movements leads from the first marking to the claim.
 pub fn exclude(net: &[u8], weights: &[u8], claim: &[u32]) -> Answer
     ensures { ExcludeAllows net.now weights.now claim.now result }
 {
-    let opened = open_net(net);
-    match opened {
-        Opened::Refused(refusal) => Answer::Refused(refusal),
-        Opened::Open(shape) => exclude_open(net, shape, weights, claim),
-    }
+    let net = open_net(net)?;
+    exclude_open(&net, weights, claim)
 }

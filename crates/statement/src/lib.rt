@@ -17,7 +17,6 @@ ghost use Rattle.statement.specs.Replay.{replay_text, room};
 use crate::input::put_sheets;
 use crate::lines::put_long;
 use model::{Fault, Refusal, Thing};
-use sheets::Emitted;
 
 fn put_text(input: &[u8], out: &mut [u8]) -> usize
     requires { room ≤ length out.old }
@@ -30,14 +29,14 @@ fn put_text(input: &[u8], out: &mut [u8]) -> usize
 }
 
 // The text that `replay` prints for this input, in a slice that is long enough for every text.
-pub fn statement(input: &[u8], out: &mut [u8]) -> Emitted
+pub fn statement(input: &[u8], out: &mut [u8]) -> Result<usize, Refusal>
     ensures { StatementAllows input.now out.old (result, out.new) }
 {
     if out.len() < 262_144 {
-        return Emitted::Refused(Refusal {
+        return Err(Refusal {
             thing: Thing::Net,
             fault: Fault::NoRoom,
         });
     }
-    Emitted::Length(put_text(input, out))
+    Ok(put_text(input, out))
 }

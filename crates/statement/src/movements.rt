@@ -7,7 +7,6 @@ ghost use Rattle.movement.specs.Figures.{figure as figure_at};
 ghost use Rattle.movement.specs.Runs.{run};
 ghost use Rattle.sheets.specs.lists.Movements.{movements_refusal};
 ghost use Rattle.sheets.specs.Decoded.{net_of, weights_of, movements_of};
-ghost use Rattle.opened.specs.Shape.{Open};
 ghost use Rattle.opened.specs.Starts.{StartsAre};
 ghost use Rattle.writes.specs.Writes.{Writes};
 ghost use Rattle.statement.specs.lines.Lines.{refused_line, end_line};
@@ -20,28 +19,27 @@ use crate::weigh::changes::write_changes;
 use model::{Answer, Refusal};
 use numbers::write_numbers;
 use opened::listed::movement;
-use opened::shape::NetShape;
+use opened::open::OpenNet;
 use run::Ran;
 use run::movements::run_listed;
-use text::twos::twos;
+use text::twos::Twos;
 
 // The numbers of the arcs (8 KiB) stand on the stack only while the list runs: the table of changes comes after them, in another function.
+// `fleet::voyage::run_list` is the same: one caller each, so that both are inlined there (docs/SPEED.md, 9), and one function for the two would be called.
 pub(crate) fn run_list(
-    s: &[u8],
-    net: NetShape,
+    net: &OpenNet,
     starts: &[u16; 257],
     movements: &[u8],
     marking: &mut [u32],
 ) -> Ran
-    requires fact { Open s.now net }
-    requires starts_are { StartsAre (net_of s.now).arcs starts.now }
+    requires starts_are { StartsAre (net_of net.now.sheet.now).arcs starts.now }
     requires movements_value { movements_refusal movements.now ≡ none }
-    requires marking { Marking (net_of s.now) marking.old }
-    ensures { RunTells (run (net_of s.now) (movements_of movements.now) marking.old) result.accepted result.answer }
+    requires marking { Marking (net_of net.now.sheet.now) marking.old }
+    ensures { RunTells (run (net_of net.now.sheet.now) (movements_of movements.now) marking.old) result.accepted result.answer }
 {
     let mut numbers = [0u32; 2048];
-    write_numbers(s, net, starts, &mut numbers);
-    run_listed(s, net, starts, &numbers, movements, marking)
+    write_numbers(net, starts, &mut numbers);
+    run_listed(net, starts, &numbers, movements, marking)
 }
 
 // A refused movement is the last: "Running stops at the first refused movement".
@@ -65,8 +63,7 @@ fn put_stop(
 
 // The figure after an accepted movement is the figure before it and its mode's weight change: every sum is a figure, so it is exact.
 pub(crate) fn put_movements(
-    s: &[u8],
-    net: NetShape,
+    net: &OpenNet,
     starts: &[u16; 257],
     weights: &[u8],
     movements: &[u8],
@@ -76,27 +73,25 @@ pub(crate) fn put_movements(
     at: usize,
     first: i64,
 ) -> usize
-    requires read { Read s.now net weights.now movements.now }
-    requires starts_are { StartsAre (net_of s.now).arcs starts.now }
-    requires run_tells { RunTells (run (net_of s.now) (movements_of movements.now) (net_of s.now).start) accepted answer }
-    requires first_value { first ≡ figure_at (net_of s.now) (weights_of weights.now) (net_of s.now).start }
+    requires read { Read net.now.sheet.now net.now.shape weights.now movements.now }
+    requires starts_are { StartsAre (net_of net.now.sheet.now).arcs starts.now }
+    requires run_tells { RunTells (run (net_of net.now.sheet.now) (movements_of movements.now) (net_of net.now.sheet.now).start) accepted answer }
+    requires first_value { first ≡ figure_at (net_of net.now.sheet.now) (weights_of weights.now) (net_of net.now.sheet.now).start }
     requires at_in_bounds { at + (28 * 8192 + 159) ≤ length out.old }
-    ensures { Writes (28 * 8192 + 159) out.old at (lines_from (net_of s.now) (weights_of weights.now) 0 (movements_of movements.now) (net_of s.now).start) result out.new }
+    ensures { Writes (28 * 8192 + 159) out.old at (lines_from (net_of net.now.sheet.now) (weights_of weights.now) 0 (movements_of movements.now) (net_of net.now.sheet.now).start) result out.new }
 {
-    let twos = twos();
+    let twos = Twos::new();
     let mut changes = [0i64; 256];
-    write_changes(s, net, starts, weights, &mut changes);
+    write_changes(net, starts, weights, &mut changes);
     let mut end = at;
     let mut figure = first;
-    let mut k = 0;
-    while k < accepted {
+    for k in 0..accepted {
         let mode = movement(movements, k);
         figure += changes[mode.0 as usize];
-        k += 1;
-        end = put_accepted(&twos, out, end, k as u64, mode, figure);
+        end = put_accepted(&twos, out, end, k as u64 + 1, mode, figure);
     }
-    if let Answer::Refused(refusal) = answer {
-        return put_stop(movements, k, refusal, out, end, figure);
+    if let Err(refusal) = answer {
+        return put_stop(movements, accepted, refusal, out, end, figure);
     }
-    put_end(out, end, k as u64, figure)
+    put_end(out, end, accepted as u64, figure)
 }

@@ -1,7 +1,6 @@
 // Document 01's number, thing and position of a refusal, and document 02's amount.
-ghost use Rattle.std.specs.Prelude.{◌≡◌};
+ghost use Rattle.std.specs.Prelude.{◌≡◌, Err};
 ghost use Rattle.model.specs.declared.Fault.TheVariants.{Stopped};
-ghost use Rattle.model.specs.declared.Answer.TheVariants.{Refused};
 ghost use Rattle.model.specs.Refusals.{line, always_net, thing, thing_number};
 
 use model::{Fault, Pair, Refusal, Thing, Why};
@@ -28,8 +27,8 @@ fn says_by(number: u64, pair: Pair, by: u32) -> Line
 {
     Line {
         number,
-        position: pair.0 as u64,
-        amount: by as u64,
+        position: u64::from(pair.0),
+        amount: u64::from(by),
     }
 }
 
@@ -79,29 +78,22 @@ pub fn line_of(fault: Fault) -> Line
 fn thing_number(thing: Thing) -> u64
     ensures { result ≡ thing_number thing }
 {
-    match thing {
-        Thing::Net => 0,
-        Thing::Weights => 1,
-        Thing::Movements => 2,
-        Thing::Argument => 3,
-    }
+    thing as u64
 }
 
 // "0 net, also for numbers 0, 10, 15, 16 and any above 18".
 fn is_always_net(number: u64) -> bool
     ensures { result ≡ always_net number }
 {
-    (number == 0) | (number == 10) | (number == 15) | (number == 16) | (18 < number)
+    matches!(number, 0 | 10 | 15 | 16) || 18 < number
 }
 
 pub fn thing_of(refusal: Refusal) -> u64
-    ensures { result ≡ thing (Refused refusal) }
+    ensures { result ≡ thing (Err refusal) }
 {
-    let fault = refusal.fault;
-    let line = line_of(fault);
-    if is_always_net(line.number) {
-        return 0;
+    if is_always_net(line_of(refusal.fault).number) {
+        0
+    } else {
+        thing_number(refusal.thing)
     }
-    let thing = refusal.thing;
-    thing_number(thing)
 }

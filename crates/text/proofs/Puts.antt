@@ -4,49 +4,36 @@ use mathlib.Core.Path.{◌≡◌, sym, ◌∙◌}
 use mathlib.Core.Logic.{⊎_elim}
 use mathlib.Core.List.{List}
 use lib.ListN.{length}
-use native.Mathlib.Omega.{arith}
 use borrow.Author.Tests.{le-leb, lt-leb}
-use Rattle.writes.specs.Writes.{put_into}
 use Rattle.writes.proofs.Into.{le_or_lt, into_beyond}
-use Rattle.text.specs.declared.Put.{Put}
-use Rattle.text.specs.declared.Put.TheVariants.{To, Full}
+use Rattle.std.specs.Prelude.{Option, Some, None}
+use Rattle.text.specs.Allowed.{PutBytesAllows}
 use Rattle.text.specs.Puts.{end_within, put_to}
 
 module _ (size at count : ℕ) where
-  pub end-within : at + count ≤ size → end_within size at count ≡ To (at + count)
+  pub end-within : at + count ≤ size → end_within size at count ≡ Some (at + count)
   unfolding end_within
   end-within h = rw (le-leb _ _ h)
 
-  pub end_beyond : size < at + count → end_within size at count ≡ Full
+  pub end_beyond : size < at + count → end_within size at count ≡ None
   unfolding end_within
   end_beyond h = rw (lt-leb _ _ h)
 
   -- the other way: what the answer tells
-  pub end-found : {next : ℕ} → end_within size at count ≡ To next → (at + count ≤ size) × (next ≡ at + count)
+  pub end-found : {next : ℕ} → Some next ≡ end_within size at count → (at + count ≤ size) × (next ≡ at + count)
   end-found {next} e =
-      ⊎_elim (λ (l : at + count ≤ size). let f = end-within l in (l, cc))
-      (λ (l : size < at + count). let f = end_beyond l in let z : ◌≡◌ {A = ℕ} 0 1 = cc in absurd (omega arith))
-      (le_or_lt (at + count) size)
+      ⊎_elim (λ (l : at + count ≤ size). let f = end-within l in (l, cc)) (λ (l : size < at + count). let f = end_beyond l in cc) (le_or_lt (at + count) size)
 
-  pub end-full : end_within size at count ≡ Full → size < at + count
+  pub end-full : None ≡ end_within size at count → size < at + count
   end-full e =
-      ⊎_elim (λ (l : at + count ≤ size). let f = end-within l in let z : ◌≡◌ {A = ℕ} 0 1 = cc in absurd (omega arith))
-      (λ (l : size < at + count). l)
-      (le_or_lt (at + count) size)
+      ⊎_elim (λ (l : at + count ≤ size). let f = end-within l in cc) (λ (l : size < at + count). l) (le_or_lt (at + count) size)
 
-module _ (out : List ℕ) (at : ℕ) (bytes : List ℕ) where
-  pub to-within : at + length bytes ≤ length out → put_to out at bytes ≡ To (at + length bytes)
+-- the answer of a put by the number of its bytes
+module _ (out : List ℕ) (at : ℕ) (bytes : List ℕ) (count : ℕ) (counted : count ≡ length bytes) where
+  pub put-found : {next : ℕ} → Some next ≡ end_within (length out) at count → Some next ≡ put_to out at bytes
   unfolding put_to
-  to-within h = end-within _ _ _ h
+  put-found e = rw counted at e
 
-  pub to-full : put_to out at bytes ≡ Full → length out < at + length bytes
+  pub put-full : {answer : Option ℕ} → None ≡ end_within (length out) at count → answer ≡ None → PutBytesAllows out at bytes (answer, out)
   unfolding put_to
-  to-full e = end-full _ _ _ e
-
-  -- the answer of a put by the number of its bytes
-  pub to-counted : (count : ℕ) {answer : Put} → count ≡ length bytes → answer ≡ end_within (length out) at count → answer ≡ put_to out at bytes
-  unfolding put_to
-  to-counted count e f = rw e at f
-
-  pub into_full : {answer : Put} → answer ≡ put_to out at bytes → answer ≡ Full → out ≡ put_into out at bytes
-  into_full e f = sym (into_beyond out at bytes (to-full (sym e ∙ f)))
+  put-full e f = let g = rw counted at e in (f ∙ g, sym (into_beyond out at bytes (end-full _ _ _ g)))

@@ -1,12 +1,12 @@
-// Numbers in decimal: how many digits, each written once, from the last, into a slice that has room for them; and the size of a signed number, whose digits are written.
+// Numbers in decimal: how many digits, each written once, from the last, into a slice that has room for them; of a signed number the digits of its size.
 // A number of 64 bits has at most 20 digits, one with a sign at most 19.
-ghost use Rattle.std.specs.Prelude.{◌≡◌, ◌+◌, ◌≤◌, nat_abs, length};
+ghost use Rattle.std.specs.Prelude.{◌≡◌, ◌+◌, ◌≤◌, length};
 ghost use Rattle.writes.specs.Writes.{put_into, Writes};
 ghost use Rattle.text.specs.Decimals.{decimal, signed_decimal};
 
 use writes::write_byte;
 
-// By powers of ten up to n / 10, so that none wraps: `power` is 10 ^ `after`.
+// By powers of ten up to n / 10, so that none wraps: `power` is 10 ^ `after`. A `while`, since it stops at a power and not at a count.
 pub fn digit_count(n: u64) -> usize
     ensures { result ≡ length (decimal n) }
 {
@@ -26,19 +26,10 @@ pub(crate) fn write_digits(out: &mut [u8], at: usize, count: usize, n: u64)
     ensures { out.new ≡ put_into out.old at (decimal n) }
 {
     let mut rest = n;
-    let mut left = count;
-    while 0 < left {
-        left -= 1;
+    for left in (0..count).rev() {
         out[at + left] = (48 + rest % 10) as u8;
         rest /= 10;
     }
-}
-
-// How far from zero: for a negative number, the least too, one more than -1 less it, so that nothing wraps.
-pub(crate) fn size_of(z: i64) -> u64
-    ensures { result ≡ nat_abs z }
-{
-    if z < 0 { (-1 - z) as u64 + 1 } else { z as u64 }
 }
 
 // Each hands back the position after what it wrote.
@@ -55,7 +46,7 @@ pub fn write_signed(out: &mut [u8], at: usize, z: i64) -> usize
     requires { at + length (signed_decimal z) ≤ length out.old }
     ensures { Writes 20 out.old at (signed_decimal z) result out.new }
 {
-    let n = size_of(z);
+    let n = z.unsigned_abs();
     if z < 0 {
         let digits = write_byte(out, at, b'-');
         return write_decimal(out, digits, n);

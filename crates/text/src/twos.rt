@@ -6,39 +6,41 @@ ghost use Rattle.writes.specs.Writes.{Writes};
 ghost use Rattle.text.specs.LastDigits.{last_digits};
 ghost use Rattle.text.specs.twos.Twos.{TwosAre};
 
-use crate::digits::{size_of, write_decimal};
+use crate::digits::write_decimal;
 use writes::write_byte;
 
 // "00" to "99".
-pub fn twos() -> [u8; 200]
-    ensures { TwosAre 100 result }
-{
-    let mut table = [0u8; 200];
-    let mut k = 0;
-    while k < 100 {
-        table[2 * k] = (48 + k / 10) as u8;
-        table[2 * k + 1] = (48 + k % 10) as u8;
-        k += 1;
+#[derive(Drop)]
+pub struct Twos {
+    digits: [u8; 200],
+    ghost digits_are: { TwosAre 100 digits },
+}
+
+impl Twos {
+    pub fn new() -> Twos {
+        let mut digits = [0u8; 200];
+        for k in 0..100 {
+            digits[2 * k] = (48 + k / 10) as u8;
+            digits[2 * k + 1] = (48 + k % 10) as u8;
+        }
+        Twos { digits }
     }
-    table
 }
 
 // Both bytes are read before one is written, so that the compiler makes one load and one store of them.
-fn write_two(twos: &[u8; 200], out: &mut [u8], at: usize, n: u32) -> usize
-    requires twos_are { TwosAre 100 twos.now }
+fn write_two(twos: &Twos, out: &mut [u8], at: usize, n: u32) -> usize
     requires n_bound { n < 100 }
     requires at_in_bounds { at + 2 ≤ length out.old }
     ensures { Writes 2 out.old at (last_digits 2 n) result out.new }
 {
     let k = 2 * (n as usize);
-    let ten = twos[k];
-    let one = twos[k + 1];
+    let ten = twos.digits[k];
+    let one = twos.digits[k + 1];
     let middle = write_byte(out, at, ten);
     write_byte(out, middle, one)
 }
 
-fn write_four(twos: &[u8; 200], out: &mut [u8], at: usize, n: u32) -> usize
-    requires twos_are { TwosAre 100 twos.now }
+fn write_four(twos: &Twos, out: &mut [u8], at: usize, n: u32) -> usize
     requires n_bound { n < 10000 }
     requires at_in_bounds { at + 4 ≤ length out.old }
     ensures { Writes 4 out.old at (last_digits 4 n) result out.new }
@@ -47,8 +49,7 @@ fn write_four(twos: &[u8; 200], out: &mut [u8], at: usize, n: u32) -> usize
     write_two(twos, out, middle, n % 100)
 }
 
-fn write_eight(twos: &[u8; 200], out: &mut [u8], at: usize, n: u32) -> usize
-    requires twos_are { TwosAre 100 twos.now }
+fn write_eight(twos: &Twos, out: &mut [u8], at: usize, n: u32) -> usize
     requires n_bound { n < 100000000 }
     requires at_in_bounds { at + 8 ≤ length out.old }
     ensures { Writes 8 out.old at (last_digits 8 n) result out.new }
@@ -58,8 +59,7 @@ fn write_eight(twos: &[u8; 200], out: &mut [u8], at: usize, n: u32) -> usize
 }
 
 // No leading zeros from here on.
-fn write_to_two(twos: &[u8; 200], out: &mut [u8], at: usize, n: u32) -> usize
-    requires twos_are { TwosAre 100 twos.now }
+fn write_to_two(twos: &Twos, out: &mut [u8], at: usize, n: u32) -> usize
     requires n_bound { n < 100 }
     requires at_in_bounds { at + 2 ≤ length out.old }
     ensures { Writes 2 out.old at (decimal n) result out.new }
@@ -70,8 +70,7 @@ fn write_to_two(twos: &[u8; 200], out: &mut [u8], at: usize, n: u32) -> usize
     write_two(twos, out, at, n)
 }
 
-fn write_to_four(twos: &[u8; 200], out: &mut [u8], at: usize, n: u32) -> usize
-    requires twos_are { TwosAre 100 twos.now }
+fn write_to_four(twos: &Twos, out: &mut [u8], at: usize, n: u32) -> usize
     requires n_bound { n < 10000 }
     requires at_in_bounds { at + 4 ≤ length out.old }
     ensures { Writes 4 out.old at (decimal n) result out.new }
@@ -83,8 +82,7 @@ fn write_to_four(twos: &[u8; 200], out: &mut [u8], at: usize, n: u32) -> usize
     write_two(twos, out, middle, n % 100)
 }
 
-pub fn write_to_eight(twos: &[u8; 200], out: &mut [u8], at: usize, n: u32) -> usize
-    requires twos_are { TwosAre 100 twos.now }
+pub fn write_to_eight(twos: &Twos, out: &mut [u8], at: usize, n: u32) -> usize
     requires n_bound { n < 100000000 }
     requires at_in_bounds { at + 8 ≤ length out.old }
     ensures { Writes 8 out.old at (decimal n) result out.new }
@@ -97,8 +95,7 @@ pub fn write_to_eight(twos: &[u8; 200], out: &mut [u8], at: usize, n: u32) -> us
 }
 
 // No number of a line has more than 16 digits; another is written digit by digit.
-fn write_long(twos: &[u8; 200], out: &mut [u8], at: usize, n: u64) -> usize
-    requires twos_are { TwosAre 100 twos.now }
+fn write_long(twos: &Twos, out: &mut [u8], at: usize, n: u64) -> usize
     requires le_n { 100000000 ≤ n }
     requires at_in_bounds { at + 20 ≤ length out.old }
     ensures { Writes 20 out.old at (decimal n) result out.new }
@@ -111,8 +108,7 @@ fn write_long(twos: &[u8; 200], out: &mut [u8], at: usize, n: u64) -> usize
     write_decimal(out, at, n)
 }
 
-pub fn write_decimal_by(twos: &[u8; 200], out: &mut [u8], at: usize, n: u64) -> usize
-    requires twos_are { TwosAre 100 twos.now }
+pub fn write_decimal_by(twos: &Twos, out: &mut [u8], at: usize, n: u64) -> usize
     requires at_in_bounds { at + 20 ≤ length out.old }
     ensures { Writes 20 out.old at (decimal n) result out.new }
 {
@@ -122,12 +118,11 @@ pub fn write_decimal_by(twos: &[u8; 200], out: &mut [u8], at: usize, n: u64) -> 
     write_long(twos, out, at, n)
 }
 
-pub fn write_signed_by(twos: &[u8; 200], out: &mut [u8], at: usize, z: i64) -> usize
-    requires twos_are { TwosAre 100 twos.now }
+pub fn write_signed_by(twos: &Twos, out: &mut [u8], at: usize, z: i64) -> usize
     requires at_in_bounds { at + 21 ≤ length out.old }
     ensures { Writes 20 out.old at (signed_decimal z) result out.new }
 {
-    let n = size_of(z);
+    let n = z.unsigned_abs();
     if z < 0 {
         let digits = write_byte(out, at, b'-');
         return write_decimal_by(twos, out, digits, n);

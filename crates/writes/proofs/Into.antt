@@ -1,12 +1,12 @@
 -- What a slice holds after a run of bytes: with room for it and without, and after one run more.
-use Prim.Native.Nat.{ℕ, suc, ◌+◌, ◌≤◌, ◌<◌}
-use mathlib.Core.Path.{◌≡◌, refl}
+use Prim.Native.Nat.{ℕ, suc, ◌+◌, ◌-◌, ◌≤◌, ◌<◌}
+use mathlib.Core.Path.{◌≡◌, refl, sym}
 use mathlib.Core.Bool.{Bool, true, false}
 use mathlib.Core.Logic.{◌⊎◌, inl, inr, ⊎_elim}
 use mathlib.Core.List.{List, [], ◌∷◌, ◌++◌, append_assoc}
 use lib.Dec.{leb}
-use lib.ListN.{length, get_or, take, drop, set, length-append, length-take, length-drop}
-use lib.Seq.{paste, paste-suc, take-length, take_at, drop-append-add, drop-drop, set_split, append_snoc}
+use lib.ListN.{length, take, drop, set, length-append, length-take, length-drop}
+use lib.Seq.{take_at, drop-append-add, drop-drop, set_split, append_snoc}
 use native.Mathlib.Nat.{add_assoc}
 use native.Mathlib.Numerals.{add-one}
 use native.Mathlib.Omega.{arith}
@@ -35,13 +35,10 @@ module _ (out : List ℕ) (at : ℕ) (bytes : List ℕ) where
       (λ (l : length out < at + length bytes). rw (into_beyond l))
       (le_or_lt (at + length bytes) (length out))
 
-  -- the laws of a loop that copies: a turn, and the end
-  pub one-copied : (now : List ℕ) (i : ℕ) {place : ℕ} → at + length bytes ≤ length out → i < length bytes → place ≡ at + i → now ≡ paste out at bytes i
-      → set now place (get_or bytes i 0) ≡ paste out at bytes (i + 1)
-  one-copied now i h l q e = rw (q, e, add-one) (paste-suc out at bytes i 0 (omega arith) l)
-
-  pub all-copied : (i : ℕ) → at + length bytes ≤ length out → i ≤ length bytes → length bytes ≤ i → paste out at bytes i ≡ put_into out at bytes
-  all-copied i h l g = let e : i ≡ length bytes = omega arith in rw (e, take-length, into_within h)
+  -- the part of the slice that was copied over
+  pub into_copied : {now : List ℕ} → at + length bytes ≤ length out → now ≡ bytes
+      → take at out ++ (now ++ drop (at + length bytes - at) (drop at out)) ≡ put_into out at bytes
+  into_copied h e = let n : at + (at + length bytes - at) ≡ at + length bytes = omega arith in rw (into_within h, e, drop-drop, n) (sym (append_assoc (take at out) bytes _))
 
 drop_past : (xs ys : List ℕ) (n k : ℕ) → length xs ≡ n → drop (n + k) (xs ++ ys) ≡ drop k ys
 drop_past xs ys n k e = rw (← e) (drop-append-add xs ys k)

@@ -16,10 +16,6 @@ pub fn write_bytes(out: &mut [u8], at: usize, bytes: &[u8]) -> usize
     requires { at + length bytes.now ≤ length out.old }
     ensures { Writes (length bytes.now) out.old at bytes.now result out.new }
 {
-    let mut i = 0;
-    while i < bytes.len() {
-        out[at + i] = bytes[i];
-        i += 1;
-    }
-    at + i
+    out[at..at + bytes.len()].copy_from_slice(bytes);
+    at + bytes.len()
 }

@@ -1,4 +1,5 @@
 -- The search over the pairs: it passes what is in step, and stops at the first excess that is not 0.
+use Rattle.std.specs.Prelude.{Some, None}
 use Prim.Native.Nat.{ℕ, ◌+◌, ◌^◌, ◌≤◌, ◌<◌}
 use mathlib.Core.Path.{◌≡◌, refl, sym, ◌∙◌, ap}
 use mathlib.Core.Bool.{Bool, true, false}
@@ -16,8 +17,7 @@ use Rattle.model.specs.Nets.{PNet, pairs, pair_no, K, count}
 use Rattle.both_forms.specs.Audit.{Finding, count_beside, out_of_step, excess, audited}
 use Rattle.model.proofs.First.{first-at, first-end, first_more}
 use Rattle.both_forms.proofs.OutOfStep.{zero_excess, excess_zero}
-use Rattle.complement.specs.declared.audit.Found.TheVariants.{At, Nothing}
-use Rattle.complement.specs.audit.Audits.{finds}
+use Rattle.complement.specs.audit.Audits.{found}
 
 -- a signed number is 0 where its bits are
 is_zero : (z : ℤ) → mag z < 2 ^ hbits w64 → of_z w64 z ≡ 0 → z ≡ pos 0
@@ -44,12 +44,12 @@ module _ (net : PNet) (m m' : List ℕ) (i : ℕ) (below : InStepBelow net m m' 
       go true e = e
       go false e = absurd (h (zero_excess (count m i) (count m' i) (count_beside net m m' i) (K net i) e))
 
-  finds-at : i < pairs net → excess net m m' i ≢ pos 0 → At (pair_no i) (excess net m m' i) ≡ finds none (audited net m m')
-  unfolding finds audited
+  finds-at : i < pairs net → excess net m m' i ≢ pos 0 → Some (pair_no i, excess net m m' i) ≡ found (audited net m m')
+  unfolding audited
   finds-at h d = rw (first-at (pairs net) i _ (record { pair = pair_no i; excess = excess net m m' i }) h below (rw (out-of-step d)))
 
-  pub finds-nothing : i ≤ pairs net → pairs net ≤ i → Nothing ≡ finds none (audited net m m')
-  unfolding finds audited
+  pub finds-nothing : i ≤ pairs net → pairs net ≤ i → None ≡ found (audited net m m')
+  unfolding audited
   finds-nothing h l = rw (← first-end i (pairs net) _ h l (sym below))
 
   -- the excess that a call has given
@@ -57,5 +57,5 @@ module _ (net : PNet) (m m' : List ℕ) (i : ℕ) (below : InStepBelow net m m' 
     pub passes : of_z w64 r ≡ 0 → InStepBelow net m m' (i + 1)
     passes e = in_step-more (sym is ∙ is_zero r fits e)
 
-    pub stops : (of_z w64 r ≡ 0 → ⊥) → i < pairs net → At (pair_no i) (to_z w64 (of_z w64 r)) ≡ finds none (audited net m m')
-    stops e h = ap (At (pair_no i)) (to_z-of_z {w = w64} (record { sfits = fits }) ∙ is) ∙ finds-at h (λ z. not_zero r e (is ∙ z))
+    pub stops : (of_z w64 r ≡ 0 → ⊥) → i < pairs net → Some (pair_no i, to_z w64 (of_z w64 r)) ≡ found (audited net m m')
+    stops e h = ap (λ z. Some (pair_no i, z)) (to_z-of_z {w = w64} (record { sfits = fits }) ∙ is) ∙ finds-at h (λ z. not_zero r e (is ∙ z))

@@ -2,8 +2,8 @@
 use Prim.Native.Nat.{ℕ, zero, suc, ◌+◌, ◌*◌, ◌≤◌}
 use mathlib.Core.Path.{◌≡◌, refl, sym, ◌∙◌, ap, ap₂}
 use mathlib.Core.Bool.{Bool, true, false, not}
-use mathlib.Core.List.{List, ◌++◌, flat_map}
-use lib.ListN.{length, length-append}
+use mathlib.Core.List.{List, [], ◌∷◌, ◌++◌, flat_map}
+use lib.ListN.{length, get_or, length-append}
 use native.Mathlib.Omega.{arith}
 use Rattle.model.specs.declared.Version.{Version}
 use Rattle.model.specs.declared.Mode.{Mode}
@@ -24,7 +24,11 @@ use Rattle.opened.proofs.Shapes.{sizes}
 use Rattle.opened.proofs.Segments.{mode_lists}
 use Rattle.halves.specs.declared.half.Half.{Half}
 use Rattle.halves.specs.declared.half.Half.TheVariants.{Original, Complement}
-use Rattle.complement.specs.sections.Arcs.{kept, half_arc, half_no, half_bytes, row_arcs}
+use Rattle.complement.specs.sections.Arcs.{kept, half_arc, half_bytes, row_arcs}
+
+-- the two halves, in order
+abbrev pub half_no : ℕ → Half
+half_no h = get_or (Original ∷ Complement ∷ []) h Original
 
 module _ (net : PNet) where
   abbrev pub kept_half : Half → ℕ → List NetArc
@@ -38,7 +42,7 @@ module _ (net : PNet) where
         ∙ ap₂ (λ xs ys. xs ++ ys) (joined_ext count _ _ (λ i h. rw (← arcs.own i h))) (joined_ext count _ _ (λ i h. rw (← arcs.own i h)))
 
     row_bytes_lem : (v : Version) → flat_map (arc_bytes v) (row_arcs net t) ≡ joined 2 (λ h. joined count (half_bytes net v (half_no h) start))
-    unfolding joined half_no
+    unfolding joined
     row_bytes_lem v =
         ap (flat_map (arc_bytes v)) row_halves
         ∙ section_append (arc_bytes v) (joined count (λ i. kept_half Original (start + i))) _

@@ -19,11 +19,6 @@ kept a = written a.mode a.pair.0 a.entry
 abbrev pub kept_bytes : Version → NetArc → List ℕ
 kept_bytes v a = flat_map (arc_bytes v) (kept a)
 
--- the two halves, in order
-unfoldable pub half_no : ℕ → Half
-half_no zero = Original
-half_no (suc h) = Complement
-
 -- a test that passes at each number below n
 unfoldable pub every : ℕ → (ℕ → Bool) → Bool
 every zero test = true

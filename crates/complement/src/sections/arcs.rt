@@ -4,14 +4,13 @@ ghost use mathlib.Core.List.{◌++◌, flat_map};
 ghost use Rattle.second_form.specs.Dead.{is_dead};
 ghost use Rattle.model.specs.Lists.{joined};
 ghost use Rattle.sheets.specs.Decoded.{net_of, net_arc};
-ghost use Rattle.opened.specs.Shape.{Open};
 ghost use Rattle.opened.specs.Starts.{StartsAre, ModeArcs, OwnArc};
 ghost use Rattle.sheets.specs.written.Written.{bytes16, mode_bytes, arc_bytes};
 ghost use Rattle.sheets.specs.written.Puts.{Put, Room, Puts, mode_size};
 ghost use Rattle.halves.specs.declared.half.Half.TheVariants.{Original, Complement};
 ghost use Rattle.complement.specs.sections.DeadModes.{DeadAre};
 ghost use Rattle.halves.specs.Bounded.{BelowAre};
-ghost use Rattle.complement.specs.sections.Arcs.{kept_bytes, half_arc, half_no, half_bytes, row_arcs, row_bytes};
+ghost use Rattle.complement.specs.sections.Arcs.{kept_bytes, half_arc, half_bytes, row_arcs, row_bytes};
 
 use crate::sections::bounded::complement_pair;
 use crate::sections::entry::{is_blank, original_arc};
@@ -19,37 +18,34 @@ use halves::entry::complement_arc;
 use halves::half::Half;
 use model::{Arc, Mode, Version};
 use opened::arcs::arc;
-use opened::shape::{NetShape, capacity};
+use opened::open::OpenNet;
+use opened::shape::capacity;
 use opened::starts::{Segment, arcs_of};
 use sheets::written::{mode_size, own_size, put_own, put16, put32};
 
 // A half of what the i-th arc of a mode becomes, dead or not.
 pub(crate) fn half_arc(
-    s: &[u8],
-    net: NetShape,
+    net: &OpenNet,
     below: &[u16; 257],
     dead: bool,
     half: Half,
     arcs: Segment,
     i: usize,
 ) -> Arc
-    requires fact { Open s.now net }
-    requires below_are { BelowAre (net_of s.now) below.now }
-    requires own_arc { OwnArc (net_of s.now).arcs arcs i }
-    requires dead_value { dead ≡ is_dead (net_of s.now) arcs.mode }
-    ensures { net_arc result ≡ half_arc (net_of s.now) half (arcs.start + i) }
+    requires below_are { BelowAre (net_of net.now.sheet.now) below.now }
+    requires own_arc { OwnArc (net_of net.now.sheet.now).arcs arcs i }
+    requires dead_value { dead ≡ is_dead (net_of net.now.sheet.now) arcs.mode }
+    ensures { net_arc result ≡ half_arc (net_of net.now.sheet.now) half (arcs.start + i) }
 {
-    let rule = net.rule;
-    let a = arc(s, net, arcs, i);
-    let pair = a.pair;
+    let a = arc(net, arcs, i);
     match half {
         Half::Original => original_arc(a),
         Half::Complement => complement_arc(
             a,
-            rule,
+            net.shape.rule,
             dead,
-            capacity(s, net, pair),
-            complement_pair(net.pairs, below, pair),
+            capacity(net, a.pair),
+            complement_pair(net.shape.pairs, below, a.pair),
         ),
     }
 }
@@ -65,27 +61,16 @@ fn put_names(out: &mut [u8], at: usize, version: Version, mode: u16, pair: u16) 
 }
 
 // What an arc leaves at its own pair. Each field is read just before it is put: its bytes are then stored as one number (docs/SPEED.md).
-fn put_original(
-    s: &[u8],
-    net: NetShape,
-    arcs: Segment,
-    i: usize,
-    out: &mut [u8],
-    at: usize,
-) -> usize
-    requires fact { Open s.now net }
-    requires own_arc { OwnArc (net_of s.now).arcs arcs i }
-    requires version_in_bounds { at + (mode_size net.version + 14) ≤ length out.old }
-    ensures { Put out.old at (mode_size net.version + 14) (arc_bytes net.version (half_arc (net_of s.now) Original (arcs.start + i))) out.new result }
+fn put_original(net: &OpenNet, arcs: Segment, i: usize, out: &mut [u8], at: usize) -> usize
+    requires own_arc { OwnArc (net_of net.now.sheet.now).arcs arcs i }
+    requires version_in_bounds { at + (mode_size net.now.shape.version + 14) ≤ length out.old }
+    ensures { Put out.old at (mode_size net.now.shape.version + 14) (arc_bytes net.now.shape.version (half_arc (net_of net.now.sheet.now) Original (arcs.start + i))) out.new result }
 {
-    let version = net.version;
-    let names = arc(s, net, arcs, i);
-    let mode = names.mode;
-    let pair = names.pair;
-    let to_pre = put_names(out, at, version, mode.0, pair.0);
-    let of_pre = arc(s, net, arcs, i);
+    let names = arc(net, arcs, i);
+    let to_pre = put_names(out, at, net.shape.version, names.mode.0, names.pair.0);
+    let of_pre = arc(net, arcs, i);
     let to_post = put32(out, to_pre, of_pre.pre);
-    let of_post = arc(s, net, arcs, i);
+    let of_post = arc(net, arcs, i);
     let to_inhibitor = put32(out, to_post, of_post.post);
     put32(out, to_inhibitor, 0xffff_ffff)
 }
@@ -93,8 +78,7 @@ fn put_original(
 // What it puts at the complement pair, already worked out. Pre first, then the rest, with a look into the sheet before Post and one into the
 // table before the others: Pre and Post are then stored as one number each (docs/SPEED.md).
 fn put_new(
-    s: &[u8],
-    net: NetShape,
+    net: &OpenNet,
     below: &[u16; 257],
     arcs: Segment,
     i: usize,
@@ -102,28 +86,24 @@ fn put_new(
     out: &mut [u8],
     at: usize,
 ) -> usize
-    requires fact { Open s.now net }
-    requires below_are { BelowAre (net_of s.now) below.now }
-    requires own_arc { OwnArc (net_of s.now).arcs arcs i }
-    requires value { net_arc new ≡ half_arc (net_of s.now) Complement (arcs.start + i) }
-    requires version_in_bounds { at + (mode_size net.version + 14) ≤ length out.old }
-    ensures { Put out.old at (mode_size net.version + 14) (arc_bytes net.version (net_arc new)) out.new result }
+    requires below_are { BelowAre (net_of net.now.sheet.now) below.now }
+    requires own_arc { OwnArc (net_of net.now.sheet.now).arcs arcs i }
+    requires value { net_arc new ≡ half_arc (net_of net.now.sheet.now) Complement (arcs.start + i) }
+    requires version_in_bounds { at + (mode_size net.now.shape.version + 14) ≤ length out.old }
+    ensures { Put out.old at (mode_size net.now.shape.version + 14) (arc_bytes net.now.shape.version (net_arc new)) out.new result }
 {
-    let version = net.version;
-    let to_post = put32(out, at + mode_size(version) + 2, new.pre);
-    let a = arc(s, net, arcs, i);
+    let to_post = put32(out, at + mode_size(net.shape.version) + 2, new.pre);
+    let a = arc(net, arcs, i);
     let to_inhibitor = put32(out, to_post, new.post);
-    let pair = complement_pair(net.pairs, below, a.pair);
+    let pair = complement_pair(net.shape.pairs, below, a.pair);
     let end = put32(out, to_inhibitor, new.inhibitor);
-    let mode = new.mode;
-    put_names(out, at, version, mode.0, pair.0);
+    put_names(out, at, net.shape.version, new.mode.0, pair.0);
     end
 }
 
 // "Blank arcs are left out."
 fn put_half_arc(
-    s: &[u8],
-    net: NetShape,
+    net: &OpenNet,
     below: &[u16; 257],
     dead: bool,
     half: Half,
@@ -132,27 +112,25 @@ fn put_half_arc(
     out: &mut [u8],
     at: usize,
 ) -> usize
-    requires fact { Open s.now net }
-    requires below_are { BelowAre (net_of s.now) below.now }
-    requires own_arc { OwnArc (net_of s.now).arcs arcs i }
-    requires dead_value { dead ≡ is_dead (net_of s.now) arcs.mode }
-    requires room { Room out.old at (kept_bytes net.version (half_arc (net_of s.now) half (arcs.start + i))) }
-    ensures { Puts out.old at (kept_bytes net.version (half_arc (net_of s.now) half (arcs.start + i))) out.new result }
+    requires below_are { BelowAre (net_of net.now.sheet.now) below.now }
+    requires own_arc { OwnArc (net_of net.now.sheet.now).arcs arcs i }
+    requires dead_value { dead ≡ is_dead (net_of net.now.sheet.now) arcs.mode }
+    requires room { Room out.old at (kept_bytes net.now.shape.version (half_arc (net_of net.now.sheet.now) half (arcs.start + i))) }
+    ensures { Puts out.old at (kept_bytes net.now.shape.version (half_arc (net_of net.now.sheet.now) half (arcs.start + i))) out.new result }
 {
-    let found = half_arc(s, net, below, dead, half, arcs, i);
+    let found = half_arc(net, below, dead, half, arcs, i);
     if is_blank(found) {
         return at;
     }
     match half {
-        Half::Original => put_original(s, net, arcs, i, out, at),
-        Half::Complement => put_new(s, net, below, arcs, i, found, out, at),
+        Half::Original => put_original(net, arcs, i, out, at),
+        Half::Complement => put_new(net, below, arcs, i, found, out, at),
     }
 }
 
 // A half of what the arcs of a mode become.
 fn put_half_arcs(
-    s: &[u8],
-    net: NetShape,
+    net: &OpenNet,
     below: &[u16; 257],
     dead: bool,
     half: Half,
@@ -160,113 +138,87 @@ fn put_half_arcs(
     out: &mut [u8],
     at: usize,
 ) -> usize
-    requires fact { Open s.now net }
-    requires below_are { BelowAre (net_of s.now) below.now }
-    requires mode_arcs { ModeArcs (net_of s.now).arcs arcs.mode arcs.start arcs.count }
-    requires dead_value { dead ≡ is_dead (net_of s.now) arcs.mode }
-    requires room { Room out.old at (joined arcs.count (half_bytes (net_of s.now) net.version half arcs.start)) }
-    ensures { Puts out.old at (joined arcs.count (half_bytes (net_of s.now) net.version half arcs.start)) out.new result }
+    requires below_are { BelowAre (net_of net.now.sheet.now) below.now }
+    requires mode_arcs { ModeArcs (net_of net.now.sheet.now).arcs arcs.mode arcs.start arcs.count }
+    requires dead_value { dead ≡ is_dead (net_of net.now.sheet.now) arcs.mode }
+    requires room { Room out.old at (joined arcs.count (half_bytes (net_of net.now.sheet.now) net.now.shape.version half arcs.start)) }
+    ensures { Puts out.old at (joined arcs.count (half_bytes (net_of net.now.sheet.now) net.now.shape.version half arcs.start)) out.new result }
 {
-    let count = arcs.count;
     let mut next = at;
-    let mut i = 0;
-    while i < count {
-        next = put_half_arc(s, net, below, dead, half, arcs, i, out, next);
-        i += 1;
+    for i in 0..arcs.count {
+        next = put_half_arc(net, below, dead, half, arcs, i, out, next);
     }
     next
-}
-
-fn half_no(h: usize) -> Half
-    ensures { result ≡ half_no h }
-{
-    if h == 0 {
-        return Half::Original;
-    }
-    Half::Complement
 }
 
 // "arcs rise strictly by mode, then pair": a mode's arcs on complement pairs follow its originals. A loop over both, so that the
 // inner one has one caller and is inlined (docs/SPEED.md).
 fn put_halves(
-    s: &[u8],
-    net: NetShape,
+    net: &OpenNet,
     below: &[u16; 257],
     dead: bool,
     arcs: Segment,
     out: &mut [u8],
     at: usize,
 ) -> usize
-    requires fact { Open s.now net }
-    requires below_are { BelowAre (net_of s.now) below.now }
-    requires mode_arcs { ModeArcs (net_of s.now).arcs arcs.mode arcs.start arcs.count }
-    requires dead_value { dead ≡ is_dead (net_of s.now) arcs.mode }
-    requires room { Room out.old at (flat_map (arc_bytes net.version) (row_arcs (net_of s.now) arcs.mode.0)) }
-    ensures { Puts out.old at (flat_map (arc_bytes net.version) (row_arcs (net_of s.now) arcs.mode.0)) out.new result }
+    requires below_are { BelowAre (net_of net.now.sheet.now) below.now }
+    requires mode_arcs { ModeArcs (net_of net.now.sheet.now).arcs arcs.mode arcs.start arcs.count }
+    requires dead_value { dead ≡ is_dead (net_of net.now.sheet.now) arcs.mode }
+    requires room { Room out.old at (flat_map (arc_bytes net.now.shape.version) (row_arcs (net_of net.now.sheet.now) arcs.mode.0)) }
+    ensures { Puts out.old at (flat_map (arc_bytes net.now.shape.version) (row_arcs (net_of net.now.sheet.now) arcs.mode.0)) out.new result }
 {
     let mut next = at;
-    let mut h = 0;
-    while h < 2 {
-        next = put_half_arcs(s, net, below, dead, half_no(h), arcs, out, next);
-        h += 1;
+    for half in [Half::Original, Half::Complement] {
+        next = put_half_arcs(net, below, dead, half, arcs, out, next);
     }
     next
 }
 
 // In version 2 a mode's arcs follow their count, which is known when they are put: they have 14 bytes each.
 fn put_mode(
-    s: &[u8],
-    net: NetShape,
+    net: &OpenNet,
     below: &[u16; 257],
     dead: bool,
     arcs: Segment,
     out: &mut [u8],
     at: usize,
 ) -> usize
-    requires fact { Open s.now net }
-    requires below_are { BelowAre (net_of s.now) below.now }
-    requires mode_arcs { ModeArcs (net_of s.now).arcs arcs.mode arcs.start arcs.count }
-    requires dead_value { dead ≡ is_dead (net_of s.now) arcs.mode }
-    requires room { Room out.old at (row_bytes (net_of s.now) net.version arcs.mode.0) }
-    ensures { Puts out.old at (row_bytes (net_of s.now) net.version arcs.mode.0) out.new result }
+    requires below_are { BelowAre (net_of net.now.sheet.now) below.now }
+    requires mode_arcs { ModeArcs (net_of net.now.sheet.now).arcs arcs.mode arcs.start arcs.count }
+    requires dead_value { dead ≡ is_dead (net_of net.now.sheet.now) arcs.mode }
+    requires room { Room out.old at (row_bytes (net_of net.now.sheet.now) net.now.shape.version arcs.mode.0) }
+    ensures { Puts out.old at (row_bytes (net_of net.now.sheet.now) net.now.shape.version arcs.mode.0) out.new result }
 {
-    let version = net.version;
-    let start = at + own_size(version);
-    let next = put_halves(s, net, below, dead, arcs, out, start);
-    put_own(out, at, version, (next - start) / 14);
+    let start = at + own_size(net.shape.version);
+    let next = put_halves(net, below, dead, arcs, out, start);
+    put_own(out, at, net.shape.version, (next - start) / 14);
     next
 }
 
 pub(crate) fn put_arcs(
-    s: &[u8],
-    net: NetShape,
+    net: &OpenNet,
     starts: &[u16; 257],
     below: &[u16; 257],
     dead: &[bool; 256],
     out: &mut [u8],
     at: usize,
 ) -> usize
-    requires fact { Open s.now net }
-    requires starts_are { StartsAre (net_of s.now).arcs starts.now }
-    requires below_are { BelowAre (net_of s.now) below.now }
-    requires dead_are { DeadAre (net_of s.now) dead.now }
-    requires room { Room out.old at (joined net.modes (row_bytes (net_of s.now) net.version)) }
-    ensures { Puts out.old at (joined net.modes (row_bytes (net_of s.now) net.version)) out.new result }
+    requires starts_are { StartsAre (net_of net.now.sheet.now).arcs starts.now }
+    requires below_are { BelowAre (net_of net.now.sheet.now) below.now }
+    requires dead_are { DeadAre (net_of net.now.sheet.now) dead.now }
+    requires room { Room out.old at (joined net.now.shape.modes (row_bytes (net_of net.now.sheet.now) net.now.shape.version)) }
+    ensures { Puts out.old at (joined net.now.shape.modes (row_bytes (net_of net.now.sheet.now) net.now.shape.version)) out.new result }
 {
-    let modes = net.modes;
     let mut next = at;
-    let mut t = 0;
-    while t < modes {
+    for t in 0..net.shape.modes {
         next = put_mode(
-            s,
             net,
             below,
             dead[t],
-            arcs_of(s, net, starts, Mode(t as u16)),
+            arcs_of(net, starts, Mode(t as u16)),
             out,
             next,
         );
-        t += 1;
     }
     next
 }

@@ -1,26 +1,21 @@
 // Pairs of finite K: how many stand below each pair. It numbers the complement pairs and says how many a place has.
 ghost use Rattle.std.specs.Prelude.{◌≡◌, ◌+◌, ◌-◌, ◌≤◌, get_or};
 ghost use Rattle.sheets.specs.Decoded.{net_of};
-ghost use Rattle.opened.specs.Shape.{Open};
 ghost use Rattle.halves.specs.Bounded.{BelowAre};
 
 use halves::bounded::one_if_bounded;
 use model::Pair;
-use opened::shape::NetShape;
+use opened::open::OpenNet;
 
 // The table: entry p is how many pairs below p have a finite K.
-pub(crate) fn bounded_below(s: &[u8], net: NetShape) -> [u16; 257]
-    requires { Open s.now net }
-    ensures { BelowAre (net_of s.now) result }
+pub(crate) fn bounded_below(net: &OpenNet) -> [u16; 257]
+    ensures { BelowAre (net_of net.now.sheet.now) result }
 {
     let mut table = [0u16; 257];
-    let pairs = net.pairs;
     let mut count = 0;
-    let mut p = 0;
-    while p < pairs {
-        count += one_if_bounded(s, net, p);
-        p += 1;
-        table[p] = count;
+    for p in 0..net.shape.pairs {
+        count += one_if_bounded(net, p);
+        table[p + 1] = count;
     }
     table
 }
@@ -30,8 +25,7 @@ pub(crate) fn complement_pair(pairs: usize, below: &[u16; 257], pair: Pair) -> P
     requires { (pairs ≤ 256) × (pair.0 ≤ 256) × (get_or below.now pair.0 0 ≤ 256) }
     ensures { result.0 ≡ pairs + get_or below.now pair.0 0 }
 {
-    let p = pair.0 as usize;
-    Pair((pairs as u16) + below[p])
+    Pair(pairs as u16 + below[pair.0 as usize])
 }
 
 // How many of the pairs from `first` up to `end` have a finite K.

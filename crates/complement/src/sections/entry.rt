@@ -11,25 +11,14 @@ use opened::finite::is_finite;
 pub(crate) fn original_arc(arc: Arc) -> Arc
     ensures { net_arc result ≡ on_original (net_arc arc) }
 {
-    let mode = arc.mode;
-    let pair = arc.pair;
     Arc {
-        mode,
-        pair,
-        pre: arc.pre,
-        post: arc.post,
         inhibitor: 0xffff_ffff,
+        ..arc
     }
 }
 
 pub(crate) fn is_blank(arc: Arc) -> bool
     ensures { result ≡ blank (net_arc arc).entry }
 {
-    if arc.pre != 0 {
-        return false;
-    }
-    if arc.post != 0 {
-        return false;
-    }
-    !is_finite(arc.inhibitor)
+    arc.pre == 0 && arc.post == 0 && !is_finite(arc.inhibitor)
 }

@@ -5,7 +5,6 @@ ghost use Rattle.model.specs.Nets.{pairs};
 ghost use Rattle.second_form.specs.Complement.{complement};
 ghost use Rattle.model.specs.Lists.{joined};
 ghost use Rattle.sheets.specs.Decoded.{net_of};
-ghost use Rattle.opened.specs.Shape.{Open};
 ghost use Rattle.sheets.specs.written.Written.{bytes16};
 ghost use Rattle.halves.specs.declared.half.Half.TheVariants.{Complement};
 ghost use Rattle.halves.specs.Bounded.{BelowAre};
@@ -14,22 +13,15 @@ ghost use Rattle.sheets.specs.written.Puts.{Room, Puts};
 
 use crate::sections::bounded::bounded_between;
 use halves::half::Half;
-use opened::shape::{NetShape, colours_of, modes_of};
+use opened::open::OpenNet;
+use opened::shape::{colours_of, modes_of};
 use sheets::written::put_count;
 
 // How many colours a place of these pairs has, or has of finite K.
-fn half_colours(
-    s: &[u8],
-    net: NetShape,
-    below: &[u16; 257],
-    half: Half,
-    first: usize,
-    end: usize,
-) -> usize
-    requires fact { Open s.now net }
-    requires below_are { BelowAre (net_of s.now) below.now }
-    requires first_le_end { (first ≤ end) × (end ≤ net.pairs) }
-    ensures { (result ≡ colours_in (net_of s.now) half first end) × (result ≤ 256) }
+fn half_colours(net: &OpenNet, below: &[u16; 257], half: Half, first: usize, end: usize) -> usize
+    requires below_are { BelowAre (net_of net.now.sheet.now) below.now }
+    requires first_le_end { (first ≤ end) × (end ≤ net.now.shape.pairs) }
+    ensures { (result ≡ colours_in (net_of net.now.sheet.now) half first end) × (result ≤ 256) }
 {
     match half {
         Half::Original => end - first,
@@ -40,10 +32,7 @@ fn half_colours(
 fn count_place(colours: usize) -> usize
     ensures { (result ≡ length (place_if colours)) × (result ≤ 1) }
 {
-    if colours == 0 {
-        return 0;
-    }
-    1
+    usize::from(colours != 0)
 }
 
 fn put_place(colours: usize, out: &mut [u8], at: usize) -> usize
@@ -58,79 +47,59 @@ fn put_place(colours: usize, out: &mut [u8], at: usize) -> usize
 }
 
 // "one for each place with a finite pair"
-pub(crate) fn count_new_places(s: &[u8], net: NetShape, below: &[u16; 257]) -> usize
-    requires fact { Open s.now net }
-    requires below_are { BelowAre (net_of s.now) below.now }
-    ensures { (result ≡ length (joined net.places (half_place (net_of s.now) Complement))) × (result ≤ 64) }
+pub(crate) fn count_new_places(net: &OpenNet, below: &[u16; 257]) -> usize
+    requires below_are { BelowAre (net_of net.now.sheet.now) below.now }
+    ensures { (result ≡ length (joined net.now.shape.places (half_place (net_of net.now.sheet.now) Complement))) × (result ≤ 64) }
 {
-    let places = net.places;
     let mut count = 0;
     let mut first = 0;
-    let mut place = 0;
-    while place < places {
-        let end = first + colours_of(s, net, place);
-        count += count_place(half_colours(s, net, below, Half::Complement, first, end));
+    for place in 0..net.shape.places {
+        let end = first + colours_of(net, place);
+        count += count_place(half_colours(net, below, Half::Complement, first, end));
         first = end;
-        place += 1;
     }
     count
 }
 
 fn put_half_places(
-    s: &[u8],
-    net: NetShape,
+    net: &OpenNet,
     below: &[u16; 257],
     half: Half,
     out: &mut [u8],
     at: usize,
 ) -> usize
-    requires fact { Open s.now net }
-    requires below_are { BelowAre (net_of s.now) below.now }
-    requires room { Room out.old at (joined net.places (place_bytes (net_of s.now) half)) }
-    ensures { Puts out.old at (joined net.places (place_bytes (net_of s.now) half)) out.new result }
+    requires below_are { BelowAre (net_of net.now.sheet.now) below.now }
+    requires room { Room out.old at (joined net.now.shape.places (place_bytes (net_of net.now.sheet.now) half)) }
+    ensures { Puts out.old at (joined net.now.shape.places (place_bytes (net_of net.now.sheet.now) half)) out.new result }
 {
-    let places = net.places;
     let mut next = at;
     let mut first = 0;
-    let mut place = 0;
-    while place < places {
-        let end = first + colours_of(s, net, place);
-        next = put_place(half_colours(s, net, below, half, first, end), out, next);
+    for place in 0..net.shape.places {
+        let end = first + colours_of(net, place);
+        next = put_place(half_colours(net, below, half, first, end), out, next);
         first = end;
-        place += 1;
     }
     next
 }
 
 // "The new places follow the old".
-pub(crate) fn put_places(
-    s: &[u8],
-    net: NetShape,
-    below: &[u16; 257],
-    out: &mut [u8],
-    at: usize,
-) -> usize
-    requires fact { Open s.now net }
-    requires below_are { BelowAre (net_of s.now) below.now }
-    requires room { Room out.old at (flat_map bytes16 (complement (net_of s.now)).colours) }
-    ensures { Puts out.old at (flat_map bytes16 (complement (net_of s.now)).colours) out.new result }
+pub(crate) fn put_places(net: &OpenNet, below: &[u16; 257], out: &mut [u8], at: usize) -> usize
+    requires below_are { BelowAre (net_of net.now.sheet.now) below.now }
+    requires room { Room out.old at (flat_map bytes16 (complement (net_of net.now.sheet.now)).colours) }
+    ensures { Puts out.old at (flat_map bytes16 (complement (net_of net.now.sheet.now)).colours) out.new result }
 {
-    let next = put_half_places(s, net, below, Half::Original, out, at);
-    put_half_places(s, net, below, Half::Complement, out, next)
+    let next = put_half_places(net, below, Half::Original, out, at);
+    put_half_places(net, below, Half::Complement, out, next)
 }
 
 // "Modes are unchanged."
-pub(crate) fn put_modes(s: &[u8], net: NetShape, out: &mut [u8], at: usize) -> usize
-    requires fact { Open s.now net }
-    requires room { Room out.old at (flat_map bytes16 (complement (net_of s.now)).modes_of) }
-    ensures { Puts out.old at (flat_map bytes16 (complement (net_of s.now)).modes_of) out.new result }
+pub(crate) fn put_modes(net: &OpenNet, out: &mut [u8], at: usize) -> usize
+    requires room { Room out.old at (flat_map bytes16 (complement (net_of net.now.sheet.now)).modes_of) }
+    ensures { Puts out.old at (flat_map bytes16 (complement (net_of net.now.sheet.now)).modes_of) out.new result }
 {
-    let transitions = net.transitions;
     let mut next = at;
-    let mut transition = 0;
-    while transition < transitions {
-        next = put_count(out, next, modes_of(s, net, transition));
-        transition += 1;
+    for transition in 0..net.shape.transitions {
+        next = put_count(out, next, modes_of(net, transition));
     }
     next
 }

@@ -2,14 +2,14 @@
 use Rattle.convert.specs.Converted.{lost_rule}
 use Rattle.convert.proofs.keep_rule.Goals as goal
 
-pub returns-in-Two : goal.returns-in-Two
+pub returns-in-One-Weak : goal.returns-in-One-Weak
 unfolding lost_rule
-returns-in-Two c = rw c.in-Two.is
+returns-in-One-Weak c = rw (c.in-One-Weak.is-0, c.in-One-Weak.is-1) c.refused.ensures
 
-pub returns-in-Strong : goal.returns-in-Strong
+pub returns-in_default : goal.returns-in_default
 unfolding lost_rule
-returns-in-Strong c = rw (c.in-One.is, c.in-Strong.is)
+returns-in_default c = rw (c.in_default.is-0, c.in_default.is-1)
 
-pub returns-in-Weak : goal.returns-in-Weak
+pub returns-in_default-2 : goal.returns-in_default-2
 unfolding lost_rule
-returns-in-Weak c = rw (c.in-One.is, c.in-Weak.is) c.refused.ensures
+returns-in_default-2 c = rw c.in_default.is-0

@@ -12,8 +12,8 @@ use Rattle.model.specs.declared.Pair.{Pair}
 use Rattle.model.specs.declared.Thing.TheVariants.{Net, Argument}
 use Rattle.model.specs.declared.Fault.TheVariants.{NotThere, InhibitedUnbounded, NoRoom}
 use Rattle.model.specs.declared.Refusal.{Refusal}
-use Rattle.model.specs.declared.Answer.{Answer}
-use Rattle.model.specs.declared.Answer.TheVariants as answers
+use Rattle.model.specs.Refusals.{Answer}
+use Rattle.std.specs.Prelude.{Ok, Err}
 use Rattle.model.specs.First.{◌▸◌, only_if}
 use Rattle.model.specs.Numbers.{fin, ∞}
 use Rattle.model.specs.Nets.{pairs, K}
@@ -73,13 +73,13 @@ module _ {s : List ℕ} {net : NetShape} (o : Open s net) (p : Pair) where
 
   module _ {a : Answer} (room : ℕ) where
     -- 6, 15 and 10 in turn
-    pub absent-pair : net.pairs ≤ p.0 → a ≡ answers.Refused (wrong Argument NotThere) → a ≡ answer (room_refusal s p room)
+    pub absent-pair : net.pairs ≤ p.0 → a ≡ Err (wrong Argument NotThere) → a ≡ answer (room_refusal s p room)
     unfolding room_refusal strip_refusal
     absent-pair h g =
         g ∙ ap answer (sym (some_then _ (some_then _ (rw (le-leb (pairs (net_of s)) p.0 (omega (arith, (sizes o).pairs))) refl))))
 
     module _ (there : p.0 < net.pairs) where
-      pub unbounded-pair : finite (K (net_of s) p.0) ≡ false → a ≡ answers.Refused (wrong Net (InhibitedUnbounded 0)) → a ≡ answer (room_refusal s p room)
+      pub unbounded-pair : finite (K (net_of s) p.0) ≡ false → a ≡ Err (wrong Net (InhibitedUnbounded 0)) → a ≡ answer (room_refusal s p room)
       unfolding room_refusal strip_refusal
       unbounded-pair h g =
           g ∙ ap answer (sym (some_then _ (none_then (rw (lt-leb (pairs (net_of s)) p.0 (omega (arith, (sizes o).pairs))) refl) (some_then _ (rw h refl)))))

@@ -1,6 +1,6 @@
 -- The stripping call: what it answers, and what it leaves in the output slice.
 -- "Refusals, in order: the net's, 6 for the pair, 15 for unbounded K, 10 where K is above 63, another limit is passed or the output is short."
-use Rattle.std.specs.Prelude.{ℕ, List, length}
+use Rattle.std.specs.Prelude.{ℕ, List, length, Result}
 use Rattle.std.proofs.Math.Option.{Option}
 use Rattle.model.specs.declared.Pair.{Pair}
 use Rattle.model.specs.declared.Refusal.{Refusal}
@@ -10,7 +10,6 @@ use Rattle.heads.specs.Version.{version_of}
 use Rattle.sheets.specs.Whole.{whole_net}
 use Rattle.sheets.specs.Decoded.{net_of}
 use Rattle.sheets.specs.written.Written.{sheet_of}
-use Rattle.sheets.specs.declared.Emitted.{Emitted}
 use Rattle.sheets.specs.Emitted.{emitted, output, too_short}
 use Rattle.bare.specs.Strip.{strip, bound_of, strip_refusal}
 
@@ -29,7 +28,7 @@ unfoldable pub stripping_refusal : List ℕ → Pair → ℕ → Option Refusal
 stripping_refusal net p room = whole_net net ▸ room_refusal net p room
 
 module _ (net : List ℕ) (p : Pair) (out : List ℕ) where
-  abbrev pub stripped_of : Emitted
+  abbrev pub stripped_of : Result ℕ Refusal
   stripped_of = emitted (stripping_refusal net p (length out)) (length (stripped_sheet net p))
 
   abbrev pub output_of : List ℕ

@@ -41,10 +41,8 @@ pub(crate) fn put_new_modes(
     ensures { Puts out.old at (joined many (new_group version before pair)) out.new result }
 {
     let mut next = at;
-    let mut n = 0;
-    while n < many {
+    for n in 0..many {
         next = put_new_mode(version, before, pair, n, out, next);
-        n += 1;
     }
     next
 }

@@ -2,5 +2,5 @@
 use native.Mathlib.Omega.{arith}
 use Rattle.counterpart.proofs.given_back.Goals as goal
 
-pub returns : goal.returns
-returns c = rw c.if-dead.false (omega arith)
+pub returns-else-dead : goal.returns-else-dead
+returns-else-dead c = rw c.if-dead.false (omega arith)

@@ -2,19 +2,16 @@
 use mathlib.Core.Path.{refl}
 use Rattle.model.proofs.First.{none_then, some_then}
 use Rattle.sheets.proofs.Emits.{refused}
-use Rattle.opened.proofs.Opening.{opened-refused, opened-shape, opens}
 use Rattle.export.specs.Exports.{export_refusal}
+use Rattle.model.proofs.Asking.{handed_on}
 use Rattle.export.proofs.export_pnml.Goals as goal
 
-pub export_open-requires : goal.export_open-requires
-export_open-requires c = opens _ c.open_net-opened.ensures c.in-Open.is
-
-pub returns-in-Refused : goal.returns-in-Refused
+pub returns-in_err-net : goal.returns-in_err-net
 unfolding export_refusal
-returns-in-Refused c = refused _ _ _ (some_then _ (opened-refused _ _ c.open_net-opened.ensures c.in-Refused.is))
+returns-in_err-net c = rw (handed_on c.from_residual.ensures) (refused _ _ _ (some_then _ c.in_err-net.ensures))
 
-pub returns-in-Open : goal.returns-in-Open
+pub returns : goal.returns
 unfolding export_refusal
-returns-in-Open c =
+returns c =
     let e = c.export_open.ensures in
-    rw (none_then (opened-shape _ _ c.open_net-opened.ensures c.in-Open.is).0 refl) (e.value, e.out_after)
+    rw (none_then c.in_ok-net.ensures.0 refl, ← c.in_ok-net.ensures.1) (e.value, e.out_after)

@@ -24,6 +24,9 @@ use Rattle.sheets.specs.written.Puts.{Room, Puts}
 use Rattle.sheets.proofs.written.Sections.{joined-room}
 use Rattle.sheets.proofs.written.Together.{together-each}
 use Rattle.pnml.specs.Pnml.{opening, closing, place_text, transition_text, pre_text, post_text, positive, arc_text, mode_text, body, pnml}
+use Rattle.export.specs.declared.elements.Side.{Side}
+use Rattle.export.specs.declared.elements.Side.TheVariants.{Pre, Post}
+use Rattle.export.specs.elements.Sides.{line_text}
 use Rattle.export.specs.elements.Sizes.{weight_size}
 use Rattle.export.proofs.elements.Lengths.{place-length, place-least, transition-length, some-pre-length, some-post-length, weight-least}
 use Rattle.export.specs.texts.Parts.{place_of, arc_no_text, RoomFor}
@@ -142,8 +145,6 @@ module _ {l : List ℕ} {at : ℕ} where
   pub transition-fits : (t : ℕ) → RoomFor l at (transition_text t) → at + 30 ≤ length l
   transition-fits t h = omega (arith, transition-length t)
 
-  pub pre-fits : (t p w : ℕ) → w ≢ 0 → RoomFor l at (positive w (pre_text t p)) → at + 108 ≤ length l
-  pre-fits t p w d h = omega (arith, some-pre-length t p w, weight-least w d, closing-length)
-
-  pub post-fits : (t p w : ℕ) → w ≢ 0 → RoomFor l at (positive w (post_text t p)) → at + 108 ≤ length l
-  post-fits t p w d h = omega (arith, some-post-length t p w, weight-least w d, closing-length)
+  pub line-fits : (side : Side) (t p w : ℕ) → w ≢ 0 → RoomFor l at (positive w (line_text side t p)) → at + 108 ≤ length l
+  line-fits Pre t p w d h = omega (arith, some-pre-length t p w, weight-least w d, closing-length)
+  line-fits Post t p w d h = omega (arith, some-post-length t p w, weight-least w d, closing-length)

@@ -9,7 +9,7 @@ pub(crate) fn place_size(count: u32) -> usize
     requires { count ≤ limit }
     ensures { (result ≡ place_size count) × (result ≤ 85) }
 {
-    78 + digit_count(count as u64)
+    78 + digit_count(u64::from(count))
 }
 
 // An arc of weight 0 is not there.
@@ -18,7 +18,8 @@ pub(crate) fn weight_size(weight: u32) -> usize
     ensures { (result ≡ weight_size weight) × (result ≤ 107) }
 {
     if weight == 0 {
-        return 0;
+        0
+    } else {
+        100 + digit_count(u64::from(weight))
     }
-    100 + digit_count(weight as u64)
 }

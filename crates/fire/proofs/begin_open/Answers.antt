@@ -6,8 +6,8 @@ use Rattle.fire.proofs.begin_open.Goals as goal
 
 pub returns-then-marking-net : goal.returns-then-marking-net
 returns-then-marking-net c =
-    leaves-refused _ (rw (not_one-each c.requires _ c.if-marking-net.true) c.refused.ensures) c.refused.ensures
+    leaves-refused _ (rw (not_one-each c.args.net.now.is_open _ c.if-marking-net.true) c.refused.ensures) c.refused.ensures
 
 pub returns : goal.returns
 returns c =
-    leaves-written _ (rw (one_each_lem c.requires _ c.if-marking-net.false)) refl c.write_start.ensures
+    leaves-written _ (rw (one_each_lem c.args.net.now.is_open _ c.if-marking-net.false)) refl c.write_start.ensures

@@ -10,8 +10,8 @@ use Rattle.model.specs.declared.Mode.{Mode}
 use Rattle.model.specs.declared.Thing.{Thing}
 use Rattle.model.specs.declared.Why.{Why}
 use Rattle.model.specs.declared.Why.TheVariants.{Lacking, OverCapacity, Inhibited, OverLimit}
-use Rattle.model.specs.declared.Answer.{Answer}
-use Rattle.model.specs.declared.Answer.TheVariants.{Accepted}
+use Rattle.model.specs.Refusals.{Answer}
+use Rattle.std.specs.Prelude.{Ok}
 use Rattle.model.specs.First.{◌▸◌, first}
 use Rattle.model.specs.Refusals.{answer}
 use Rattle.model.specs.Numbers.{ℕ∞, ◌≤∞◌}
@@ -20,7 +20,7 @@ use Rattle.model.specs.Markings.{marking_refusal}
 use Rattle.model.specs.Firing.{rule_refusal, row_refusal, mode_refusal, absent, rooms, room_at, fired}
 use Rattle.model.proofs.First.{then_assoc}
 use Rattle.movement.proofs.Markings.{marking-test}
-use Rattle.model.proofs.Refusals.{answer-none}
+use Rattle.model.proofs.Asking.{no_refusal}
 use Rattle.movement.proofs.Rooms.{within-room}
 use Rattle.movement.proofs.ByArcs.{Listing, arcs-stop, arcs_accept, write_arcs, write_next, write_length, write_keeps, fired-by-arcs}
 use Rattle.opened.specs.declared.shape.NetShape.{NetShape}
@@ -33,7 +33,6 @@ use Rattle.opened.proofs.Segments.{mode_lists}
 use Rattle.fire.specs.firing.AtMode.{Free, Writable, written_at, AtMode, stop_at, stop_of, refusal_of, Decides}
 use Rattle.leaving.specs.Leaving.{Leaves}
 use Rattle.rule.proofs.FourTests.{clash}
-use Rattle.fire.proofs.InTurn.{InTurn}
 use Rattle.leaving.proofs.Leaving.{leaves-some, leaves-written}
 
 module _ {s : List ℕ} {net : NetShape} {arcs : Segment} {m : List ℕ} (h : AtMode s net arcs m) (t : Mode)
@@ -92,15 +91,15 @@ module _ {s : List ℕ} {net : NetShape} {arcs : Segment} {m : List ℕ} (h : At
   fires i b l = let e : i ≡ arcs.count = omega arith in rw e (sym (fired-by-arcs (net_of s) t m h.marking listing))
 
 -- the arcs of a mode, once the net is open and the marking accepted
-pub at-mode : {s : List ℕ} {net : NetShape} {arcs : Segment} {m : List ℕ} {a : Answer} → Open s net → a ≡ answer (marking_refusal (net_of s) m) → a ≡ Accepted
+pub at-mode : {s : List ℕ} {net : NetShape} {arcs : Segment} {m : List ℕ} → Open s net → Ok tt ≡ answer (marking_refusal (net_of s) m)
     → {t : Mode} → SegmentOf (net_of s).arcs t arcs → AtMode s net arcs m
-at-mode {s} {m = m} o e h is = record { opened = o; marking = (marking-test (net_of s) m).0 (answer-none _ e h); own = is.own }
+at-mode {s} {m = m} o e is = record { opened = o; marking = (marking-test (net_of s) m).0 (no_refusal _ e); own = is.own }
 
--- "6, 11 over all pairs, 12, 13, 14": the answer is that of the four in turn
+-- "6, 11 over all pairs, 12, 13, 14": what is found is the first of the four in turn
 pub in_order_lem : (thing : Thing) (net : PNet) (m : List ℕ) (t : Mode)
-    → InTurn (stop_of thing Lacking net m t) (stop_of thing OverCapacity net m t) (stop_of thing Inhibited net m t) (stop_of thing OverLimit net m t) (refusal_of thing net m t)
+    → stop_of thing Lacking net m t ▸ stop_of thing OverCapacity net m t ▸ stop_of thing Inhibited net m t ▸ stop_of thing OverLimit net m t ≡ refusal_of thing net m t
 unfolding stop_of refusal_of row_refusal rule_refusal
-in_order_lem thing net m t = record { is = rw (then_assoc, then_assoc) }
+in_order_lem thing net m t = rw (then_assoc, then_assoc)
 
 -- 6 is met before the arcs of a mode are looked for
 pub mode-refusal : {s : List ℕ} {net : NetShape} → Open s net → (thing : Thing) (t : Mode) (m : List ℕ)
@@ -113,5 +112,5 @@ module _ {test : Bool} {net : PNet} {m : List ℕ} {t : Mode} (decides : Decides
   pub decides_not : {a : Answer} → test ≡ false → a ≡ answer (refusal_of thing net m t) → Leaves (refusal_of thing net m t) new m a m
   decides_not f e = leaves-some _ e (λ none. clash (sym ((decides.each thing).1 none) ∙ f))
 
-  pub decides_so : {left : List ℕ} → test ≡ true → left ≡ new → Leaves (refusal_of thing net m t) new m Accepted left
+  pub decides_so : {left : List ℕ} → test ≡ true → left ≡ new → Leaves (refusal_of thing net m t) new m (Ok tt) left
   decides_so f q = leaves-written _ (ap answer (sym ((decides.each thing).0 f))) refl q

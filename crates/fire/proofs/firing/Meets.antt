@@ -9,8 +9,8 @@ use Rattle.model.specs.declared.Arc.{Arc}
 use Rattle.model.specs.declared.Thing.{Thing}
 use Rattle.model.specs.declared.Why.{Why}
 use Rattle.model.specs.declared.Fault.TheVariants.{Stopped}
-use Rattle.model.specs.declared.Answer.{Answer}
-use Rattle.model.specs.declared.Answer.TheVariants.{Accepted, Refused}
+use Rattle.model.specs.Refusals.{Answer}
+use Rattle.std.specs.Prelude.{Ok, Err}
 use Rattle.model.specs.Numbers.{ℕ∞}
 use Rattle.model.specs.Rows.{Entry}
 use Rattle.model.specs.Refusals.{answer, wrong}
@@ -40,13 +40,13 @@ module _ {net : PNet} {m : List ℕ} {k : ℕ} {at : AtPair} (h : Meets net m k 
     tests = meets_as (λ e k m. test ≡ stops why e k m) tested
 
     pub stop-found : {x : Answer} {n : ℕ} → test ≡ true → n ≡ stopped_by why (net_arc at.arc).entry (bound at.capacity) at.count
-        → x ≡ Refused (wrong thing (Stopped why at.arc.pair n)) → x ≡ answer (stop_at thing why net m k)
+        → x ≡ Err (wrong thing (Stopped why at.arc.pair n)) → x ≡ answer (stop_at thing why net m k)
     unfolding stop_at
     stop-found {n = n} e f q =
         rw (sym tests ∙ e, ← meets_as (λ e k m. n ≡ stopped_by why e k m) f)
-        (q ∙ ap (λ (x : NetArc). Refused (wrong thing (Stopped why x.pair n))) h.arc)
+        (q ∙ ap (λ (x : NetArc). Err (wrong thing (Stopped why x.pair n))) h.arc)
 
-    pub stop-passed : test ≡ false → Accepted ≡ answer (stop_at thing why net m k)
+    pub stop-passed : test ≡ false → (Ok tt) ≡ answer (stop_at thing why net m k)
     unfolding stop_at
     stop-passed e = rw (sym tests ∙ e)
 

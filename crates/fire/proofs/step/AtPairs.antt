@@ -13,9 +13,9 @@ use Rattle.model.specs.declared.Thing.TheVariants.{Argument}
 use Rattle.model.specs.declared.Why.{Why}
 use Rattle.model.specs.declared.Why.TheVariants.{Lacking, OverCapacity, Inhibited, OverLimit}
 use Rattle.model.specs.declared.Fault.TheVariants.{Stopped}
-use Rattle.model.specs.declared.Answer.{Answer}
-use Rattle.model.specs.declared.Answer.TheVariants.{Accepted, Refused}
-use Rattle.model.specs.First.{first}
+use Rattle.model.specs.Refusals.{Answer}
+use Rattle.std.specs.Prelude.{Ok, Err}
+use Rattle.model.specs.First.{◌▸◌, first}
 use Rattle.model.specs.Refusals.{answer, wrong}
 use Rattle.model.specs.Numbers.{ℕ∞, limit}
 use Rattle.model.specs.Rows.{Entry, Row}
@@ -30,7 +30,6 @@ use Rattle.sheets.specs.Decoded.{net_of, net_arc}
 use Rattle.opened.specs.Shape.{Open}
 use Rattle.opened.proofs.Shapes.{sizes}
 use Rattle.rule.specs.AtPair.{Counted}
-use Rattle.fire.proofs.InTurn.{InTurn}
 use Rattle.fire.specs.step.Sums.{Below, SumIs, stop_at, stop_of, refusal_of}
 
 module _ {s : List ℕ} {net : NetShape} (o : Open s net) where
@@ -62,20 +61,20 @@ module _ (net : PNet) (m : List ℕ) (k : ℕ) {r : Row} {p : ℕ} {a : Arc} (su
   tests = tested ∙ sums_as (stops why)
 
   pub stop-found : {x : Answer} {n : ℕ} → test ≡ true → n ≡ stopped_by why (net_arc a).entry (bound k) (count m p)
-      → x ≡ Refused (wrong Argument (Stopped why a.pair n)) → x ≡ answer (stop_at why net r m p)
+      → x ≡ Err (wrong Argument (Stopped why a.pair n)) → x ≡ answer (stop_at why net r m p)
   unfolding stop_at
   stop-found {n = n} e f q =
-      rw (sym tests ∙ e, ← (f ∙ sums_as (stopped_by why))) (q ∙ ap (λ (x : Pair). Refused (wrong Argument (Stopped why x n))) sum.pair)
+      rw (sym tests ∙ e, ← (f ∙ sums_as (stopped_by why))) (q ∙ ap (λ (x : Pair). Err (wrong Argument (Stopped why x n))) sum.pair)
 
-  pub stop-passed : test ≡ false → Accepted ≡ answer (stop_at why net r m p)
+  pub stop-passed : test ≡ false → (Ok tt) ≡ answer (stop_at why net r m p)
   unfolding stop_at
   stop-passed e = rw (sym tests ∙ e)
 
--- "11, 12, 13, 14 over the sums": the answer is that of the four in turn
+-- "11, 12, 13, 14 over the sums": what is found is the first of the four in turn
 pub in_order_lem : (net : PNet) (r : Row) (m : List ℕ)
-    → InTurn (stop_of Lacking net r m) (stop_of OverCapacity net r m) (stop_of Inhibited net r m) (stop_of OverLimit net r m) (refusal_of net r m)
+    → stop_of Lacking net r m ▸ stop_of OverCapacity net r m ▸ stop_of Inhibited net r m ▸ stop_of OverLimit net r m ≡ refusal_of net r m
 unfolding stop_of refusal_of row_refusal rule_refusal
-in_order_lem net r m = record { is = rw (then_assoc, then_assoc) }
+in_order_lem net r m = rw (then_assoc, then_assoc)
 
 -- the pairs before p hold M - Pre + Post, the others M
 pub record Moved (r : Row) (p : ℕ) (old new : List ℕ) : Type 0 where

@@ -1,8 +1,9 @@
 -- The members of a step: met one by one, and added up one by one.
 use Prim.Native.Nat.{ℕ, ◌+◌, ◌≤◌, ◌<◌}
 use mathlib.Core.Path.{◌≡◌, refl, sym, ◌∙◌, ap}
-use mathlib.Core.Bool.{Bool, ◌||◌, or-true}
+use mathlib.Core.Bool.{Bool, true, false, ◌||◌, or-true}
 use mathlib.Core.List.{List}
+use mathlib.Core.Logic.{◌⊎◌, inl, inr}
 use lib.Dec.{eqb, ltb}
 use lib.ListN.{length, take, get_or, replicate, length-map, length-take, get_or-replicate, get_or-map}
 use lib.Seq.{ext_get_or, take_all}
@@ -13,8 +14,8 @@ use Rattle.model.specs.declared.Mode.{Mode}
 use Rattle.model.specs.declared.Thing.TheVariants.{Argument}
 use Rattle.model.specs.declared.Fault.TheVariants.{CountOutside}
 use Rattle.model.specs.declared.Refusal.{Refusal}
-use Rattle.model.specs.declared.Answer.{Answer}
-use Rattle.model.specs.declared.Answer.TheVariants.{Accepted, Refused}
+use Rattle.model.specs.Refusals.{Answer}
+use Rattle.std.specs.Prelude.{Ok, Err}
 use Rattle.model.specs.First.{◌▸◌, first}
 use Rattle.model.specs.Refusals.{answer, wrong}
 use Rattle.model.specs.Rows.{Row}
@@ -24,7 +25,8 @@ use Rattle.model.specs.Firing.{room_for, fired_row}
 use Rattle.both_forms.specs.Steps.{beside, together, step_outside, step_refusal, fired_together}
 use Rattle.model.proofs.First.{then_assoc, left-none, right-none, first-each, first_ext, only_if_none}
 use Rattle.model.proofs.Both.{or_neither}
-use Rattle.model.proofs.Refusals.{answer-none, answer-passes, answer_fails}
+use Rattle.model.proofs.Refusals.{answer-passes, answer_fails}
+use Rattle.model.proofs.Asking.{no_refusal}
 use Rattle.movement.proofs.Markings.{row-fired-at, row-fired-length}
 use Rattle.second_form.proofs.CorrespondingMoves.{row_ext}
 use Rattle.both_forms.proofs.Steps.{entry-is, together-next, together-small}
@@ -45,23 +47,21 @@ abbrev outside : List ℕ → Bool
 outside ms = eqb (length (step_modes ms)) 0 || ltb 64 (length (step_modes ms))
 
 module _ (n : ℕ) (ms : List ℕ) {a : Answer} where
-  pub empty-step : length ms ≡ 0 → a ≡ Refused (wrong Argument (CountOutside 0)) → a ≡ answer (members_refusal n ms)
-  unfolding members_refusal
-  empty-step e q = answer_fails {t = outside ms} _ (rw (length-map ms mode_no, eq-eqb (length ms) 0 e)) q
+  module _ {empty : Bool} (is : empty ≡ eqb (length ms) 0) where
+    pub unfair_step : (empty ≡ true) ⊎ ((empty ≡ false) × (64 < length ms)) → a ≡ Err (wrong Argument (CountOutside 0)) → a ≡ answer (members_refusal n ms)
+    unfolding members_refusal
+    unfair_step (inl e) q = answer_fails {t = outside ms} _ (rw (length-map ms mode_no, ← is, e)) q
+    unfair_step (inr (e, h)) q = answer_fails {t = outside ms} _ (rw (length-map ms mode_no, lt-ltb 64 (length ms) h) (or-true (eqb (length ms) 0))) q
 
-  pub long-step : 64 < length ms → a ≡ Refused (wrong Argument (CountOutside 0)) → a ≡ answer (members_refusal n ms)
-  unfolding members_refusal
-  long-step h q = answer_fails {t = outside ms} _ (rw (length-map ms mode_no, lt-ltb 64 (length ms) h) (or-true (eqb (length ms) 0))) q
-
-  pub fair_step : (length ms ≡ 0 → ⊥) → length ms ≤ 64 → a ≡ answer (first (length ms) (member_absent n ms)) → a ≡ answer (members_refusal n ms)
-  unfolding members_refusal
-  fair_step e h q = answer-passes {t = outside ms} _ _ (rw (length-map ms mode_no, ne_eqb (length ms) 0 e, le-ltb 64 (length ms) h)) q
+    pub fair_step : empty ≡ false → length ms ≤ 64 → a ≡ answer (first (length ms) (member_absent n ms)) → a ≡ answer (members_refusal n ms)
+    unfolding members_refusal
+    fair_step e h q = answer-passes {t = outside ms} _ _ (rw (length-map ms mode_no, ← is, e, le-ltb 64 (length ms) h)) q
 
 -- neither 4 nor 6
-pub members_met : {a : Answer} (n : ℕ) (modes : List ℕ) → a ≡ answer (members_refusal n modes) → a ≡ Accepted → Members n modes
+pub members_met : (n : ℕ) (modes : List ℕ) → Ok tt ≡ answer (members_refusal n modes) → Members n modes
 unfolding members_refusal
-members_met n modes e h =
-    let passed = answer-none _ e h in
+members_met n modes e =
+    let passed = no_refusal _ e in
     let counted = or_neither (eqb (length (step_modes modes)) 0) (ltb 64 (length (step_modes modes))) (only_if_none _ _ (left-none _ _ passed)) in
     record {
       few = rw length-map at (ltb-false 64 (length (step_modes modes)) counted.1);
@@ -129,10 +129,11 @@ module _ {net : PNet} (ms : List ℕ) {r : Row} where
         row-fired-at (pairs net) r m p l ∙ rw (whole p l) (sym (row-fired-at (pairs net) (together net (step_modes ms)) m p l)))
 
     -- what the step leaves: nothing written where the sums refuse it, or all members fired
-    module _ (m : List ℕ) {a : Answer} (e : a ≡ answer (refusal_of net r m)) where
-      pub sums-refused : {x : Refusal} → a ≡ Refused x → Leaves (sums_refusal net ms m) (fired_together net (step_modes ms) m) m a m
-      sums-refused h = leaves-refused _ (e ∙ ap answer (sums-refusal m)) h
+    module _ (m : List ℕ) where
+      pub sums-refused : {b : Answer} {x : Refusal} → Err x ≡ answer (refusal_of net r m) → b ≡ Err x
+          → Leaves (sums_refusal net ms m) (fired_together net (step_modes ms) m) m b m
+      sums-refused e h = leaves-refused _ (h ∙ e ∙ ap answer (sums-refusal m)) h
 
-      pub sums-written : a ≡ Accepted → {left : List ℕ} → left ≡ fired_row (pairs net) r m
-          → Leaves (sums_refusal net ms m) (fired_together net (step_modes ms) m) m Accepted left
-      sums-written h q = leaves-written _ (sym h ∙ e ∙ ap answer (sums-refusal m)) refl (q ∙ sums-fired m)
+      pub sums-written : {left : List ℕ} → Ok tt ≡ answer (refusal_of net r m) → left ≡ fired_row (pairs net) r m
+          → Leaves (sums_refusal net ms m) (fired_together net (step_modes ms) m) m (Ok tt) left
+      sums-written e q = leaves-written _ (e ∙ ap answer (sums-refusal m)) refl (q ∙ sums-fired m)

@@ -12,25 +12,16 @@ use opened::shape::NetShape;
 fn each_member(net: NetShape, modes: &[u16]) -> Answer
     ensures { result ≡ answer (first (length modes.now) (member_absent net.modes modes.now)) }
 {
-    let count = modes.len();
-    let mut i = 0;
-    while i < count {
-        let answer = mode_answer(net, Thing::Argument, Mode(modes[i]));
-        if let Answer::Refused(_) = answer {
-            return answer;
-        }
-        i += 1;
+    for mode in modes {
+        mode_answer(net, Thing::Argument, Mode(*mode))?;
     }
-    Answer::Accepted
+    Ok(())
 }
 
 pub(crate) fn members_answer(net: NetShape, modes: &[u16]) -> Answer
     ensures { result ≡ answer (members_refusal net.modes modes.now) }
 {
-    if modes.len() == 0 {
-        return refused(Thing::Argument, Fault::CountOutside(0));
-    }
-    if 64 < modes.len() {
+    if modes.is_empty() || 64 < modes.len() {
         return refused(Thing::Argument, Fault::CountOutside(0));
     }
     each_member(net, modes)

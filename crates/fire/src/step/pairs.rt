@@ -5,14 +5,13 @@ ghost use Rattle.model.specs.Markings.{Marking};
 ghost use Rattle.model.specs.Nets.{pairs};
 ghost use Rattle.model.specs.Firing.{fired_row};
 ghost use Rattle.sheets.specs.Decoded.{net_of};
-ghost use Rattle.opened.specs.Shape.{Open};
 ghost use Rattle.fire.specs.step.Sums.{sums_at, Below, SumIs, stop_at, stop_of, refusal_of};
 
 use crate::firing::arcs::room_at;
 use crate::firing::pair::stopped_by;
 use heads::head::refused;
 use model::{Answer, Arc, Fault, Mode, Pair, Thing, Why};
-use opened::shape::NetShape;
+use opened::open::OpenNet;
 use rule::{AtPair, is_stopped, moved};
 
 fn sum_at(pre: &[u32; 256], post: &[u32; 256], low: &[u32; 256], p: usize) -> Arc
@@ -31,8 +30,7 @@ fn sum_at(pre: &[u32; 256], post: &[u32; 256], low: &[u32; 256], p: usize) -> Ar
 }
 
 fn pair_stop(
-    s: &[u8],
-    net: NetShape,
+    net: &OpenNet,
     why: Why,
     pre: &[u32; 256],
     post: &[u32; 256],
@@ -40,100 +38,75 @@ fn pair_stop(
     marking: &[u32],
     p: usize,
 ) -> Answer
-    requires fact { Open s.now net }
-    requires marking { Marking (net_of s.now) marking.now }
-    requires below { Below 64 (pairs (net_of s.now)) (sums_at pre.now post.now low.now) }
-    requires p_lt_pairs { p < net.pairs }
-    ensures { result ≡ answer (stop_at why (net_of s.now) (sums_at pre.now post.now low.now) marking.now p) }
+    requires marking { Marking (net_of net.now.sheet.now) marking.now }
+    requires below { Below 64 (pairs (net_of net.now.sheet.now)) (sums_at pre.now post.now low.now) }
+    requires p_lt_pairs { p < net.now.shape.pairs }
+    ensures { result ≡ answer (stop_at why (net_of net.now.sheet.now) (sums_at pre.now post.now low.now) marking.now p) }
 {
     let arc = sum_at(pre, post, low, p);
     let pair = arc.pair;
     let at = AtPair {
         arc,
-        capacity: room_at(s, net, arc),
+        capacity: room_at(net, arc),
         count: marking[p],
     };
     if is_stopped(why, at) {
         let by = stopped_by(why, at);
         return refused(Thing::Argument, Fault::Stopped(why, pair, by));
     }
-    Answer::Accepted
+    Ok(())
 }
 
 // One of 11 to 14, at its lowest pair.
 fn find_stop(
-    s: &[u8],
-    net: NetShape,
+    net: &OpenNet,
     why: Why,
     pre: &[u32; 256],
     post: &[u32; 256],
     low: &[u32; 256],
     marking: &[u32],
 ) -> Answer
-    requires fact { Open s.now net }
-    requires marking { Marking (net_of s.now) marking.now }
-    requires below { Below 64 (pairs (net_of s.now)) (sums_at pre.now post.now low.now) }
-    ensures { result ≡ answer (stop_of why (net_of s.now) (sums_at pre.now post.now low.now) marking.now) }
+    requires marking { Marking (net_of net.now.sheet.now) marking.now }
+    requires below { Below 64 (pairs (net_of net.now.sheet.now)) (sums_at pre.now post.now low.now) }
+    ensures { result ≡ answer (stop_of why (net_of net.now.sheet.now) (sums_at pre.now post.now low.now) marking.now) }
 {
-    let pairs = net.pairs;
-    let mut p = 0;
-    while p < pairs {
-        let answer = pair_stop(s, net, why, pre, post, low, marking, p);
-        if let Answer::Refused(_) = answer {
-            return answer;
-        }
-        p += 1;
+    for p in 0..net.shape.pairs {
+        pair_stop(net, why, pre, post, low, marking, p)?;
     }
-    Answer::Accepted
+    Ok(())
 }
 
 // "11, 12, 13, 14 over the sums": each is looked for before the next.
 pub(crate) fn find_refusal(
-    s: &[u8],
-    net: NetShape,
+    net: &OpenNet,
     pre: &[u32; 256],
     post: &[u32; 256],
     low: &[u32; 256],
     marking: &[u32],
 ) -> Answer
-    requires fact { Open s.now net }
-    requires marking { Marking (net_of s.now) marking.now }
-    requires below { Below 64 (pairs (net_of s.now)) (sums_at pre.now post.now low.now) }
-    ensures { result ≡ answer (refusal_of (net_of s.now) (sums_at pre.now post.now low.now) marking.now) }
+    requires marking { Marking (net_of net.now.sheet.now) marking.now }
+    requires below { Below 64 (pairs (net_of net.now.sheet.now)) (sums_at pre.now post.now low.now) }
+    ensures { result ≡ answer (refusal_of (net_of net.now.sheet.now) (sums_at pre.now post.now low.now) marking.now) }
 {
-    let lacking = find_stop(s, net, Why::Lacking, pre, post, low, marking);
-    if let Answer::Refused(_) = lacking {
-        return lacking;
-    }
-    let over = find_stop(s, net, Why::OverCapacity, pre, post, low, marking);
-    if let Answer::Refused(_) = over {
-        return over;
-    }
-    let inhibited = find_stop(s, net, Why::Inhibited, pre, post, low, marking);
-    if let Answer::Refused(_) = inhibited {
-        return inhibited;
-    }
-    find_stop(s, net, Why::OverLimit, pre, post, low, marking)
+    find_stop(net, Why::Lacking, pre, post, low, marking)?;
+    find_stop(net, Why::OverCapacity, pre, post, low, marking)?;
+    find_stop(net, Why::Inhibited, pre, post, low, marking)?;
+    find_stop(net, Why::OverLimit, pre, post, low, marking)
 }
 
 // M - Pre + Post of the sums at each pair.
 pub(crate) fn write_pairs(
-    s: &[u8],
-    net: NetShape,
+    net: &OpenNet,
     pre: &[u32; 256],
     post: &[u32; 256],
     low: &[u32; 256],
     marking: &mut [u32],
 )
-    requires fact { Open s.now net }
-    requires marking { Marking (net_of s.now) marking.old }
-    requires below { Below 64 (pairs (net_of s.now)) (sums_at pre.now post.now low.now) }
-    ensures { marking.new ≡ fired_row (pairs (net_of s.now)) (sums_at pre.now post.now low.now) marking.old }
+    requires marking { Marking (net_of net.now.sheet.now) marking.old }
+    requires below { Below 64 (pairs (net_of net.now.sheet.now)) (sums_at pre.now post.now low.now) }
+    ensures { marking.new ≡ fired_row (pairs (net_of net.now.sheet.now)) (sums_at pre.now post.now low.now) marking.old }
 {
-    let pairs = net.pairs;
-    let mut p = 0;
-    while p < pairs {
+    for p in 0..net.shape.pairs {
         marking[p] = moved(sum_at(pre, post, low, p), marking[p]);
-        p += 1;
     }
 }

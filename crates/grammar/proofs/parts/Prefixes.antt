@@ -1,4 +1,5 @@
 -- Every beginning of a decimal is the decimal of a number that is no larger.
+use Rattle.std.specs.Prelude.{Some, None}
 use Prim.Native.Nat.{ℕ, zero, suc, ◌+◌, ◌*◌, ◌-◌, ◌/◌, ◌%◌, ◌≤◌, ◌<◌}
 use mathlib.Core.Path.{◌≡◌, refl, sym, ◌∙◌, ap}
 use mathlib.Core.Bool.{Bool, true, false}
@@ -178,13 +179,13 @@ module _ (low stop : ℕ) (s : List ℕ) (at : ℕ) (few : low ≤ 1) (non-digit
           let last = is.1 in
           inr (omega arith, omega arith, omega arith, omega (arith, u.most))
 
-  first_goes : (v b : ℕ) → 48 ≤ b → b ≤ 57 → low ≤ b - 48 → next_value low v false b ≡ b - 48
+  first_goes : (v b : ℕ) → 48 ≤ b → b ≤ 57 → low ≤ b - 48 → next_value low v false b ≡ Some (b - 48)
   unfolding next_value
   first_goes v b h l k = rw (le-ltb b 48 h, le-ltb 57 b l, le-ltb (b - 48) low k)
 
-  later-goes : (v b : ℕ) → 48 ≤ b → b ≤ 57 → 0 < v → next_value low v true b ≡ v * 10 + (b - 48)
+  later-goes : (v b : ℕ) → 48 ≤ b → b ≤ 57 → 0 < v → v * 10 + (b - 48) ≤ limit → next_value low v true b ≡ Some (v * 10 + (b - 48))
   unfolding next_value
-  later-goes v b h l k = rw (le-ltb b 48 h, le-ltb 57 b l, ne_eqb v 0 (λ e. omega arith))
+  later-goes v b h l k m = rw (le-ltb b 48 h, le-ltb 57 b l, ne_eqb v 0 (λ e. omega arith), le-ltb limit (v * 10 + (b - 48)) m)
 
   module _ (v end : ℕ) (span : Span low s at v end) where
     none_first : end ≡ at → (m : Ranged low) → ¬ Agrees s at 1 (number_text low stop m)
@@ -192,10 +193,11 @@ module _ (low stop : ℕ) (s : List ℕ) (at : ℕ) (few : low ≤ 1) (non-digit
         let f = first_byte m a in
         let z : ltb at end ≡ false = le-ltb at end (omega arith) in
         let l = span.stuck (omega (arith, a.in_run)) in
-        let l' : limit < next_value low v false (get_or s at 0) = rw (z, e) at l in
-        omega (arith, first_goes v (get_or s at 0) f.0 f.1 f.2)
+        let l' : next_value low v false (get_or s at 0) ≡ None = rw (z, e) at l in
+        let g = first_goes v (get_or s at 0) f.0 f.1 f.2 in
+        cc
 
-    pub ended-empty : end ≡ at → Ended low stop s at end
+    ended-empty : end ≡ at → Ended low stop s at end
     ended-empty e =
         record {
           count = 0;
@@ -232,12 +234,12 @@ module _ (low stop : ℕ) (s : List ℕ) (at : ℕ) (few : low ≤ 1) (non-digit
         let w : at + length (decimal v) ≡ end = omega (arith, d.1) in
         let b = get_or s end 0 in
         let z : ltb at end ≡ true = lt-ltb at end l in
-        let k : limit < next_value low v true b = rw z at (span.stuck i) in
+        let k : next_value low v true b ≡ None = rw z at (span.stuck i) in
         ⊎_elim (λ (q : b ≡ stop). h i q)
-        (λ (q : (48 ≤ b) × (b ≤ 57) × (0 < v) × (v * 10 + (b - 48) ≤ m.number)). omega (arith, later-goes v b q.0 q.1 q.2, q.3, m.most))
+        (λ (q : (48 ≤ b) × (b ≤ 57) × (0 < v) × (v * 10 + (b - 48) ≤ m.number)). let g = later-goes v b q.0 q.1 q.2 (omega (arith, q.3, m.most)) in cc)
         (rw w at (later-byte m v (length (decimal v)) refl d.2 a))
 
-    pub ended-later : at < end → (end < length s → get_or s end 0 ≢ stop) → Ended low stop s at end
+    ended-later : at < end → (end < length s → get_or s end 0 ≢ stop) → Ended low stop s at end
     ended-later l h =
         let d = span.digits l in
         record {
@@ -257,6 +259,9 @@ module _ (low stop : ℕ) (s : List ℕ) (at : ℕ) (few : low ≤ 1) (non-digit
               (below_or (length (decimal m.number)) (length (decimal v)));
         }
 
+    pub ended : (at < end → end < length s → get_or s end 0 ≢ stop) → Ended low stop s at end
+    ended h = ⊎_elim (λ (q : at ≡ end). ended-empty (sym q)) (λ (l : at < end). ended-later l (h l)) (eq-or-lt_of_le span.after)
+
 -- the digits so far, and one more
 pub record SoFar (low : ℕ) (s : List ℕ) (at value end : ℕ) : Type 0 where
   pub after : at ≤ end
@@ -265,27 +270,31 @@ pub record SoFar (low : ℕ) (s : List ℕ) (at value end : ℕ) : Type 0 where
   pub digits : at < end → (low ≤ value) × (end ≡ at + length (decimal value)) × Agrees s at (length (decimal value)) (decimal value)
 
 module _ (low value b : ℕ) where
-  pub first_inv : next_value low value false b ≤ limit → (48 ≤ b) × (b ≤ 57) × (low ≤ b - 48) × (next_value low value false b ≡ b - 48)
+  pub first_inv : {n : ℕ} → Some n ≡ next_value low value false b → (48 ≤ b) × (b ≤ 57) × (low ≤ b - 48) × (n ≡ b - 48)
   unfolding next_value
-  first_inv h = go (ltb b 48) refl (ltb 57 b) refl (ltb (b - 48) low) refl
+  first_inv {n} h = go (ltb b 48) refl (ltb 57 b) refl (ltb (b - 48) low) refl
     where
       go : (x : Bool) → ltb b 48 ≡ x → (y : Bool) → ltb 57 b ≡ y → (z : Bool) → ltb (b - 48) low ≡ z
-          → (48 ≤ b) × (b ≤ 57) × (low ≤ b - 48) × (next_value low value false b ≡ b - 48)
-      go true e y f z g = absurd (omega (arith, rw e at h))
-      go false e true f z g = absurd (omega (arith, rw (e, f) at h))
-      go false e false f true g = absurd (omega (arith, rw (e, f, g) at h))
-      go false e false f false g = (ltb-false b 48 e, ltb-false 57 b f, ltb-false (b - 48) low g, rw (e, f, g))
+          → (48 ≤ b) × (b ≤ 57) × (low ≤ b - 48) × (n ≡ b - 48)
+      go true e y f z g = let k = rw e at h in absurd cc
+      go false e true f z g = let k = rw (e, f) at h in absurd cc
+      go false e false f true g = let k = rw (e, f, g) at h in absurd cc
+      go false e false f false g = let k = rw (e, f, g) at h in (ltb-false b 48 e, ltb-false 57 b f, ltb-false (b - 48) low g, cc)
 
-  pub later_inv : next_value low value true b ≤ limit → (48 ≤ b) × (b ≤ 57) × (0 < value) × (next_value low value true b ≡ value * 10 + (b - 48))
+  pub later_inv : {n : ℕ} → Some n ≡ next_value low value true b → (48 ≤ b) × (b ≤ 57) × (0 < value) × (n ≡ value * 10 + (b - 48)) × (n ≤ limit)
   unfolding next_value
-  later_inv h = go (ltb b 48) refl (ltb 57 b) refl (below_or 0 value)
+  later_inv {n} h = go (ltb b 48) refl (ltb 57 b) refl (below_or 0 value) (ltb limit (value * 10 + (b - 48))) refl
     where
-      go : (x : Bool) → ltb b 48 ≡ x → (y : Bool) → ltb 57 b ≡ y → (0 < value) ⊎ (value ≤ 0)
-          → (48 ≤ b) × (b ≤ 57) × (0 < value) × (next_value low value true b ≡ value * 10 + (b - 48))
-      go true e y f z = absurd (omega (arith, rw e at h))
-      go false e true f z = absurd (omega (arith, rw (e, f) at h))
-      go false e false f (inr z) = absurd (omega (arith, rw (e, f, eq-eqb value 0 (omega arith)) at h))
-      go false e false f (inl z) = (ltb-false b 48 e, ltb-false 57 b f, z, rw (e, f, ne_eqb value 0 (λ q. omega arith)))
+      go : (x : Bool) → ltb b 48 ≡ x → (y : Bool) → ltb 57 b ≡ y → (0 < value) ⊎ (value ≤ 0) → (z : Bool) → ltb limit (value * 10 + (b - 48)) ≡ z
+          → (48 ≤ b) × (b ≤ 57) × (0 < value) × (n ≡ value * 10 + (b - 48)) × (n ≤ limit)
+      go true e y f w z g = let k = rw e at h in absurd cc
+      go false e true f w z g = let k = rw (e, f) at h in absurd cc
+      go false e false f (inr w) z g = let k = rw (e, f, eq-eqb value 0 (omega arith)) at h in absurd cc
+      go false e false f (inl w) true g = let k = rw (e, f, ne_eqb value 0 (λ q. omega arith), g) at h in absurd cc
+      go false e false f (inl w) false g =
+          let k = rw (e, f, ne_eqb value 0 (λ q. omega arith), g) at h in
+          let is : n ≡ value * 10 + (b - 48) = cc in
+          (ltb-false b 48 e, ltb-false 57 b f, w, is, omega (arith, ltb-false limit (value * 10 + (b - 48)) g))
 
 pub so_far_none : (low : ℕ) (s : List ℕ) (at : ℕ) → at ≤ length s → SoFar low s at 0 at
 so_far_none low s at h = record { after = omega arith; in_run = h; most = omega arith; digits = λ l. absurd (omega arith) }
@@ -305,22 +314,30 @@ agrees-more ds b a h e =
     }
 
 pub so_far_more : (low : ℕ) (s : List ℕ) (at value end next : ℕ) → SoFar low s at value end → end < length s
-    → next ≡ next_value low value (ltb at end) (get_or s end 0) → next ≤ limit → SoFar low s at next (end + 1)
-so_far_more low s at value end next f h e l =
-    record { after = omega (arith, f.after); in_run = omega arith; most = l; digits = λ _. ⊎_elim begun (λ (q : at ≡ end). fresh (sym q)) (⊎_elim (λ (q : at ≡ end). inr q) (λ (q : at < end). inl q) (eq-or-lt_of_le f.after)) }
+    → Some next ≡ next_value low value (ltb at end) (get_or s end 0) → SoFar low s at next (end + 1)
+so_far_more low s at value end next f h e =
+    record { after = omega (arith, f.after); in_run = omega arith; most = most; digits = λ _. ⊎_elim begun (λ (q : at ≡ end). fresh (sym q)) (⊎_elim (λ (q : at ≡ end). inr q) (λ (q : at < end). inl q) (eq-or-lt_of_le f.after)) }
   where
-    b : ℕ
-    b = get_or s end 0
-
-    Digits : Type 0
-    Digits = (low ≤ next) × (end + 1 ≡ at + length (decimal next)) × Agrees s at (length (decimal next)) (decimal next)
+    most : next ≤ limit
+    most =
+        ⊎_elim
+        (λ (q : at ≡ end).
+        let z : ltb at end ≡ false = le-ltb at end (omega arith) in
+        let e' : Some next ≡ next_value low value false (get_or s end 0) = rw z at e in
+        let i = first_inv low value (get_or s end 0) e' in
+        omega (arith, i.1, i.3))
+        (λ (q : at < end).
+        let z : ltb at end ≡ true = lt-ltb at end q in
+        let e' : Some next ≡ next_value low value true (get_or s end 0) = rw z at e in
+        (later_inv low value (get_or s end 0) e').4)
+        (eq-or-lt_of_le f.after)
 
     fresh : end ≡ at → (low ≤ next) × (end + 1 ≡ at + length (decimal next)) × Agrees s at (length (decimal next)) (decimal next)
     fresh q =
         let z : ltb at end ≡ false = le-ltb at end (omega arith) in
-        let e' : next ≡ next_value low value false (get_or s end 0) = rw z at e in
-        let i = first_inv low value (get_or s end 0) (omega (arith, e')) in
-        let x : next ≡ get_or s end 0 - 48 = e' ∙ i.3 in
+        let e' : Some next ≡ next_value low value false (get_or s end 0) = rw z at e in
+        let i = first_inv low value (get_or s end 0) e' in
+        let x : next ≡ get_or s end 0 - 48 = i.3 in
         let y : decimal next ≡ digit next ∷ [] = small next (omega arith) in
         let w : digit next ≡ get_or s end 0 = omega arith in
         rw (y, w) (
@@ -333,14 +350,20 @@ so_far_more low s at value end next f h e l =
     begun q =
         let d = f.digits q in
         let z : ltb at end ≡ true = lt-ltb at end q in
-        let e' : next ≡ next_value low value true (get_or s end 0) = rw z at e in
-        let i = later_inv low value (get_or s end 0) (omega (arith, e')) in
-        let x : next ≡ value * 10 + (get_or s end 0 - 48) = e' ∙ i.3 in
+        let e' : Some next ≡ next_value low value true (get_or s end 0) = rw z at e in
+        let i = later_inv low value (get_or s end 0) e' in
+        let x : next ≡ value * 10 + (get_or s end 0 - 48) = i.3 in
         let w : digit (get_or s end 0 - 48) ≡ get_or s end 0 = omega arith in
         let y : decimal next ≡ decimal value ++ get_or s end 0 ∷ [] = ap decimal x ∙ one_more_lem value (get_or s end 0 - 48) i.2 (omega arith) ∙ ap (λ c. decimal value ++ c ∷ []) w in
         let p : at + length (decimal value) ≡ end = omega (arith, d.1) in
         rw y
         (omega (arith, d.0), omega (arith, last-length (decimal value) (get_or s end 0)), agrees-more (decimal value) (get_or s end 0) d.2 (omega arith) (ap (λ k. get_or s k 0) p))
 
-pub stuck : {low : ℕ} {s : List ℕ} {at value end : ℕ} → SoFar low s at value end → (end < length s → limit < next_value low value (ltb at end) (get_or s end 0)) → Span low s at value end
+pub stuck : {low : ℕ} {s : List ℕ} {at value end : ℕ} → SoFar low s at value end → (end < length s → next_value low value (ltb at end) (get_or s end 0) ≡ None) → Span low s at value end
 stuck f h = record { after = f.after; in_run = f.in_run; most = f.most; digits = f.digits; stuck = h }
+
+-- all bytes to the end of the run
+pub all_digits : {low : ℕ} {s : List ℕ} {at value end : ℕ} → SoFar low s at value end → length s ≤ end → Span low s at value (length s)
+all_digits {low} {s} {at} {value} {end} f h =
+    let e : end ≡ length s = omega (arith, f.in_run) in
+    rw e at (stuck f (λ l. absurd (omega arith)))

@@ -1,4 +1,5 @@
 -- Three digits of a number of low..most, one after the other.
+use Rattle.std.specs.Prelude.{Ok, Err}
 use Prim.Native.Nat.{ℕ, ◌+◌, ◌-◌, ◌*◌, ◌/◌, ◌%◌, ◌≤◌, ◌<◌, max}
 use mathlib.Core.Path.{◌≡◌, refl, sym, ◌∙◌}
 use mathlib.Core.List.{List, [], ◌++◌}
@@ -7,8 +8,7 @@ use lib.ListN.{length, get_or, get_or-append}
 use native.Mathlib.Omega.{arith}
 use native.Mathlib.Nat.{eq-or-lt_of_le, add-zero}
 use Rattle.pnml.specs.Agrees.{Agrees}
-use Rattle.grammar.specs.declared.parts.Numbered.{Numbered}
-use Rattle.grammar.specs.declared.parts.Numbered.TheVariants.{Number, Stops}
+use Rattle.grammar.specs.parts.Read.{Numbered}
 use Rattle.grammar.proofs.parts.Steps.{agrees-fewer, agrees-more}
 use Rattle.pnml.specs.Pnml.{three}
 use Rattle.grammar.specs.parts.Stands as L
@@ -124,20 +124,5 @@ module _ {s : List ℕ} {at : ℕ} where
             }
 
         pub third : (r : Numbered) → DigitAllows s l low most two r → Reads (Between low high) three s at r
-        third (Number v e) z = record { how = stands_3 z.how }
-        third (Stops p) z = record { how = stops_3 z.how }
-
-module _ {s : List ℕ} {end least most value : ℕ} {r : Numbered} (d : DigitAllows s end least most value r) where
-  pub digit-is : {n e : ℕ} → r ≡ Number n e → DigitOf s end least most value n e
-  digit-is {n} {e} q = let h = d.how in rw q at h
-
-  pub digit_not : {p : ℕ} → r ≡ Stops p → NoDigit s end least most value p
-  digit_not q = let h = d.how in rw q at h
-
-pub reads-stop : {ok : ℕ → Type 0} {text : ℕ → List ℕ} {s : List ℕ} {at p : ℕ} {r : Numbered} → r ≡ Stops p → L.Stops ok text s at p → Reads ok text s at r
-reads-stop e x = record { how = rw e x }
-
-pub digit-of : {s : List ℕ} {end least most value b : ℕ} → end < length s → b ≡ get_or s end 0 → 48 ≤ b → b ≤ 57
-    → least ≤ value * 10 + (b - 48) → value * 10 + (b - 48) ≤ most → DigitOf s end least most value (value * 10 + (b - 48)) (end + 1)
-digit-of {b = b} in_run read low high above below =
-    record { digit = b - 48; in_run = in_run; ten = omega arith; byte = omega arith; makes = refl; above = above; below = below; place = refl }
+        third (Ok x) z = record { how = stands_3 z.how }
+        third (Err p) z = record { how = stops_3 z.how }

@@ -1,4 +1,5 @@
 -- A constant, a number with its stop, and a constant.
+use Rattle.std.specs.Prelude.{Ok, Err}
 use Prim.Native.Nat.{ℕ, ◌+◌, ◌-◌, ◌≤◌, ◌<◌}
 use mathlib.Core.Path.{◌≡◌, refl, sym, ◌∙◌, ap, subst}
 use mathlib.Core.List.{List, [], ◌∷◌, ◌++◌, append_assoc}
@@ -10,12 +11,9 @@ use Rattle.model.proofs.First.{below_or}
 use Rattle.text.specs.Decimals.{decimal}
 use Rattle.text.proofs.Decimals.{decimals}
 use Rattle.pnml.specs.Agrees.{Agrees}
-use Rattle.grammar.specs.parts.Numbers.{Found, Ended, Ranged, ReadNumberAllows}
-use Rattle.grammar.specs.declared.parts.Numbered.{Numbered}
-use Rattle.grammar.specs.declared.parts.Numbered.TheVariants.{Number, Stops}
+use Rattle.grammar.specs.parts.Numbers.{Found, Ended, Ranged}
+use Rattle.grammar.specs.parts.Read.{Numbered, Literal}
 use Rattle.grammar.proofs.parts.Steps.{agrees-both, agrees-rest, agrees_first, agrees-fewer, agrees-more, same_number}
-use Rattle.grammar.specs.declared.parts.Literal.{Literal}
-use Rattle.grammar.specs.declared.parts.Literal.TheVariants.{Whole, Part}
 use Rattle.grammar.specs.parts.Stands as L
 use Rattle.grammar.specs.parts.Parts.{WholeOf, PartOf, Compares, Within, valued, Reads}
 use Rattle.grammar.proofs.parts.Joints.{stands_as, stops_as, const_stands, const_stops, const_part, tail-stands, tail-part, tail-stops}
@@ -78,10 +76,10 @@ module _ {low : ℕ} {s : List ℕ} (c tail : List ℕ) {at : ℕ} where
       value-whole x = stands_as (as_valued c tail) (const_stands (λ v. numbered v ++ tail) c w (tail-stands numbered (λ _. tail) (number-stands f) x))
 
 module _ {s : List ℕ} {at : ℕ} {c : List ℕ} {r : Literal} (x : Compares s at c r) where
-  pub whole_of : {m : ℕ} → r ≡ Whole m → WholeOf s at c m
+  pub whole_of : {m : ℕ} → r ≡ Ok m → WholeOf s at c m
   whole_of e = let h = x.how in rw e at h
 
-  pub part_of : {p : ℕ} → r ≡ Part p → PartOf s at c p
+  pub part_of : {p : ℕ} → r ≡ Err p → PartOf s at c p
   part_of e = let h = x.how in rw e at h
 
 -- the stop of a number is the first byte of what follows it
@@ -132,29 +130,18 @@ module _ {low : ℕ} {s : List ℕ} {at v next : ℕ} (f : Found low 60 s at v n
   pub tail-part-after : {rest : List ℕ} {p : ℕ} → PartOf s (next - 1) (60 ∷ rest) p → PartOf s next rest p
   tail-part-after x = part-after stop-inside stop_is (omega (arith, f.place)) x
 
-pub found_of : (low stop : ℕ) (s : List ℕ) (at : ℕ) (r : Numbered) → ReadNumberAllows low stop s at r → {v n : ℕ} → r ≡ Number v n → Found low stop s at v n
-found_of low stop s at r x e = rw e at x
-
-pub ended_of : (low stop : ℕ) (s : List ℕ) (at : ℕ) (r : Numbered) → ReadNumberAllows low stop s at r → {p : ℕ} → r ≡ Stops p → Ended low stop s at p
-ended_of low stop s at r x e = rw e at x
-
 pub found_within : {low : ℕ} {s : List ℕ} {at v n : ℕ} → Found low 60 s at v n → n ≤ length s
 found_within f = omega (arith, f.stands.in_run, f.place)
 
--- a number read, as a text that stands or none
-module _ {ok : ℕ → Type 0} {text : ℕ → List ℕ} {s : List ℕ} {at : ℕ} {r : Numbered} (x : Reads ok text s at r) where
-  pub read_is : {v n : ℕ} → r ≡ Number v n → L.Stands ok text s at v n
-  read_is e = let h = x.how in rw e at h
-
-  pub read_not : {p : ℕ} → r ≡ Stops p → L.Stops ok text s at p
-  read_not e = let h = x.how in rw e at h
+pub reads-stop : {ok : ℕ → Type 0} {text : ℕ → List ℕ} {s : List ℕ} {at p : ℕ} {r : Numbered} → r ≡ Err p → L.Stops ok text s at p → Reads ok text s at r
+reads-stop e x = record { how = rw e x }
 
 pub stands-within : {J : Type 0} {ok : J → Type 0} {text : J → List ℕ} {s : List ℕ} {at : ℕ} {j : J} {n : ℕ} → L.Stands ok text s at j n → n ≤ length s
 stands-within x = omega (arith, x.whole.in_run, x.place)
 
 pub const_reads : {ok : ℕ → Type 0} {text : ℕ → List ℕ} {s : List ℕ} {at : ℕ} (c : List ℕ) {m : ℕ} (r : Numbered) → WholeOf s at c m → Reads ok text s m r → Reads ok (λ v. c ++ text v) s at r
-const_reads {text = text} c (Number v n) w x = record { how = const_stands text c w x.how }
-const_reads {text = text} c (Stops p) w x = record { how = const_stops text c w x.how }
+const_reads {text = text} c (Ok y) w x = record { how = const_stands text c w x.how }
+const_reads {text = text} c (Err p) w x = record { how = const_stops text c w x.how }
 
 pub whole-within : {s : List ℕ} {at : ℕ} {c : List ℕ} {m : ℕ} → WholeOf s at c m → m ≤ length s
 whole-within w = omega (arith, w.agrees.in_run, w.place)

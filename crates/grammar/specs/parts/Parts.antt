@@ -1,12 +1,9 @@
 -- The parts of a line: constants, three digits, a number and its stop. What a reader answers of them.
-use Rattle.std.specs.Prelude.{ℕ, ◌+◌, ◌*◌, ◌≤◌, ◌<◌, ◌≡◌, List, ◌∷◌, ◌++◌, length, get_or}
+use Rattle.std.specs.Prelude.{ℕ, ◌+◌, ◌*◌, ◌≤◌, ◌<◌, ◌≡◌, List, ◌∷◌, ◌++◌, length, get_or, Ok, Err}
 use Rattle.model.specs.Numbers.{limit}
 use Rattle.text.specs.Decimals.{decimal}
 use Rattle.pnml.specs.Agrees.{Agrees}
-use Rattle.grammar.specs.declared.parts.Numbered.{Numbered}
-use Rattle.grammar.specs.declared.parts.Numbered.TheVariants.{Number, Stops}
-use Rattle.grammar.specs.declared.parts.Literal.{Literal}
-use Rattle.grammar.specs.declared.parts.Literal.TheVariants.{Whole, Part}
+use Rattle.grammar.specs.parts.Read.{Numbered, Literal}
 use Rattle.grammar.specs.parts.Stands as L
 
 pub record WholeOf (s : List ℕ) (at : ℕ) (c : List ℕ) (next : ℕ) : Type 0 where
@@ -21,22 +18,22 @@ pub record PartOf (s : List ℕ) (at : ℕ) (c : List ℕ) (p : ℕ) : Type 0 wh
   pub never : ¬ Agrees s at (count + 1) c
 
 abbrev pub ComparedAs : List ℕ → ℕ → List ℕ → Literal → Type 0
-ComparedAs s at c (Whole next) = WholeOf s at c next
-ComparedAs s at c (Part p) = PartOf s at c p
+ComparedAs s at c (Ok next) = WholeOf s at c next
+ComparedAs s at c (Err p) = PartOf s at c p
 
 pub record Compares (s : List ℕ) (at : ℕ) (c : List ℕ) (r : Literal) : Type 0 where
   pub how : ComparedAs s at c r
 
 abbrev pub ContinuedAs : List ℕ → Literal → List ℕ → Literal → Type 0
-ContinuedAs s (Whole m) c r = m ≤ length s → Compares s m c r
-ContinuedAs s (Part p) c r = r ≡ Part p
+ContinuedAs s (Ok m) c r = m ≤ length s → Compares s m c r
+ContinuedAs s (Err p) c r = r ≡ Err p
 
 pub record Continues (s : List ℕ) (before : Literal) (c : List ℕ) (r : Literal) : Type 0 where
   pub how : ContinuedAs s before c r
 
 abbrev pub ReadsAs : (ok : ℕ → Type 0) (text : ℕ → List ℕ) → List ℕ → ℕ → Numbered → Type 0
-ReadsAs ok text s at (Number v next) = L.Stands ok text s at v next
-ReadsAs ok text s at (Stops p) = L.Stops ok text s at p
+ReadsAs ok text s at (Ok x) = L.Stands ok text s at x.0 x.1
+ReadsAs ok text s at (Err p) = L.Stops ok text s at p
 
 pub record Reads (ok : ℕ → Type 0) (text : ℕ → List ℕ) (s : List ℕ) (at : ℕ) (r : Numbered) : Type 0 where
   pub how : ReadsAs ok text s at r
@@ -69,8 +66,8 @@ pub record NoDigit (s : List ℕ) (end least most value p : ℕ) : Type 0 where
   pub none : end < length s → (d : ℕ) → d < 10 → least ≤ value * 10 + d → value * 10 + d ≤ most → get_or s end 0 ≡ 48 + d → ⊥
 
 abbrev pub DigitAs : (s : List ℕ) (end least most value : ℕ) → Numbered → Type 0
-DigitAs s end least most value (Number next e) = DigitOf s end least most value next e
-DigitAs s end least most value (Stops p) = NoDigit s end least most value p
+DigitAs s end least most value (Ok x) = DigitOf s end least most value x.0 x.1
+DigitAs s end least most value (Err p) = NoDigit s end least most value p
 
 pub record DigitAllows (s : List ℕ) (end least most value : ℕ) (r : Numbered) : Type 0 where
   pub how : DigitAs s end least most value r

@@ -9,33 +9,22 @@ pub fn compare(s: &[u8], at: usize, c: &[u8]) -> Literal
     requires { at ≤ length s.now }
     ensures { Compares s.now at c.now result }
 {
-    let mut n = 0;
-    let mut i = at;
-    while n < c.len() {
-        if i == s.len() {
-            return Literal::Part(i);
+    for n in 0..c.len() {
+        if at + n == s.len() || s[at + n] != c[n] {
+            return Err(at + n);
         }
-        if s[i] != c[n] {
-            return Literal::Part(i);
-        }
-        i += 1;
-        n += 1;
     }
-    Literal::Whole(i)
+    Ok(at + c.len())
 }
 
 pub fn then_bytes(s: &[u8], before: Literal, c: &[u8]) -> Literal
     ensures { Continues s.now before c.now result }
 {
-    match before {
-        Literal::Part(_) => before,
-        Literal::Whole(at) => {
-            if s.len() < at {
-                return before;
-            }
-            compare(s, at, c)
-        }
+    let at = before?;
+    if s.len() < at {
+        return before;
     }
+    compare(s, at, c)
 }
 
 pub fn then_three(s: &[u8], before: Literal, n: u32) -> Literal

@@ -11,21 +11,11 @@ pub fn read_valued(s: &[u8], before: Literal, low: u32, tail: &[u8]) -> Numbered
     requires { low ≤ 1 }
     ensures { ValuedAllows s.now before low tail.now result }
 {
-    match before {
-        Literal::Part(p) => Numbered::Stops(p),
-        Literal::Whole(at) => {
-            if s.len() < at {
-                return Numbered::Stops(at);
-            }
-            let number = read_number(s, at, low, b'<');
-            let Numbered::Number(value, next) = number else {
-                return number;
-            };
-            let rest = compare(s, next - 1, tail);
-            match rest {
-                Literal::Part(p) => Numbered::Stops(p),
-                Literal::Whole(end) => Numbered::Number(value, end),
-            }
-        }
+    let at = before?;
+    if s.len() < at {
+        return Err(at);
     }
+    let (value, next) = read_number(s, at, low, b'<')?;
+    let end = compare(s, next - 1, tail)?;
+    Ok((value, end))
 }

@@ -1,4 +1,5 @@
 -- What is read after the opening, and what is said of exports.
+use Rattle.std.specs.Prelude.{Result, Err}
 use Prim.Native.Nat.{ℕ, ◌+◌, ◌≤◌, ◌<◌}
 use mathlib.Core.Path.{◌≡◌, refl, sym, ◌∙◌, ap, subst}
 use mathlib.Core.List.{List, [], ◌∷◌, ◌++◌, append-nil}
@@ -11,10 +12,8 @@ use Rattle.pnml.specs.Agrees.{Agrees}
 use Rattle.grammar.proofs.parts.Steps.{agrees-both, agrees-rest, agrees_first, agrees-fewer, agrees-more}
 use Rattle.pnml.specs.Pnml.{opening, pnml, Exportable, Refused20}
 use Rattle.grammar.specs.declared.State.{State}
-use Rattle.import.specs.declared.scan.Checked.{Checked}
-use Rattle.import.specs.declared.scan.Checked.TheVariants.{Ended, Refused}
 use Rattle.grammar.specs.parts.Parts.{WholeOf, PartOf}
-use Rattle.import.specs.scan.Kinds.{ExportOf, LinesAs, LinesAllow}
+use Rattle.import.specs.scan.Kinds.{ExportOf, EndOf, CheckAllows}
 use Rattle.grammar.specs.Gathered.{nothing, finish, Tells}
 use Rattle.grammar.specs.Lines.{Line, place, start, Valid, text_from}
 use Rattle.grammar.proofs.parts.Reading.{the_one}
@@ -94,24 +93,19 @@ module _ {s : List ℕ} where
       (λ ls v c. b (agrees_first opening (text_from start ls) (omega arith) c))
       (λ ls v i. b (agrees_first opening (text_from start ls) (omega arith) (agrees-fewer (omega (arith, length-append opening (text_from start ls))) (all-agree (opening ++ text_from start ls) i))))
 
-lines-as : {s : List ℕ} {at : ℕ} {r : Checked} → LinesAllow s at r → {x : Checked} → r ≡ x → LinesAs s at x
-lines-as {s} {at} y e = subst (λ z. LinesAs s at z) e y.how
-
 first-is : {s : List ℕ} {first : ℕ} → WholeOf s 0 opening first → first ≡ length opening
 first-is w = w.place ∙ zero-add (length opening)
 
-module _ {s : List ℕ} {first : ℕ} {r : Checked} (w : WholeOf s 0 opening first) (x : LinesAllow s first r) where
-  pub lines-refused : {p : ℕ} → r ≡ Refused p → Refused20 s p
-  lines-refused {p} e = refused w.agrees (subst (λ n. More start s n p) (first-is w) (lines-as x e))
+module _ {s : List ℕ} {first : ℕ} (w : WholeOf s 0 opening first) where
+  pub lines-refused : {p : ℕ} → More start s first p → Refused20 s p
+  lines-refused {p} x = refused w.agrees (subst (λ n. More start s n p) (first-is w) x)
 
-  pub lines-longer : {q : State} {next : ℕ} → r ≡ Ended q next → next < length s → Refused20 s next
-  lines-longer {q} {next} e h =
-      let y = lines-as x e in
+  pub lines-longer : {q : State} {next : ℕ} → EndOf q s first next → next < length s → Refused20 s next
+  lines-longer {q} {next} y h =
       longer w.agrees (subst (λ n. Ends start s n y.lines next) (first-is w) y.stands) h
 
-  pub lines-accepted : {q : State} {next : ℕ} → r ≡ Ended q next → length s ≤ next → ExportOf s q
-  lines-accepted {q} {next} e h =
-      let y = lines-as x e in
+  pub lines-accepted : {q : State} {next : ℕ} → EndOf q s first next → length s ≤ next → ExportOf s q
+  lines-accepted {q} {next} y h =
       let st = subst (λ n. Ends start s n y.lines next) (first-is w) y.stands in
       record {
         net = y.net;
@@ -126,3 +120,6 @@ module _ {s : List ℕ} {first : ℕ} {r : Checked} (w : WholeOf s 0 opening fir
 
 pub opening-part : {s : List ℕ} {p : ℕ} → PartOf s 0 opening p → Refused20 s p
 opening-part {s} {p} x = subst (λ n. Refused20 s n) (sym (x.place ∙ zero-add x.count)) (cut x.less x.agrees x.never)
+
+pub checked-not : {s : List ℕ} {p : ℕ} {r : Result State ℕ} → r ≡ Err p → Refused20 s p → CheckAllows s r
+checked-not e x = record { how = rw e x }

@@ -1,4 +1,5 @@
 -- The five kinds of lines, each with what follows its head.
+use Rattle.std.specs.Prelude.{Result, Err}
 use Prim.Native.Nat.{ℕ, ◌+◌, ◌-◌, ◌≤◌, ◌<◌}
 use mathlib.Core.Path.{◌≡◌, refl, sym, ap, subst}
 use mathlib.Core.Bool.{Bool, true, false, cond, ◌&&◌}
@@ -20,11 +21,7 @@ use Rattle.pnml.specs.Pnml.{three}
 use Rattle.grammar.specs.Lines.{Line, place, transition, pre, post, ArcAllowed, from_post, up_to, AllowedNext, next_text}
 use Rattle.grammar.specs.parts.Stands.{Stands, Stops}
 use Rattle.grammar.specs.parts.Parts.{WholeOf, PartOf, Between, Within, valued}
-use Rattle.import.specs.scan.Kinds.{head_text, possible, Sound, UpTo, NoHeadOf, HeadOf, kinds, place_start, place_tail, ArcOk, arc_rest, ArcAllows, Tried, RestAllows}
-use Rattle.import.specs.declared.scan.Arced.{Arced}
-use Rattle.import.specs.declared.scan.Arced.TheVariants.{Arc, NoArc}
-use Rattle.import.specs.declared.scan.Headed.{Headed}
-use Rattle.import.specs.declared.scan.Headed.TheVariants.{Head, NoHead}
+use Rattle.import.specs.scan.Kinds.{head_text, possible, Sound, UpTo, NoHeadOf, HeadOf, kinds, place_start, place_tail, ArcOk, arc_rest, Arced, ArcAllows, StepAllows, RestAllows}
 use Rattle.import.specs.declared.scan.Step.{Step}
 use Rattle.grammar.proofs.parts.Reading.{whole-first}
 use Rattle.import.proofs.scan.Choice.{kind_of, tail_written, split, kind_stands, kind_stops}
@@ -245,17 +242,11 @@ module _ {q : State} (h : Sound q) where
       pub post-stops : {p : ℕ} → Stops (ArcOk (from_post q) (up_to q)) (arc_rest false (q.modes - 1)) s m p → Stops (AllowedNext q) (next_text q) s at p
       post-stops y = kind_stops Post x.whole (ArcOk (from_post q) (up_to q)) (λ j. some (post j.0 j.1)) (λ j. refl) ok_post back-post y
 
-pub arc-is : {b : Bool} {t low high : ℕ} {s : List ℕ} {at : ℕ} {r : Arced} → ArcAllows b t low high s at r → {p w n : ℕ} → r ≡ Arc p w n → Stands (ArcOk low high) (arc_rest b t) s at (p, w) n
-arc-is x e = let h = x.how in rw e at h
-
-pub arc_not : {b : Bool} {t low high : ℕ} {s : List ℕ} {at : ℕ} {r : Arced} → ArcAllows b t low high s at r → {p : ℕ} → r ≡ NoArc p → Stops (ArcOk low high) (arc_rest b t) s at p
-arc_not x e = let h = x.how in rw e at h
-
-pub head-is : {q : State} {ks : List Kind} {s : List ℕ} {at : ℕ} {r : Headed} → Tried q ks s at r → {k : Kind} {n : ℕ} → r ≡ Head k n → HeadOf q s at k n
-head-is x e = let h = x.how in rw e at h
-
-pub head_not : {q : State} {ks : List Kind} {s : List ℕ} {at : ℕ} {r : Headed} → Tried q ks s at r → {p : ℕ} → r ≡ NoHead p → NoHeadOf q ks s at p
-head_not x e = let h = x.how in rw e at h
-
-pub rest_of : {q : State} {k l : Kind} {s : List ℕ} {m : ℕ} {r : Step} → l ≡ k → RestAllows q k s m r → RestAllows q l s m r
+pub rest_of : {q : State} {k l : Kind} {s : List ℕ} {m : ℕ} {r : Result Step ℕ} → l ≡ k → RestAllows q k s m r → RestAllows q l s m r
 rest_of {q} {k} {l} {s} {m} {r} e x = subst (λ y. RestAllows q y s m r) (sym e) x
+
+pub step-not : {q : State} {s : List ℕ} {at p : ℕ} {r : Result Step ℕ} → r ≡ Err p → Stops (AllowedNext q) (next_text q) s at p → StepAllows q s at r
+step-not e x = record { how = rw e x }
+
+pub arc-stops : {b : Bool} {t low high : ℕ} {s : List ℕ} {at p : ℕ} {r : Arced} → r ≡ Err p → Stops (ArcOk low high) (arc_rest b t) s at p → ArcAllows b t low high s at r
+arc-stops e x = record { how = rw e x }

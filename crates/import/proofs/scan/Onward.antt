@@ -1,4 +1,5 @@
 -- From one line to the next.
+use Rattle.std.specs.Prelude.{Result, Err}
 use Prim.Native.Nat.{ℕ, ◌+◌, ◌≤◌, ◌<◌}
 use mathlib.Core.Path.{◌≡◌, refl, sym, ◌∙◌, ap, subst}
 use mathlib.Core.Bool.{Bool, true, false, cond}
@@ -9,12 +10,10 @@ use lib.ListN.{length, length-append}
 use native.Mathlib.Omega.{arith}
 use borrow.Author.Tests.{ltb-true, ltb-false}
 use Rattle.grammar.specs.declared.State.{State}
-use Rattle.import.specs.declared.scan.Step.{Step}
-use Rattle.import.specs.declared.scan.Moved.{Moved}
 use Rattle.grammar.specs.Gathered.{Gathered, nothing, gather, finish}
 use Rattle.grammar.specs.Lines.{Line, place, transition, pre, post, Allowed, ArcAllowed, after, start, text_from, line_text, AllowedNext, next_text}
 use Rattle.grammar.specs.parts.Stands.{Stands, Stops}
-use Rattle.import.specs.scan.Kinds.{head_text, Sound, EndOf, MovedTo, MoveAllows, MovedAs, StepAllows, SteppedAs}
+use Rattle.import.specs.scan.Kinds.{head_text, Sound, EndOf, MovedTo, LinesAllow}
 use lib.Seq.{ext_get_or}
 use Rattle.pnml.specs.Agrees.{Agrees}
 use Rattle.grammar.proofs.parts.Steps.{agrees-both}
@@ -100,11 +99,8 @@ module _ {s : List ℕ} {first : ℕ} {q : State} {at : ℕ} (o : Onward s first
       ext_get_or 0 (o.text ++ closing) (text_from start e.0) long (λ i l. sym (both.each i (omega (arith, length-append o.text closing))) ∙ e.1.whole.each i (omega arith)) in
       record { lines = e.0; stands = e.1; says = o.says; ends = e.2; net = n.0; exportable = n.1; text = n.2 ∙ ap (λ z. opening ++ z) same }
 
-pub step_as : {q : State} {s : List ℕ} {at : ℕ} {r : Step} → StepAllows q s at r → {x : Step} → r ≡ x → SteppedAs q s at x
-step_as {q} {s} {at} y e = subst (λ z. SteppedAs q s at z) e y.how
-
-pub moved_as : {q : State} {s : List ℕ} {at : ℕ} {r : Moved} → MoveAllows q s at r → {x : Moved} → r ≡ x → MovedAs q s at x
-moved_as {q} {s} {at} y e = subst (λ z. MovedAs q s at z) e y.how
+pub lines-not : {s : List ℕ} {at p : ℕ} {r : Result (State × ℕ) ℕ} → r ≡ Err p → More start s at p → LinesAllow s at r
+lines-not e x = record { how = rw e x }
 
 pub arc-small : {q : State} {least p w : ℕ} → Sound q → ArcAllowed q least p w → p < 1000
 arc-small h a = omega (arith, a.inside, h.places)

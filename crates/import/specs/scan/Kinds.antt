@@ -1,21 +1,13 @@
 -- The kinds of lines, by what they begin with, and what the reader of a line answers.
-use Rattle.std.specs.Prelude.{ℕ, ◌+◌, ◌≤◌, ◌<◌, ◌≡◌, Bool, true, false, ◌&&◌, List, [], ◌∷◌, ◌++◌, ◌⊎◌, ltb, eqb, length}
+use Rattle.std.specs.Prelude.{ℕ, ◌+◌, ◌≤◌, ◌<◌, ◌≡◌, Bool, true, false, ◌&&◌, List, [], ◌∷◌, ◌++◌, ◌⊎◌, ltb, eqb, length, Result, Ok, Err, Option as Perhaps, Some, None}
 use Rattle.std.proofs.Math.Option.{none, some}
 use Rattle.movement.proofs.Each.{Each}
 use Rattle.pnml.specs.Agrees.{Agrees}
 use Rattle.grammar.specs.declared.State.{State}
 use Rattle.import.specs.declared.scan.Kind.{Kind}
 use Rattle.import.specs.declared.scan.Kind.TheVariants.{Close, Place, Transition, Pre, Post}
-use Rattle.import.specs.declared.scan.Headed.{Headed}
-use Rattle.import.specs.declared.scan.Headed.TheVariants.{Head, NoHead}
-use Rattle.import.specs.declared.scan.Arced.{Arced}
-use Rattle.import.specs.declared.scan.Arced.TheVariants.{Arc, NoArc}
 use Rattle.import.specs.declared.scan.Step.{Step}
-use Rattle.import.specs.declared.scan.Step.TheVariants.{Placed, Begun, PreArc, PostArc, Closed, Stopped}
-use Rattle.import.specs.declared.scan.Moved.{Moved}
-use Rattle.import.specs.declared.scan.Moved.TheVariants.{On, AtEnd, Nowhere}
-use Rattle.import.specs.declared.scan.Checked.{Checked}
-use Rattle.import.specs.declared.scan.Checked.TheVariants.{Ended, Refused}
+use Rattle.import.specs.declared.scan.Step.TheVariants.{Placed, Begun, PreArc, PostArc, Closed}
 use Rattle.model.specs.Nets.{PNet}
 use Rattle.grammar.specs.Gathered.{Gathered, nothing, finish, Tells}
 use Rattle.text.specs.Ascii.{ascii}
@@ -23,6 +15,18 @@ use Rattle.pnml.specs.Pnml.{opening, closing, three, pnml, Exportable, Refused20
 use Rattle.grammar.specs.Lines.{Line, place, transition, pre, post, after, start, Valid, text_from, up_to, from_post, AllowedNext, next_text}
 use Rattle.grammar.specs.parts.Stands as L
 use Rattle.grammar.specs.parts.Parts.{WholeOf, Between, Within, valued}
+
+-- a kind and where its head ends, or the farthest position that a head goes to
+abbrev pub Headed : Type 0
+Headed = Result (Kind × ℕ) ℕ
+
+-- the pair, the weight and the end of an arc's line, or where none goes on so
+abbrev pub Arced : Type 0
+Arced = Result (ℕ × ℕ × ℕ) ℕ
+
+-- the state after a line, or none after the closing, and where it ends; or where no line goes on so
+abbrev pub Moved : Type 0
+Moved = Result (Perhaps State × ℕ) ℕ
 
 unfoldable pub head_text : Kind → List ℕ
 head_text Close = closing
@@ -61,8 +65,8 @@ pub record HeadOf (q : State) (s : List ℕ) (at : ℕ) (k : Kind) (next : ℕ) 
   pub whole : WholeOf s at (head_text k) next
 
 abbrev pub HeadedAs : State → List Kind → List ℕ → ℕ → Headed → Type 0
-HeadedAs q ks s at (Head k next) = HeadOf q s at k next
-HeadedAs q ks s at (NoHead p) = NoHeadOf q ks s at p
+HeadedAs q ks s at (Ok x) = HeadOf q s at x.0 x.1
+HeadedAs q ks s at (Err p) = NoHeadOf q ks s at p
 
 pub record Tried (q : State) (ks : List Kind) (s : List ℕ) (at : ℕ) (r : Headed) : Type 0 where
   pub how : HeadedAs q ks s at r
@@ -97,25 +101,25 @@ abbrev pub arc_rest : Bool → ℕ → ℕ × ℕ → List ℕ
 arc_rest is_pre t x = pair_text t x.0 ++ valued (ends_text is_pre t x.0) arc_tail x.1
 
 abbrev pub ArcedAs : Bool → ℕ → ℕ → ℕ → List ℕ → ℕ → Arced → Type 0
-ArcedAs is_pre t low high s at (Arc p w next) = L.Stands (ArcOk low high) (arc_rest is_pre t) s at (p, w) next
-ArcedAs is_pre t low high s at (NoArc p) = L.Stops (ArcOk low high) (arc_rest is_pre t) s at p
+ArcedAs is_pre t low high s at (Ok x) = L.Stands (ArcOk low high) (arc_rest is_pre t) s at (x.0, x.1) x.2
+ArcedAs is_pre t low high s at (Err p) = L.Stops (ArcOk low high) (arc_rest is_pre t) s at p
 
 pub record ArcAllows (is_pre : Bool) (t low high : ℕ) (s : List ℕ) (at : ℕ) (r : Arced) : Type 0 where
   pub how : ArcedAs is_pre t low high s at r
 
-abbrev pub SteppedAs : State → List ℕ → ℕ → Step → Type 0
-SteppedAs q s at (Placed n next) = L.Stands (AllowedNext q) (next_text q) s at (some (place n)) next
-SteppedAs q s at (Begun next) = L.Stands (AllowedNext q) (next_text q) s at (some transition) next
-SteppedAs q s at (PreArc p w next) = L.Stands (AllowedNext q) (next_text q) s at (some (pre p w)) next
-SteppedAs q s at (PostArc p w next) = L.Stands (AllowedNext q) (next_text q) s at (some (post p w)) next
-SteppedAs q s at (Closed next) = L.Stands (AllowedNext q) (next_text q) s at none next
-SteppedAs q s at (Stopped p) = L.Stops (AllowedNext q) (next_text q) s at p
+abbrev pub SteppedAs : State → List ℕ → ℕ → Result Step ℕ → Type 0
+SteppedAs q s at (Ok (Placed n next)) = L.Stands (AllowedNext q) (next_text q) s at (some (place n)) next
+SteppedAs q s at (Ok (Begun next)) = L.Stands (AllowedNext q) (next_text q) s at (some transition) next
+SteppedAs q s at (Ok (PreArc p w next)) = L.Stands (AllowedNext q) (next_text q) s at (some (pre p w)) next
+SteppedAs q s at (Ok (PostArc p w next)) = L.Stands (AllowedNext q) (next_text q) s at (some (post p w)) next
+SteppedAs q s at (Ok (Closed next)) = L.Stands (AllowedNext q) (next_text q) s at none next
+SteppedAs q s at (Err p) = L.Stops (AllowedNext q) (next_text q) s at p
 
-pub record StepAllows (q : State) (s : List ℕ) (at : ℕ) (r : Step) : Type 0 where
+pub record StepAllows (q : State) (s : List ℕ) (at : ℕ) (r : Result Step ℕ) : Type 0 where
   pub how : SteppedAs q s at r
 
 -- what follows a head, wherever the line begins
-pub record RestAllows (q : State) (kind : Kind) (s : List ℕ) (m : ℕ) (r : Step) : Type 0 where
+pub record RestAllows (q : State) (kind : Kind) (s : List ℕ) (m : ℕ) (r : Result Step ℕ) : Type 0 where
   pub rest : (at : ℕ) → HeadOf q s at kind m → StepAllows q s at r
 
 pub record MovedTo (q : State) (s : List ℕ) (at : ℕ) (r : State) (next : ℕ) : Type 0 where
@@ -123,10 +127,13 @@ pub record MovedTo (q : State) (s : List ℕ) (at : ℕ) (r : State) (next : ℕ
   pub stands : L.Stands (AllowedNext q) (next_text q) s at (some line) next
   pub state : r ≡ after q line
 
+abbrev pub WentOn : State → List ℕ → ℕ → Perhaps State → ℕ → Type 0
+WentOn q s at (Some r) next = MovedTo q s at r next
+WentOn q s at None next = L.Stands (AllowedNext q) (next_text q) s at none next
+
 abbrev pub MovedAs : State → List ℕ → ℕ → Moved → Type 0
-MovedAs q s at (On r next) = MovedTo q s at r next
-MovedAs q s at (AtEnd next) = L.Stands (AllowedNext q) (next_text q) s at none next
-MovedAs q s at (Nowhere p) = L.Stops (AllowedNext q) (next_text q) s at p
+MovedAs q s at (Ok x) = WentOn q s at x.0 x.1
+MovedAs q s at (Err p) = L.Stops (AllowedNext q) (next_text q) s at p
 
 pub record MoveAllows (q : State) (s : List ℕ) (at : ℕ) (r : Moved) : Type 0 where
   pub how : MovedAs q s at r
@@ -141,11 +148,11 @@ pub record EndOf (q : State) (s : List ℕ) (at next : ℕ) : Type 0 where
   pub text : pnml net ≡ opening ++ text_from start lines
 
 -- all lines of a text, from its first on
-abbrev pub LinesAs : List ℕ → ℕ → Checked → Type 0
-LinesAs s at (Ended q next) = EndOf q s at next
-LinesAs s at (Refused p) = L.Stops (Valid start) (text_from start) s at p
+abbrev pub LinesAs : List ℕ → ℕ → Result (State × ℕ) ℕ → Type 0
+LinesAs s at (Ok x) = EndOf x.0 s at x.1
+LinesAs s at (Err p) = L.Stops (Valid start) (text_from start) s at p
 
-pub record LinesAllow (s : List ℕ) (at : ℕ) (r : Checked) : Type 0 where
+pub record LinesAllow (s : List ℕ) (at : ℕ) (r : Result (State × ℕ) ℕ) : Type 0 where
   pub how : LinesAs s at r
 
 -- a net whose export is the text; and every such net has the counts that the last state has
@@ -157,9 +164,9 @@ pub record ExportOf (s : List ℕ) (q : State) : Type 0 where
   pub tells : (net : PNet) → Exportable net → s ≡ pnml net → Tells net (q, says)
 
 -- a whole text: an export, or 20 and its position
-abbrev pub CheckedAs : List ℕ → Checked → Type 0
-CheckedAs s (Ended q next) = ExportOf s q
-CheckedAs s (Refused p) = Refused20 s p
+abbrev pub CheckedAs : List ℕ → Result State ℕ → Type 0
+CheckedAs s (Ok q) = ExportOf s q
+CheckedAs s (Err p) = Refused20 s p
 
-pub record CheckAllows (s : List ℕ) (r : Checked) : Type 0 where
+pub record CheckAllows (s : List ℕ) (r : Result State ℕ) : Type 0 where
   pub how : CheckedAs s r

@@ -14,12 +14,9 @@ fn read_pair(s: &[u8], at: usize, mode: u32, low: u32, high: u32) -> Numbered
     requires { (at ≤ length s.now) × (mode < 1000) × (low < high) × (high ≤ 999) }
     ensures { Reads (Between low high) (pair_text mode) s.now at result }
 {
-    let number = then_three(s, Literal::Whole(at), mode);
-    let before = then_bytes(s, number, &AND_PAIR);
-    match before {
-        Literal::Part(p) => Numbered::Stops(p),
-        Literal::Whole(next) => read_three(s, next, low, high),
-    }
+    let number = then_three(s, Ok(at), mode);
+    let next = then_bytes(s, number, &AND_PAIR)?;
+    read_three(s, next, low, high)
 }
 
 // A Pre arc goes from the place to the transition, a Post arc back.
@@ -45,16 +42,8 @@ pub(crate) fn read_arc(s: &[u8], at: usize, mode: u32, low: u32, high: u32, taki
     requires { (at ≤ length s.now) × (mode < 1000) × (low < high) × (high ≤ 999) }
     ensures { ArcAllows taking mode low high s.now at result }
 {
-    let number = read_pair(s, at, mode, low, high);
-    match number {
-        Numbered::Stops(p) => Arced::NoArc(p),
-        Numbered::Number(pair, next) => {
-            let ends = compare_ends(s, next, mode, pair, taking);
-            let weight = read_valued(s, ends, 1, &ARC_END);
-            match weight {
-                Numbered::Stops(p) => Arced::NoArc(p),
-                Numbered::Number(w, end) => Arced::Arc(pair, w, end),
-            }
-        }
-    }
+    let (pair, next) = read_pair(s, at, mode, low, high)?;
+    let ends = compare_ends(s, next, mode, pair, taking);
+    let (weight, end) = read_valued(s, ends, 1, &ARC_END)?;
+    Ok((pair, weight, end))
 }

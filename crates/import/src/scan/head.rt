@@ -1,5 +1,5 @@
 // What a line begins with: every kind that is possible is compared, and the farthest position told where none stands there whole.
-ghost use Rattle.std.specs.Prelude.{◌≡◌, ◌&&◌, ◌≤◌, length};
+ghost use Rattle.std.specs.Prelude.{◌≡◌, ◌≤◌, length};
 ghost use Rattle.grammar.specs.parts.Parts.{Compares};
 ghost use Rattle.import.specs.scan.Kinds.{head_text, possible, Sound, Tried, TryAllows, kinds};
 
@@ -10,22 +10,17 @@ use grammar::parts::Literal;
 use grammar::parts::constant::compare;
 use pnml::{CLOSING, PLACE, POST, PRE, TRANSITION};
 
-fn both(a: bool, b: bool) -> bool
-    ensures { result ≡ a && b }
-{
-    if a { b } else { false }
-}
-
+#[tactic(auto, unfolding(crate::specs::scan::Kinds::possible))]
 fn can_begin(q: State, kind: Kind) -> bool
     requires { Sound q }
     ensures { result ≡ possible q kind }
 {
     match kind {
         Kind::Close => 0 < q.places,
-        Kind::Place => both(q.modes == 0, q.places < 256),
-        Kind::Transition => both(0 < q.places, q.modes < 256),
-        Kind::Pre => both(0 < q.modes, q.low < up_to(q)),
-        Kind::Post => both(0 < q.modes, from_post(q) < up_to(q)),
+        Kind::Place => q.modes == 0 && q.places < 256,
+        Kind::Transition => 0 < q.places && q.modes < 256,
+        Kind::Pre => 0 < q.modes && q.low < up_to(q),
+        Kind::Post => 0 < q.modes && from_post(q) < up_to(q),
     }
 }
 
@@ -47,22 +42,15 @@ fn try_head(s: &[u8], at: usize, q: State, kind: Kind, before: Headed) -> Headed
     requires { (at ≤ length s.now) × Sound q }
     ensures { TryAllows q kind s.now at before result }
 {
-    let Headed::NoHead(reached) = before else {
+    let Err(reached) = before else {
         return before;
     };
-    let can = can_begin(q, kind);
-    if !can {
-        return Headed::NoHead(reached);
+    if !can_begin(q, kind) {
+        return before;
     }
-    let head = compare_head(s, at, kind);
-    match head {
-        Literal::Whole(next) => Headed::Head(kind, next),
-        Literal::Part(p) => {
-            if reached < p {
-                return Headed::NoHead(p);
-            }
-            Headed::NoHead(reached)
-        }
+    match compare_head(s, at, kind) {
+        Ok(next) => Ok((kind, next)),
+        Err(p) => Err(reached.max(p)),
     }
 }
 
@@ -70,7 +58,7 @@ pub(crate) fn read_head(s: &[u8], at: usize, q: State) -> Headed
     requires { (at ≤ length s.now) × Sound q }
     ensures { Tried q kinds s.now at result }
 {
-    let close = try_head(s, at, q, Kind::Close, Headed::NoHead(at));
+    let close = try_head(s, at, q, Kind::Close, Err(at));
     let place = try_head(s, at, q, Kind::Place, close);
     let transition = try_head(s, at, q, Kind::Transition, place);
     let pre = try_head(s, at, q, Kind::Pre, transition);

@@ -7,76 +7,61 @@ ghost use Rattle.import.specs.scan.Kinds.{possible, Sound, place_start, place_ta
 use crate::scan::arc::read_arc;
 use crate::scan::head::read_head;
 use crate::scan::states::{from_post, up_to};
-use crate::scan::{Arced, Headed, Kind, Step};
+use crate::scan::{Kind, Step};
 use grammar::State;
+use grammar::parts::Numbered;
 use grammar::parts::constant::{then_bytes, then_three};
 use grammar::parts::valued::read_valued;
-use grammar::parts::{Literal, Numbered};
 use pnml::{FIRST_MARKING, PLACE_END, TRANSITION_END};
 
 fn read_place(s: &[u8], at: usize, places: u32) -> Numbered
     requires { (at ≤ length s.now) × (places < 1000) }
     ensures { Reads (Within 0) (valued (place_start places) place_tail) s.now at result }
 {
-    let number = then_three(s, Literal::Whole(at), places);
+    let number = then_three(s, Ok(at), places);
     let before = then_bytes(s, number, &FIRST_MARKING);
     read_valued(s, before, 0, &PLACE_END)
 }
 
-fn place_step(s: &[u8], at: usize, q: State) -> Step
+fn place_step(s: &[u8], at: usize, q: State) -> Result<Step, usize>
     requires { (at ≤ length s.now) × Sound q }
     ensures { RestAllows q Place s.now at result }
 {
-    let number = read_place(s, at, q.places);
-    match number {
-        Numbered::Stops(p) => Step::Stopped(p),
-        Numbered::Number(n, next) => Step::Placed(n, next),
-    }
+    let (count, next) = read_place(s, at, q.places)?;
+    Ok(Step::Placed(count, next))
 }
 
-fn mode_step(s: &[u8], at: usize, q: State) -> Step
+fn mode_step(s: &[u8], at: usize, q: State) -> Result<Step, usize>
     requires { (at ≤ length s.now) × Sound q }
     ensures { RestAllows q Transition s.now at result }
 {
-    let number = then_three(s, Literal::Whole(at), q.modes);
-    let end = then_bytes(s, number, &TRANSITION_END);
-    match end {
-        Literal::Part(p) => Step::Stopped(p),
-        Literal::Whole(next) => Step::Begun(next),
-    }
+    let number = then_three(s, Ok(at), q.modes);
+    let next = then_bytes(s, number, &TRANSITION_END)?;
+    Ok(Step::Begun(next))
 }
 
-fn pre_step(s: &[u8], at: usize, q: State) -> Step
+fn pre_step(s: &[u8], at: usize, q: State) -> Result<Step, usize>
     requires { (at ≤ length s.now) × Sound q × (possible q Pre ≡ true) }
     ensures { RestAllows q Pre s.now at result }
 {
-    let high = up_to(q);
-    let arc = read_arc(s, at, q.modes - 1, q.low, high, true);
-    match arc {
-        Arced::NoArc(p) => Step::Stopped(p),
-        Arced::Arc(pair, w, next) => Step::PreArc(pair, w, next),
-    }
+    let (pair, weight, next) = read_arc(s, at, q.modes - 1, q.low, up_to(q), true)?;
+    Ok(Step::PreArc(pair, weight, next))
 }
 
-fn post_step(s: &[u8], at: usize, q: State) -> Step
+fn post_step(s: &[u8], at: usize, q: State) -> Result<Step, usize>
     requires { (at ≤ length s.now) × Sound q × (possible q Post ≡ true) }
     ensures { RestAllows q Post s.now at result }
 {
-    let low = from_post(q);
-    let high = up_to(q);
-    let arc = read_arc(s, at, q.modes - 1, low, high, false);
-    match arc {
-        Arced::NoArc(p) => Step::Stopped(p),
-        Arced::Arc(pair, w, next) => Step::PostArc(pair, w, next),
-    }
+    let (pair, weight, next) = read_arc(s, at, q.modes - 1, from_post(q), up_to(q), false)?;
+    Ok(Step::PostArc(pair, weight, next))
 }
 
-fn read_rest(s: &[u8], at: usize, q: State, kind: Kind) -> Step
+fn read_rest(s: &[u8], at: usize, q: State, kind: Kind) -> Result<Step, usize>
     requires { (at ≤ length s.now) × Sound q × (possible q kind ≡ true) }
     ensures { RestAllows q kind s.now at result }
 {
     match kind {
-        Kind::Close => Step::Closed(at),
+        Kind::Close => Ok(Step::Closed(at)),
         Kind::Place => place_step(s, at, q),
         Kind::Transition => mode_step(s, at, q),
         Kind::Pre => pre_step(s, at, q),
@@ -84,13 +69,10 @@ fn read_rest(s: &[u8], at: usize, q: State, kind: Kind) -> Step
     }
 }
 
-pub(crate) fn read_line(s: &[u8], at: usize, q: State) -> Step
+pub(crate) fn read_line(s: &[u8], at: usize, q: State) -> Result<Step, usize>
     requires { (at ≤ length s.now) × Sound q }
     ensures { StepAllows q s.now at result }
 {
-    let head = read_head(s, at, q);
-    match head {
-        Headed::NoHead(p) => Step::Stopped(p),
-        Headed::Head(kind, next) => read_rest(s, next, q, kind),
-    }
+    let (kind, next) = read_head(s, at, q)?;
+    read_rest(s, next, q, kind)
 }

@@ -4,25 +4,25 @@ ghost use Rattle.import.specs.scan.Kinds.{Sound, MoveAllows, LinesAllow};
 
 use crate::scan::line::read_line;
 use crate::scan::states::{after_mode, after_place, after_post, after_pre};
-use crate::scan::{Checked, Moved, Step};
+use crate::scan::{Moved, Step};
 use grammar::State;
 
 fn advance(s: &[u8], at: usize, q: State) -> Moved
     requires { (at ≤ length s.now) × Sound q }
     ensures { MoveAllows q s.now at result }
 {
-    let step = read_line(s, at, q);
-    match step {
-        Step::Placed(n, next) => Moved::On(after_place(q, n), next),
-        Step::Begun(next) => Moved::On(after_mode(q), next),
-        Step::PreArc(p, w, next) => Moved::On(after_pre(q, p, w), next),
-        Step::PostArc(p, w, next) => Moved::On(after_post(q, p, w), next),
-        Step::Closed(next) => Moved::AtEnd(next),
-        Step::Stopped(p) => Moved::Nowhere(p),
-    }
+    let step = read_line(s, at, q)?;
+    Ok(match step {
+        Step::Placed(n, next) => (Some(after_place(q, n)), next),
+        Step::Begun(next) => (Some(after_mode(q)), next),
+        Step::PreArc(p, w, next) => (Some(after_pre(q, p, w)), next),
+        Step::PostArc(p, w, next) => (Some(after_post(q, p, w)), next),
+        Step::Closed(next) => (None, next),
+    })
 }
 
-pub(crate) fn read_lines(s: &[u8], first: usize) -> Checked
+// The state after the last line and the position after the closing, or where no export agrees any more.
+pub(crate) fn read_lines(s: &[u8], first: usize) -> Result<(State, usize), usize>
     requires { first ≤ length s.now }
     ensures { LinesAllow s.now first result }
 {
@@ -34,19 +34,13 @@ pub(crate) fn read_lines(s: &[u8], first: usize) -> Checked
         low: 0,
         half: false,
     };
+    // No `for`: how many lines there are is not known before they are read.
     loop {
-        let moved = advance(s, at, q);
-        match moved {
-            Moved::Nowhere(p) => {
-                return Checked::Refused(p);
-            }
-            Moved::AtEnd(next) => {
-                return Checked::Ended(q, next);
-            }
-            Moved::On(state, next) => {
-                q = state;
-                at = next;
-            }
-        }
+        let (after, next) = advance(s, at, q)?;
+        let Some(state) = after else {
+            return Ok((q, next));
+        };
+        q = state;
+        at = next;
     }
 }

@@ -25,10 +25,7 @@ pub(crate) fn after_place(q: State, n: u32) -> State
 {
     State {
         places: q.places + 1,
-        modes: q.modes,
-        arcs: q.arcs,
-        low: q.low,
-        half: q.half,
+        ..q
     }
 }
 
@@ -37,11 +34,10 @@ pub(crate) fn after_mode(q: State) -> State
     ensures { result ≡ after q transition }
 {
     State {
-        places: q.places,
         modes: q.modes + 1,
-        arcs: q.arcs,
         low: 0,
         half: false,
+        ..q
     }
 }
 
@@ -50,11 +46,10 @@ pub(crate) fn after_pre(q: State, p: u32, w: u32) -> State
     ensures { result ≡ after q (pre p w) }
 {
     State {
-        places: q.places,
-        modes: q.modes,
         arcs: q.arcs + 1,
         low: p + 1,
         half: true,
+        ..q
     }
 }
 
@@ -63,20 +58,10 @@ pub(crate) fn after_post(q: State, p: u32, w: u32) -> State
     requires { Sound q × (p < 1000) }
     ensures { result ≡ after q (post p w) }
 {
-    if p < q.low {
-        return State {
-            places: q.places,
-            modes: q.modes,
-            arcs: q.arcs,
-            low: p + 1,
-            half: false,
-        };
-    }
     State {
-        places: q.places,
-        modes: q.modes,
-        arcs: q.arcs + 1,
+        arcs: if p < q.low { q.arcs } else { q.arcs + 1 },
         low: p + 1,
         half: false,
+        ..q
     }
 }

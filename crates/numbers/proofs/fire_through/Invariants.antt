@@ -5,7 +5,4 @@ use Rattle.onepass.specs.OnePass.{PassedAndWritten}
 use Rattle.numbers.proofs.fire_through.Given as goal
 
 abbrev pub invariant-loop-i : goal.invariant-loop-i
-invariant-loop-i l = (l.i ≤ l.count) × PassedAndWritten (net_of l.s) l.arcs l.i l.initial.marking l.marking
-
-abbrev pub decreases-loop-i : goal.decreases-loop-i
-decreases-loop-i l = l.count - l.i
+invariant-loop-i l = PassedAndWritten (net_of l.net.sheet.now) l.arcs l.i l.initial.marking l.marking

@@ -3,7 +3,7 @@ use Rattle.onepass.proofs.OnePass.{fires-through, fires-back}
 use Rattle.numbers.proofs.fire_within.Goals as goal
 
 pub take_back-requires : goal.take_back-requires
-take_back-requires c = let pre = c.requires in record { fact = pre.numbered.opened; mode_arcs = pre.at_mode.own; by_index = (_, c.fire_through-written.ensures.wrote) }
+take_back-requires c = let pre = c.requires in record { mode_arcs = pre.at_mode.own; by_index = (_, c.fire_through-written.ensures.wrote) }
 
 pub returns-then-written-arcs : goal.returns-then-written-arcs
 returns-then-written-arcs c = λ t own.

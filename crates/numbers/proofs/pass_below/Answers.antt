@@ -8,4 +8,4 @@ returns-then-capacity-arc c = sym (never-passes c.args.arc _ c.requires c.if-cap
 
 pub returns : goal.returns
 returns c =
-    rw (c.least.ensures, c.least-kept.ensures) (sym (passes-below c.args.arc _ c.requires c.if-capacity-arc.false))
+    rw (c.min.ensures, c.min-kept.ensures) (sym (passes-below c.args.arc _ c.requires c.if-capacity-arc.false))

@@ -5,7 +5,4 @@ use Rattle.numbers.specs.Numbers.{NumbersBelow}
 use Rattle.numbers.proofs.write_numbers.Given as goal
 
 abbrev pub invariant-loop-t : goal.invariant-loop-t
-invariant-loop-t l = (l.t ≤ l.modes) × NumbersBelow (net_of l.s) l.numbers l.t
-
-abbrev pub decreases-loop-t : goal.decreases-loop-t
-decreases-loop-t l = l.modes - l.t
+invariant-loop-t l = NumbersBelow (net_of l.net.sheet.now) l.numbers l.t

@@ -1,5 +1,5 @@
 -- Only the first i arcs have written what was found.
-use Prim.Native.Nat.{ℕ, ◌≤◌}
+use Prim.Native.Nat.{ℕ}
 use mathlib.Core.Path.{◌≡◌}
 use mathlib.Core.List.{List}
 use Rattle.sheets.specs.Decoded.{net_of}
@@ -7,8 +7,4 @@ use Rattle.onepass.specs.OnePass.{written_to, PassedAndWritten}
 use Rattle.onepass.proofs.take_back.Given as goal
 
 abbrev pub invariant-loop-i : goal.invariant-loop-i
-invariant-loop-i l =
-    (l.i ≤ l.written) × ((m : List ℕ) → PassedAndWritten (net_of l.s) l.arcs l.written m l.initial.marking → l.marking ≡ written_to (net_of l.s) l.arcs l.i m)
-
-abbrev pub decreases-loop-i : goal.decreases-loop-i
-decreases-loop-i l = l.i
+invariant-loop-i l = (m : List ℕ) → PassedAndWritten (net_of l.net.sheet.now) l.arcs l.written m l.initial.marking → l.marking ≡ written_to (net_of l.net.sheet.now) l.arcs l.i m

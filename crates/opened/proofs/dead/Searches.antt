@@ -1,4 +1,5 @@
 -- A search over the arcs of one mode of an open net.
+use Rattle.std.specs.Prelude.{Some, None}
 use Prim.Native.Nat.{ℕ, ◌+◌, ◌≤◌, ◌<◌}
 use mathlib.Core.Path.{◌≡◌, sym, ◌∙◌, ap, ap₂}
 use mathlib.Core.Bool.{Bool, true, false}
@@ -18,8 +19,7 @@ use Rattle.opened.specs.declared.starts.Segment.{Segment}
 use Rattle.opened.specs.Starts.{ModeArcs, SegmentOf}
 use Rattle.opened.proofs.Shapes.{sizes}
 use Rattle.opened.proofs.Segments.{mode_lists, segment-own}
-use Rattle.opened.specs.declared.dead.FirstDead.TheVariants.{At, None}
-use Rattle.opened.specs.dead.FirstDead.{named}
+use Rattle.opened.specs.dead.FirstDead.{name}
 
 -- a search that has passed i arcs of a segment, and one more
 pub passed-more : (net : PNet) (start i : ℕ) → Passed net start (start + i) → arc_kills net (start + i) ≡ false → Passed net start (start + (i + 1))
@@ -42,12 +42,12 @@ module _ {s : List ℕ} {net : NetShape} where
 
 -- The search over the modes: it comes to its end, or the k-th arc is the first that makes its mode dead.
 module _ {s : List ℕ} {net : NetShape} (o : Open s net) where
-  pub none_named : {t : ℕ} → net.modes ≤ t → Alive (net_of s) t → named none (first_dead (net_of s)) ≡ None
-  none_named l alive = ap (named none) (all-alive (net_of s) (λ u h. alive u (omega (arith, (sizes o).modes))))
+  pub none_named : {t : ℕ} → net.modes ≤ t → Alive (net_of s) t → name (first_dead (net_of s)) ≡ None
+  none_named l alive = ap name (all-alive (net_of s) (λ u h. alive u (omega (arith, (sizes o).modes))))
 
   pub one-named : (t : ℕ) (segment : Segment) (i : ℕ) {a : Arc} {r : Bool} → t < net.modes → Alive (net_of s) t → SegmentOf (net_of s).arcs (mode_no t) segment
       → i < segment.count → Passed (net_of s) segment.start (segment.start + i) → ArcIs s net (segment.start + i) a
-      → r ≡ kills (net_of s).rule (net_arc a).entry (K (net_of s) a.pair.0) → r ≡ true → At a.mode a.pair ≡ named none (first_dead (net_of s))
+      → r ≡ kills (net_of s).rule (net_arc a).entry (K (net_of s) a.pair.0) → r ≡ true → Some (a.mode, a.pair) ≡ name (first_dead (net_of s))
   one-named t segment i h alive is l passed arc q e =
       let arcs = segment-own is in
       let k = segment.start + i in
@@ -56,4 +56,4 @@ module _ {s : List ℕ} {net : NetShape} (o : Open s net) where
       dead-first (net_of s) t (arc_no (net_of s).arcs k).pair.0 (omega (arith, (sizes o).modes)) alive
       (one-kills o (mode_no t) segment.start segment.count arcs k (omega arith) (omega arith) passed (sym (arc-kills arc q) ∙ e))
       in
-      rw first (ap₂ At (ap (λ x. x.mode) arc.is ∙ ap mode_no own) (ap (λ x. x.pair) arc.is))
+      rw first (ap₂ (λ t p. Some (t, p)) (ap (λ x. x.mode) arc.is ∙ ap mode_no own) (ap (λ x. x.pair) arc.is))

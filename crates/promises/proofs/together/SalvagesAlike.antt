@@ -1,4 +1,5 @@
 -- The modes of damaged bytes run alike in a net and in its complement: demand 3 along that list.
+use Rattle.std.specs.Prelude.{Result}
 use Prim.Native.Nat.{ℕ, ◌-◌}
 use mathlib.Core.Path.{◌≡◌, refl, sym, ◌∙◌, ap}
 use mathlib.Core.List.{List}
@@ -21,7 +22,6 @@ use Rattle.run.proofs.Promises.{runs_leave_lem}
 use Rattle.damaged.specs.Damaged.{considered, modes_in}
 use Rattle.run.proofs.salvage.Considered.{modes-length}
 use Rattle.run.specs.declared.salvage.Report.{Report}
-use Rattle.run.specs.declared.salvage.Salvaged.{Salvaged}
 use Rattle.run.specs.salvage.Salvaged.{told, salvaged, sheet_of_first, trial, kept, report, fresh_sheet, salvage_refusal}
 use Rattle.run.specs.salvage.Allowed.{SalvageAllows}
 use Rattle.run.specs.salvage.Promises.{AllBytes, Salvages}
@@ -69,7 +69,7 @@ module _ (net sheet : List ℕ) (w : ComplementWrote net sheet) (damaged : List 
   carried-alone none x y = refl
   carried-alone (some r) x y = refl
 
-  salvaged-alike : (out : List ℕ) (o o' : Salvaged × List ℕ) → SalvageAllows net damaged out o → SalvageAllows sheet damaged out o' → SalvagedAlike net damaged o o'
+  salvaged-alike : (out : List ℕ) (o o' : Result Report Refusal × List ℕ) → SalvageAllows net damaged out o → SalvageAllows sheet damaged out o' → SalvagedAlike net damaged o o'
   salvaged-alike out o o' a a' =
       let same = refusal-same (length out) in
       let here = salvage_refusal net damaged (length out) in

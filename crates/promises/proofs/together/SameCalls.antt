@@ -137,7 +137,7 @@ module _ (back sheet : List ℕ) (w : whole_net back ≡ none) (w' : whole_net s
         exclude = λ weights claim o h. rw (exclude-same weights claim) h;
         add_ship = λ found weights movements o h. rw (entered-same found weights movements) h;
         is_dead = λ t o h. rw (dead-refusal-same t, dead-same t) h;
-        first_dead = λ o h. rw (w, first-dead-same _ _ same, ← w') h;
+        first_dead = λ o h. rw (w, first-dead-same _ _ same) (rw w' at h);
         size = λ o h. h ∙ sym size_same;
       }
 

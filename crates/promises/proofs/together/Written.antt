@@ -1,4 +1,6 @@
 -- What a call wrote is what its promises speak of.
+use Rattle.std.specs.Prelude.{Result, Ok, Err}
+use Rattle.model.specs.declared.Refusal.{Refusal}
 use Prim.Native.Nat.{ℕ}
 use mathlib.Core.Path.{◌≡◌, sym, ◌∙◌, ap, subst}
 use mathlib.Core.List.{List}
@@ -12,8 +14,6 @@ use Rattle.sheets.specs.Decoded.{net_of}
 use Rattle.sheets.specs.Emitted.{told}
 use Rattle.complement.specs.Complemented.{complement_of, complementing_refusal}
 use Rattle.run.specs.declared.salvage.Report.{Report}
-use Rattle.run.specs.declared.salvage.Salvaged.{Salvaged}
-use Rattle.run.specs.declared.salvage.Salvaged.TheVariants.{Written, Refused}
 use Rattle.run.specs.salvage.Salvaged as salvaging
 use Rattle.run.specs.salvage.Allowed.{SalvageAllows}
 use Rattle.run.specs.salvage.Promises.{AllBytes, Salvages}
@@ -50,12 +50,12 @@ module _ (net sheet : List ℕ) (w : ComplementWrote net sheet) where
   run-alike = subst (λ s. RunAlike net s) is-written (two_runs_lem net w.out (length sheet) answers)
 
 -- a reply with a report is one that was written
-wrote : (o : Salvaged) {report : Report} → salvaging.told o ≡ yields report → o ≡ Written report
-wrote (Written x) {report} e = let v : some x ≡ some report = ap (λ r. r.value) e in cc
-wrote (Refused r) {report} e = let v : none ≡ some report = ap (λ r. r.value) e in absurd (none-ne-some report v)
+wrote : (o : Result Report Refusal) {report : Report} → salvaging.told o ≡ yields report → o ≡ Ok report
+wrote (Ok x) {report} e = let v : some x ≡ some report = ap (λ r. r.value) e in cc
+wrote (Err r) {report} e = let v : none ≡ some report = ap (λ r. r.value) e in absurd (none-ne-some report v)
 
 module _ (net damaged sheet : List ℕ) (report : Report) (w : SalvageWrote net damaged sheet report) where
-  pub salvage-allowed : SalvageAllows net damaged w.out (Written report, w.outcome.1)
+  pub salvage-allowed : SalvageAllows net damaged w.out (Ok report, w.outcome.1)
   salvage-allowed = (sym (wrote w.outcome.0 w.answered) ∙ w.allowed.0, w.allowed.1)
 
   pub salvages : AllBytes damaged → Salvages net damaged sheet report

@@ -1,17 +1,17 @@
 -- Steps (document 02, P1) and the figure: after an accepted step it is the figure before plus the weight change of each member, a repeat each time.
-use Rattle.std.specs.Prelude.{ℕ, ◌≡◌, List, ℤ, ◌+ℤ◌}
-use Rattle.model.specs.declared.Answer.{Answer}
+use Rattle.model.specs.declared.Refusal.{Refusal}
+use Rattle.std.specs.Prelude.{ℕ, ◌≡◌, List, ℤ, ◌+ℤ◌, Result}
+use Rattle.model.specs.Refusals.{Answer}
 use Rattle.model.specs.Refusals.{number}
 use Rattle.model.specs.Replies.{yields}
 use Rattle.movement.specs.Figures.{changes}
 use Rattle.sheets.specs.Decoded.{net_of, weights_of}
 use Rattle.fire.specs.step.Calls.{step_modes}
 use Rattle.fire.specs.step.Allowed.{FireStepAllows}
-use Rattle.statement.specs.declared.weigh.Figured.{Figured}
 use Rattle.statement.specs.weigh.Calls as weigh
 use Rattle.statement.specs.weigh.Allowed.{FigureAllows}
 
 abbrev pub FigureStepped : Type 0
 FigureStepped = (net weights m modes after : List ℕ) (told : Answer) → FireStepAllows net m modes (told, after) → number told ≡ 0
-    → (before : Figured) → FigureAllows net weights m before → (figure : ℤ) → weigh.told before ≡ yields figure
-    → (o : Figured) → FigureAllows net weights after o → weigh.told o ≡ yields (figure +ℤ changes (net_of net) (weights_of weights) (step_modes modes))
+    → (before : Result ℤ Refusal) → FigureAllows net weights m before → (figure : ℤ) → weigh.told before ≡ yields figure
+    → (o : Result ℤ Refusal) → FigureAllows net weights after o → weigh.told o ≡ yields (figure +ℤ changes (net_of net) (weights_of weights) (step_modes modes))

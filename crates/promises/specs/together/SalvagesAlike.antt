@@ -1,5 +1,6 @@
 -- Salvage (document 02, P11) over a net sheet and over its complement's: one movement sheet is kept of the same damaged bytes, whatever they are.
-use Rattle.std.specs.Prelude.{ℕ, ◌≡◌, List, get_or}
+use Rattle.model.specs.declared.Refusal.{Refusal}
+use Rattle.std.specs.Prelude.{ℕ, ◌≡◌, List, get_or, Result}
 use Rattle.model.specs.declared.Thing.TheVariants.{Movements}
 use Rattle.model.specs.Refusals.{answer, number}
 use Rattle.model.specs.Replies.{yields}
@@ -10,7 +11,6 @@ use Rattle.run.specs.declared.Ran.{Ran}
 use Rattle.run.specs.Allowed.{RunAllows}
 use Rattle.damaged.specs.Damaged.{modes_in}
 use Rattle.run.specs.declared.salvage.Report.{Report}
-use Rattle.run.specs.declared.salvage.Salvaged.{Salvaged}
 use Rattle.run.specs.salvage.Salvaged.{told, trial}
 use Rattle.run.specs.salvage.Allowed.{SalvageAllows}
 use Rattle.run.specs.salvage.Promises.{AllBytes}
@@ -25,7 +25,7 @@ pub record ReportsAlike (net damaged : List ℕ) (r r' : Report) : Type 0 where
   pub stop : r'.stop ≡ answer (becomes Movements (net_of net) (get_or (modes_in damaged) r.kept (mode_no 0)) (trial net damaged).marking (trial net damaged).refusal)
 
 -- one output slice lent to both: the same bytes after, and the same refusal if there is one
-pub record SalvagedAlike (net damaged : List ℕ) (o o' : Salvaged × List ℕ) : Type 0 where
+pub record SalvagedAlike (net damaged : List ℕ) (o o' : Result Report Refusal × List ℕ) : Type 0 where
   pub output : o'.1 ≡ o.1
   pub carried : (told o'.0).carried ≡ (told o.0).carried
   pub reports : (r r' : Report) → told o.0 ≡ yields r → told o'.0 ≡ yields r' → ReportsAlike net damaged r r'
@@ -37,7 +37,7 @@ pub record RunsInBoth (net : List ℕ) (kept : ℕ) (o o' : Ran × List ℕ) : T
   pub finds_none : FindsNone net o.1 o'.1
 
 pub record SalvagesBeside (net sheet damaged : List ℕ) : Type 0 where
-  pub alike : (out : List ℕ) (o o' : Salvaged × List ℕ) → SalvageAllows net damaged out o → SalvageAllows sheet damaged out o' → SalvagedAlike net damaged o o'
+  pub alike : (out : List ℕ) (o o' : Result Report Refusal × List ℕ) → SalvageAllows net damaged out o → SalvageAllows sheet damaged out o' → SalvagedAlike net damaged o o'
   pub runs : (fresh : List ℕ) (report : Report) → AllBytes damaged → SalvageWrote net damaged fresh report
       → (o o' : Ran × List ℕ) → RunAllows net fresh (net_of net).start o → RunAllows sheet fresh (net_of sheet).start o' → RunsInBoth net report.kept o o'
 

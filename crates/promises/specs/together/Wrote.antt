@@ -1,5 +1,6 @@
 -- What a call wrote into an output slice, whatever slice it was lent: the bytes whose length an outcome that its contract allows yields.
-use Rattle.std.specs.Prelude.{ℕ, ◌≡◌, List, length, take}
+use Rattle.model.specs.declared.Refusal.{Refusal}
+use Rattle.std.specs.Prelude.{ℕ, ◌≡◌, List, length, take, Result}
 use Rattle.model.specs.declared.Pair.{Pair}
 use Rattle.model.specs.Replies.{Reply, yields}
 use Rattle.sheets.specs.Emitted as emitting
@@ -8,7 +9,6 @@ use Rattle.convert.specs.strip.Allowed.{StripAllows}
 use Rattle.export.specs.Allowed.{ExportPnmlAllows}
 use Rattle.import.specs.Allowed.{ImportPnmlAllows}
 use Rattle.run.specs.declared.salvage.Report.{Report}
-use Rattle.run.specs.declared.salvage.Salvaged.{Salvaged}
 use Rattle.run.specs.salvage.Salvaged as salvaging
 use Rattle.run.specs.salvage.Allowed.{SalvageAllows}
 
@@ -36,7 +36,7 @@ ImportWrote text sheet = CallWrote (ImportPnmlAllows text) emitting.told sheet
 -- of damaged bytes, a fresh movement sheet, and what is reported of it
 pub record SalvageWrote (net damaged sheet : List ℕ) (report : Report) : Type 0 where
   pub out : List ℕ
-  pub outcome : Salvaged × List ℕ
+  pub outcome : Result Report Refusal × List ℕ
   pub allowed : SalvageAllows net damaged out outcome
   pub answered : salvaging.told outcome.0 ≡ yields report
   pub written : take report.length outcome.1 ≡ sheet

@@ -1,9 +1,6 @@
--- Pre is at most the count, or nothing of it is left.
+-- No more than the count is taken off it.
 use native.Mathlib.Omega.{arith}
 use Rattle.rule.proofs.moved.Goals as goal
-
-pub returns-then-count-arc : goal.returns-then-count-arc
-returns-then-count-arc c = omega arith
 
 pub returns : goal.returns
 returns c = omega arith

@@ -1,17 +1,14 @@
 -- The net's refusal, or the certificate once it is open.
-use Rattle.opened.proofs.Opening.{opens}
 use Rattle.run.specs.Calls.{certify_refusal}
 use Rattle.fire.proofs.Opening.{sheet-refused, sheet_open}
+use Rattle.model.proofs.Asking.{handed_on}
 use Rattle.run.proofs.certify.Goals as goal
 
-pub certify_open-requires : goal.certify_open-requires
-certify_open-requires c = opens _ c.open_net-opened.ensures c.in-Open.is
-
-pub returns-in-Refused : goal.returns-in-Refused
+pub returns-in_err-net : goal.returns-in_err-net
 unfolding certify_refusal
-returns-in-Refused c = sheet-refused _ _ c.open_net-opened.ensures c.in-Refused.is
+returns-in_err-net c = rw (handed_on c.from_residual.ensures) (sheet-refused _ _ c.in_err-net.ensures)
 
-pub returns-in-Open : goal.returns-in-Open
+pub returns : goal.returns
 unfolding certify_refusal
-returns-in-Open c =
-    sheet_open _ _ c.open_net-opened.ensures c.in-Open.is c.certify_open.ensures
+returns c =
+    sheet_open _ _ c.in_ok-net.ensures.0 (rw c.in_ok-net.ensures.1 at c.certify_open.ensures)

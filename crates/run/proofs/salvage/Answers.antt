@@ -1,4 +1,5 @@
 -- The order of the refusals, what the run tells, and what an accepted salvage leaves.
+use Rattle.std.specs.Prelude.{Result, Ok, Err}
 use Prim.Native.Nat.{ℕ, ◌+◌, ◌-◌, ◌*◌, ◌≤◌, ◌<◌}
 use mathlib.Core.Path.{◌≡◌, refl, sym, ◌∙◌, ap, subst}
 use mathlib.Core.List.{List}
@@ -9,7 +10,7 @@ use native.Mathlib.Omega.{arith}
 use Rattle.model.specs.declared.Thing.TheVariants.{Net}
 use Rattle.model.specs.declared.Fault.TheVariants.{NoRoom}
 use Rattle.model.specs.declared.Refusal.{Refusal}
-use Rattle.model.specs.declared.Answer.{Answer}
+use Rattle.model.specs.Refusals.{Answer}
 use Rattle.model.specs.First.{◌▸◌}
 use Rattle.model.specs.Refusals.{wrong}
 use Rattle.movement.specs.Runs.{run}
@@ -28,8 +29,6 @@ use Rattle.run.specs.Parts.{Reports}
 use Rattle.damaged.specs.Damaged.{damaged_refusal, considered, modes_in}
 use Rattle.run.proofs.salvage.Considered.{modes-are, modes-length, first-long}
 use Rattle.run.specs.declared.salvage.Report.{Report}
-use Rattle.run.specs.declared.salvage.Salvaged.{Salvaged}
-use Rattle.run.specs.declared.salvage.Salvaged.TheVariants.{Written, Refused}
 use Rattle.run.specs.salvage.Salvaged.{sheet_of_first, report_of, salvaged, trial, kept, report, fresh_sheet}
 use Rattle.run.specs.salvage.Parts.{ran_on}
 use Rattle.run.proofs.salvage.MovementSheets.{sheet-length}
@@ -61,19 +60,20 @@ module _ (s : List ℕ) (k : ℕ) (h : k ≤ considered s) where
   roomy {room} l = rw (le-ltb room (length (sheet_of_first s k)) (omega (arith, first-length))) refl
 
 -- a refusal, with nothing written, and a sheet from the first byte on with its report
-pub refused : {o : Option Refusal} {r : Refusal} (told : Report) (sheet found : List ℕ) → o ≡ some r → (Refused r ≡ salvaged o told) × (found ≡ output o sheet found)
-refused told sheet found e = rw e (refl, refl)
+pub refused : {o : Option Refusal} {b : Result Report Refusal} {r : Refusal} (told : Report) (sheet found : List ℕ) → o ≡ some r → b ≡ Err r
+    → (b ≡ salvaged o told) × (found ≡ output o sheet found)
+refused told sheet found e h = rw e (h, refl)
 
 pub written : {o : Option Refusal} {found now : List ℕ} {after count : ℕ} (s : List ℕ) (k : ℕ) (stop : Answer) → o ≡ none → count ≡ considered s
     → length (sheet_of_first s k) ≤ length found → Puts found 0 (sheet_of_first s k) now after
-    → (Written (record { length = after; kept = k; dropped = count - k; stop = stop }) ≡ salvaged o (report_of s k stop))
+    → (Ok (record { length = after; kept = k; dropped = count - k; stop = stop }) ≡ salvaged o (report_of s k stop))
     × (now ≡ output o (sheet_of_first s k) found)
 written {after = after} s k stop e q h p =
     let long : after ≡ length (sheet_of_first s k) = omega (arith, p.next) in
-    rw e (λ i. Written (record { length = long i; kept = k; dropped = q i - k; stop = stop }), from_start p.written h)
+    rw e (λ i. Ok (record { length = long i; kept = k; dropped = q i - k; stop = stop }), from_start p.written h)
 
 -- bytes that are not refused, and a run that told this
-pub goes_on : (net s out : List ℕ) {left : List ℕ} {ran : Ran} {x : Salvaged} → damaged_refusal s ≡ none → ran ≡ ran_on net s
+pub goes_on : (net s out : List ℕ) {left : List ℕ} {ran : Ran} {x : Result Report Refusal} → damaged_refusal s ≡ none → ran ≡ ran_on net s
     → (x ≡ salvaged (too_short (sheet_of_first s ran.accepted) (length out)) (report_of s ran.accepted ran.answer))
     × (left ≡ output (too_short (sheet_of_first s ran.accepted) (length out)) (sheet_of_first s ran.accepted) out)
     → (x ≡ salvaged (damaged_refusal s ▸ too_short (fresh_sheet net s) (length out)) (report net s))

@@ -10,7 +10,7 @@ use native.Mathlib.Omega.{arith}
 use Rattle.model.specs.declared.Mode.{Mode}
 use Rattle.model.specs.declared.Thing.TheVariants.{Movements}
 use Rattle.model.specs.declared.Refusal.{Refusal}
-use Rattle.model.specs.declared.Answer.TheVariants as answers
+use Rattle.std.specs.Prelude.{Ok, Err}
 use Rattle.model.specs.First.{◌▸◌}
 use Rattle.model.specs.Nets.{PNet, mode_no}
 use Rattle.model.specs.Firing.{mode_refusal}
@@ -35,7 +35,6 @@ use Rattle.run.proofs.Promises.{runs_leave_lem}
 use Rattle.damaged.specs.Damaged.{damaged_refusal, considered, modes_in}
 use Rattle.run.proofs.salvage.Considered.{modes-are, modes-length, first-modes, most-considered}
 use Rattle.run.specs.declared.salvage.Report.{Report}
-use Rattle.run.specs.declared.salvage.Salvaged.TheVariants.{Written}
 use Rattle.run.specs.salvage.MovementSheet.{movement_sheet}
 use Rattle.run.specs.salvage.Salvaged.{salvaged, trial, kept, report, fresh_sheet, salvage_refusal}
 use Rattle.run.specs.salvage.Promises.{AllBytes, ListBack, RunStops, Salvages, SalvagedRuns, WholeComesBack}
@@ -102,7 +101,7 @@ module _ (net : List ℕ) (accepted : whole_net net ≡ none) where
     more-back : k < considered s → ListBack one_more
     more-back h = rw (← take-suc (modes_in s) k (mode_no 0) (rw modes-length h)) (first_back s bytes (suc k) (omega arith))
 
-    more-stops : (o : Option Refusal) → (trial net s).refusal ≡ o → k < considered s → (r : Refusal) × (answer o ≡ answers.Refused r) × RunStops net one_more r
+    more-stops : (o : Option Refusal) → (trial net s).refusal ≡ o → k < considered s → (r : Refusal) × (answer o ≡ Err r) × RunStops net one_more r
     more-stops none e h = absurd (omega (arith, kept_whole.0 e))
     more-stops (some r) e h = (
       r,
@@ -128,7 +127,7 @@ module _ (net : List ℕ) (accepted : whole_net net ≡ none) where
         }
 
 -- a report is told only where nothing is refused
-pub report-told : (o : Option Refusal) {x y : Report} → Written x ≡ salvaged o y → (o ≡ none) × (x ≡ y)
+pub report-told : (o : Option Refusal) {x y : Report} → Ok x ≡ salvaged o y → (o ≡ none) × (x ≡ y)
 report-told none e = (refl, cc)
 report-told (some r) e = let z : ◌≡◌ {A = ℕ} 0 1 = cc in absurd (omega arith)
 
@@ -191,18 +190,18 @@ module _ (net s : List ℕ) (bytes : AllBytes s) (e : (run_of net s (net_of net)
       let part = kept-part net s in
       none_then net-accepted (none_then (not_damaged s sheet-accepted) (roomy s (kept net s) part (omega (arith, first-length s (kept net s) part, ap length fresh-is))))
 
-  report-is : record { length = length s; kept = length (movements_of s); dropped = 0; stop = answers.Accepted } ≡ report net s
+  report-is : record { length = length s; kept = length (movements_of s); dropped = 0; stop = (Ok tt) } ≡ report net s
   report-is =
       let long : length s ≡ length (fresh_sheet net s) = ap length (sym fresh-is) in
       let many : length (movements_of s) ≡ kept net s = ap length (sym (same-modes s sheet-accepted)) ∙ sym all-kept in
       let fewer : 0 ≡ (report net s).dropped = omega (arith, all-kept, modes-length s) in
-      let stop : answers.Accepted ≡ (report net s).stop = ap answer (sym none-stops) in
+      let stop : (Ok tt) ≡ (report net s).stop = ap answer (sym none-stops) in
       λ i. record { length = long i; kept = many i; dropped = fewer i; stop = stop i }
 
   pub comes_back_lem : (out : List ℕ) → length s ≤ length out
-      → (Written (record { length = length s; kept = length (movements_of s); dropped = 0; stop = answers.Accepted }) ≡ salvaged (salvage_refusal net s (length out)) (report net s))
+      → (Ok (record { length = length s; kept = length (movements_of s); dropped = 0; stop = (Ok tt) }) ≡ salvaged (salvage_refusal net s (length out)) (report net s))
       × (s ++ drop (length s) out ≡ output (salvage_refusal net s (length out)) (fresh_sheet net s) out)
-  comes_back_lem out h = rw (none-refused (length out) h) (ap Written report-is, rw fresh-is refl)
+  comes_back_lem out h = rw (none-refused (length out) h) (ap Ok report-is, rw fresh-is refl)
 
 pub whole_comes_back_lem : WholeComesBack
 whole_comes_back_lem net s out bytes e h = comes_back_lem net s bytes e out h

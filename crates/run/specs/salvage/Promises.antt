@@ -3,7 +3,7 @@ use Rattle.std.specs.Prelude.{ℕ, ◌+◌, ◌≤◌, ◌<◌, ◌≡◌, List,
 use Rattle.std.proofs.Math.Option.{none, some}
 use Rattle.model.specs.declared.Mode.{Mode}
 use Rattle.model.specs.declared.Refusal.{Refusal}
-use Rattle.model.specs.declared.Answer.TheVariants as answers
+use Rattle.std.specs.Prelude.{Ok, Err}
 use Rattle.model.specs.Nets.{mode_no}
 use Rattle.heads.specs.Bytes.{byte_at}
 use Rattle.sheets.specs.lists.Movements.{most_movements}
@@ -12,7 +12,6 @@ use Rattle.sheets.specs.Decoded.{net_of, movements_of}
 use Rattle.run.specs.Calls.{run_of}
 use Rattle.damaged.specs.Damaged.{considered, modes_in}
 use Rattle.run.specs.declared.salvage.Report.{Report}
-use Rattle.run.specs.declared.salvage.Salvaged.TheVariants.{Written}
 use Rattle.run.specs.salvage.MovementSheet.{movement_sheet}
 use Rattle.run.specs.salvage.Allowed.{SalvageAllows}
 
@@ -44,17 +43,17 @@ pub record Salvages (net damaged sheet : List ℕ) (report : Report) : Type 0 wh
   pub runs_whole : (run_of net sheet (net_of net).start).refusal ≡ none
   -- "with the first dropped mode added, where one was dropped, it would not"
   pub no_longer : 0 < report.dropped
-      → (r : Refusal) × (report.stop ≡ answers.Refused r) × RunStops net (movements_of sheet ++ get_or (modes_in damaged) report.kept (mode_no 0) ∷ []) r
+      → (r : Refusal) × (report.stop ≡ Err r) × RunStops net (movements_of sheet ++ get_or (modes_in damaged) report.kept (mode_no 0) ∷ []) r
   -- "movements kept, movements considered but dropped, and the first refusal's number and position, 0 and 0 if none"
   pub counted : report.kept + report.dropped ≡ considered damaged
-  pub stopless : (report.stop ≡ answers.Accepted) ↔ (report.dropped ≡ 0)
+  pub stopless : (report.stop ≡ Ok tt) ↔ (report.dropped ≡ 0)
 
 abbrev pub SalvagedRuns : Type 0
-SalvagedRuns = (net damaged out left : List ℕ) (report : Report) → AllBytes damaged → SalvageAllows net damaged out (Written report, left)
+SalvagedRuns = (net damaged out left : List ℕ) (report : Report) → AllBytes damaged → SalvageAllows net damaged out (Ok report, left)
     → Salvages net damaged (take report.length left) report
 
 -- A sheet that is whole and runs whole comes back byte for byte.
 abbrev pub WholeComesBack : Type 0
 WholeComesBack = (net sheet out : List ℕ) → AllBytes sheet → (run_of net sheet (net_of net).start).refusal ≡ none → length sheet ≤ length out
     → SalvageAllows net sheet out
-    (Written (record { length = length sheet; kept = length (movements_of sheet); dropped = 0; stop = answers.Accepted }), sheet ++ drop (length sheet) out)
+    (Ok (record { length = length sheet; kept = length (movements_of sheet); dropped = 0; stop = (Ok tt) }), sheet ++ drop (length sheet) out)

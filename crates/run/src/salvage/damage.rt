@@ -19,5 +19,5 @@ pub(crate) fn read_damaged(s: &[u8]) -> Answer
     if s[4] != 1 {
         return refused(Thing::Movements, Fault::WrongVersion(4));
     }
-    Answer::Accepted
+    Ok(())
 }

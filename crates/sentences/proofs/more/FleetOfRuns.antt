@@ -11,7 +11,7 @@ use lib.Seq.{take-suc}
 use native.Mathlib.Omega.{arith}
 use Rattle.model.specs.declared.Mode.{Mode}
 use Rattle.model.specs.declared.Thing.TheVariants.{Argument}
-use Rattle.model.specs.declared.Answer.{Answer}
+use Rattle.model.specs.Refusals.{Answer}
 use Rattle.model.specs.Refusals.{answer, number}
 use Rattle.model.specs.Lists.{table}
 use Rattle.model.specs.Nets.{total, pairs, modes, mode_no}

@@ -136,7 +136,7 @@ module _ (back sheet : List ℕ) (w : whole_net back ≡ none) (w' : whole_net s
   moves-alike Public.exclude i answer left h = rw (exclude-same i.1 i.2) h
   moves-alike Public.fleet_add i answer left h = rw (entered-same i.0 i.2 i.3) h
   moves-alike Public.is_dead i answer left h = rw (dead-refusal-same i.1, dead-same i.1) h
-  moves-alike Public.first_dead i answer left h = rw (w, first-dead-same _ _ same, ← w') h
+  moves-alike Public.first_dead i answer left h = rw (w, first-dead-same _ _ same) (rw w' at h)
   moves-alike Public.size i answer left h = h ∙ sym size_same
   moves-alike Public.complement i answer left h = h
   moves-alike Public.strip i answer left h = h

@@ -1,7 +1,8 @@
 -- The fleet statement (document 02, P13) beside the ships' own calls: each total is made of what run, figure and change say of the ships counted.
-use Rattle.std.specs.Prelude.{ℕ, ◌<◌, ◌≡◌, cond, eqb, ℤ, pos, ◌+ℤ◌, ◌-ℤ◌, length, get_or}
+use Rattle.model.specs.declared.Refusal.{Refusal}
+use Rattle.std.specs.Prelude.{ℕ, ◌<◌, ◌≡◌, cond, eqb, ℤ, pos, ◌+ℤ◌, ◌-ℤ◌, length, get_or, Result}
 use mathlib.Core.List.{List, map, Memᴰ}
-use Rattle.model.specs.declared.Answer.{Answer}
+use Rattle.model.specs.Refusals.{Answer}
 use Rattle.model.specs.Refusals.{number}
 use Rattle.model.specs.Replies.{yields}
 use Rattle.model.specs.Lists.{table}
@@ -9,7 +10,6 @@ use Rattle.model.specs.Nets.{total, mode_no}
 use Rattle.sheets.specs.Decoded.{net_of, movements_of}
 use Rattle.run.specs.declared.Ran.{Ran}
 use Rattle.run.specs.Allowed.{RunAllows}
-use Rattle.statement.specs.declared.weigh.Figured.{Figured}
 use Rattle.statement.specs.weigh.Calls.{told}
 use Rattle.statement.specs.weigh.Allowed.{FigureAllows, ChangeAllows}
 use Rattle.ships.specs.declared.Fleet.{Fleet}
@@ -28,11 +28,11 @@ pub record Own : Type 0 where
 -- its calls say them: a run from its first marking, the figure of that marking and of the one that the run leaves, the change of each movement
 pub record Says (s : Ship) (own : Own) : Type 0 where
   pub runs : (o : Ran × List ℕ) → RunAllows s.net s.movements (net_of s.net).start o → (o.0.accepted ≡ own.accepted) × (o.0.answer ≡ own.answer)
-  pub starts : (f : Figured) → FigureAllows s.net s.weights (net_of s.net).start f → told f ≡ yields own.first
+  pub starts : (f : Result ℤ Refusal) → FigureAllows s.net s.weights (net_of s.net).start f → told f ≡ yields own.first
   pub ends : (o : Ran × List ℕ) → RunAllows s.net s.movements (net_of s.net).start o
-      → (f : Figured) → FigureAllows s.net s.weights o.1 f → told f ≡ yields own.last
+      → (f : Result ℤ Refusal) → FigureAllows s.net s.weights o.1 f → told f ≡ yields own.last
   pub moves : (k : ℕ) → k < own.accepted
-      → (f : Figured) → ChangeAllows s.net s.weights (get_or (movements_of s.movements) k (mode_no 0)) f → told f ≡ yields (own.change k)
+      → (f : Result ℤ Refusal) → ChangeAllows s.net s.weights (get_or (movements_of s.movements) k (mode_no 0)) f → told f ≡ yields (own.change k)
 
 -- how many runs ended by that number
 abbrev pub ended_by : ℕ → (Ship → Own) → List Ship → ℕ

@@ -1,8 +1,9 @@
 -- More frauds that a contract excludes, of calls of document 02, beside those of promises/specs/Frauds.antt.
-use Rattle.std.specs.Prelude.{ℕ, ◌+◌, ◌≤◌, ◌<◌, ◌≡◌, true, List, ◌∷◌, ◌≢◌}
+use Rattle.model.specs.declared.Refusal.{Refusal}
+use Rattle.std.specs.Prelude.{ℕ, ◌+◌, ◌≤◌, ◌<◌, ◌≡◌, true, List, ◌∷◌, ◌≢◌, Result, Bool}
 use Rattle.model.specs.declared.CapacityRule.TheVariants.{Strong}
 use Rattle.model.specs.declared.Mode.{Mode}
-use Rattle.model.specs.declared.Answer.{Answer}
+use Rattle.model.specs.Refusals.{Answer}
 use Rattle.model.specs.Refusals.{number}
 use Rattle.model.specs.Replies.{yields}
 use Rattle.model.specs.Numbers.{fin}
@@ -14,7 +15,6 @@ use Rattle.run.specs.declared.Ran.{Ran}
 use Rattle.run.specs.Allowed.{RunAllows}
 use Rattle.fire.specs.step.Calls.{step_modes}
 use Rattle.fire.specs.step.Allowed.{TestStepAllows}
-use Rattle.opened.specs.declared.dead.Deadness.{Deadness}
 use Rattle.opened.specs.dead.IsDead as dead
 use Rattle.opened.specs.dead.Allowed.{IsDeadAllows}
 use Rattle.ships.specs.declared.Fleet.{Fleet}
@@ -31,7 +31,7 @@ FirstMemberAsked = (net m : List ℕ) (first : ℕ) (later : List ℕ) (p : ℕ)
 abbrev pub AsBeforeP2 : Type 0
 AsBeforeP2 = (net : List ℕ) (t : Mode) (p k : ℕ) → (net_of net).rule ≡ Strong → p < pairs (net_of net) → K (net_of net) p ≡ fin k
     → (row (net_of net) t p).pre ≤ k → (row (net_of net) t p).post ≤ k → k < (row (net_of net) t p).pre + (row (net_of net) t p).post
-    → (o : Deadness) → IsDeadAllows net t o → (dead.told o).carried.number ≡ 0 → dead.told o ≡ yields true
+    → (o : Result Bool Refusal) → IsDeadAllows net t o → (dead.told o).carried.number ≡ 0 → dead.told o ≡ yields true
 
 -- A fleet statement that passes over what a counted ship's own run says (P13): the movements accepted, or the number that refused the next.
 abbrev pub PassesOver : (Ran → Type 0) → (Fleet → ℕ) → Type 0

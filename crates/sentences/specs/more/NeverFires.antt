@@ -1,10 +1,11 @@
 -- A mode that `is_dead` says yes of (document 02, P2) never fires: alone, in a step, in a run, in a certificate, of what a salvage keeps; in the net, and in the
 -- complement, where no mode is locally dead (P4).
-use Rattle.std.specs.Prelude.{ℕ, ◌<◌, ◌≡◌, true, List, [], ◌∷◌, ◌≢◌, length, take, get_or}
+use Rattle.model.specs.declared.Refusal.{Refusal}
+use Rattle.std.specs.Prelude.{ℕ, ◌<◌, ◌≡◌, true, List, [], ◌∷◌, ◌≢◌, length, take, get_or, Result, Bool}
 use Rattle.std.proofs.Math.Option.{none}
 use Rattle.model.specs.declared.Mode.{Mode}
 use Rattle.model.specs.declared.Thing.TheVariants.{Argument}
-use Rattle.model.specs.declared.Answer.{Answer}
+use Rattle.model.specs.Refusals.{Answer}
 use Rattle.model.specs.Refusals.{number}
 use Rattle.model.specs.Replies.{yields}
 use Rattle.model.specs.Numbers.{∞}
@@ -19,7 +20,6 @@ use Rattle.run.specs.declared.Ran.{Ran}
 use Rattle.run.specs.Allowed.{RunAllows, CertifyAllows}
 use Rattle.fire.specs.step.Calls.{step_modes}
 use Rattle.fire.specs.step.Allowed.{TestStepAllows, FireStepAllows}
-use Rattle.opened.specs.declared.dead.Deadness.{Deadness}
 use Rattle.opened.specs.dead.IsDead.{told}
 use Rattle.opened.specs.dead.Allowed.{IsDeadAllows}
 use Rattle.run.specs.declared.salvage.Report.{Report}
@@ -51,7 +51,7 @@ pub record NeverFires (net : List ℕ) (t : Mode) : Type 0 where
       → number o ≡ 11
 
 abbrev pub DeadNeverFire : Type 0
-DeadNeverFire = (net : List ℕ) (t : Mode) (o : Deadness) → IsDeadAllows net t o → told o ≡ yields true → NeverFires net t
+DeadNeverFire = (net : List ℕ) (t : Mode) (o : Result Bool Refusal) → IsDeadAllows net t o → told o ≡ yields true → NeverFires net t
 
 -- Beside no marking of the net it may: Post 6 at K 5 is dead, and the complement lets it pass where 6 stand at the complement pair, one more than K.
 pub record FiresElsewhere : Type 0 where

@@ -1,7 +1,7 @@
 -- A claim that an exclusion accepts (document 02, P8) is reached by no call and certified by none, those of the later requests too.
 use Rattle.std.specs.Prelude.{ℕ, ◌≡◌, List, ◌≢◌}
 use Rattle.model.specs.declared.Mode.{Mode}
-use Rattle.model.specs.declared.Answer.{Answer}
+use Rattle.model.specs.Refusals.{Answer}
 use Rattle.model.specs.Refusals.{number}
 use Rattle.movement.specs.Promises.{Leads}
 use Rattle.sheets.specs.Decoded.{net_of}

@@ -1,43 +1,40 @@
 -- Document 01's own example, as the calls are given it, and what their contracts allow on it.
-use Rattle.std.specs.Prelude.{ℕ, ◌≡◌, false, List, [], ◌∷◌, ◌++◌, pos, negsuc, take, replicate}
+use Rattle.opened.specs.declared.size.NetSize.{NetSize}
+use Rattle.model.specs.declared.Pair.{Pair}
+use Rattle.model.specs.declared.Mode.{Mode}
+use Rattle.model.specs.declared.Refusal.{Refusal}
+use Rattle.std.specs.Prelude.{Option as Perhaps, ℕ, ◌≡◌, false, List, [], ◌∷◌, ◌++◌, pos, negsuc, take, replicate, Result, Bool, ℤ}
 use Rattle.std.proofs.Math.Option.{none, some}
-use Rattle.model.specs.declared.Answer.{Answer}
+use Rattle.model.specs.Refusals.{Answer}
 use Rattle.model.specs.declared.Version.TheVariants.{One}
 use Rattle.model.specs.Refusals.{number, carries_by, carried, carries}
 use Rattle.model.specs.Replies.{yields}
 use Rattle.model.specs.Nets.{PNet, pair_no, mode_no}
 use Rattle.both_forms.specs.WorkedExamples.{own_example}
 use Rattle.sheets.specs.written.Written.{sheet_of}
-use Rattle.sheets.specs.declared.Emitted.{Emitted}
 use Rattle.sheets.specs.Emitted as emitting
 use Rattle.fire.specs.Allowed.{BeginAllows, TestAllows, FireAllows}
 use Rattle.run.specs.declared.Ran.{Ran}
 use Rattle.run.specs.Allowed.{RunAllows, CertifyAllows}
 use Rattle.fire.specs.step.Allowed.{TestStepAllows, FireStepAllows}
-use Rattle.statement.specs.declared.weigh.Figured.{Figured}
 use Rattle.statement.specs.weigh.Calls as figuring
 use Rattle.statement.specs.weigh.Allowed.{FigureAllows, ChangeAllows}
 use Rattle.ships.specs.declared.Fleet.{Fleet}
 use Rattle.ships.specs.Promises.{zeros}
 use Rattle.statement.specs.fleet.Allowed.{AddShipAllows}
 use Rattle.statement.specs.exclude.Allowed.{ExcludeAllows}
-use Rattle.opened.specs.declared.dead.Deadness.{Deadness}
-use Rattle.opened.specs.declared.dead.FirstDead.{FirstDead}
 use Rattle.opened.specs.dead.IsDead as one
 use Rattle.opened.specs.dead.FirstDead as first
 use Rattle.opened.specs.dead.Allowed.{IsDeadAllows, FirstDeadAllows}
-use Rattle.opened.specs.declared.size.Measured.{Measured}
 use Rattle.opened.specs.size.Sizes as sizing
 use Rattle.opened.specs.size.Allowed.{SizeAllows}
 use Rattle.complement.specs.Allowed.{ComplementAllows}
 use Rattle.pnml.specs.Pnml.{opening, closing}
 use Rattle.export.specs.Allowed.{ExportPnmlAllows}
 use Rattle.import.specs.Allowed.{ImportPnmlAllows}
-use Rattle.complement.specs.declared.audit.Found.{Found}
 use Rattle.complement.specs.audit.Audits as auditing
 use Rattle.complement.specs.audit.Allowed.{AuditAllows}
 use Rattle.run.specs.declared.salvage.Report.{Report}
-use Rattle.run.specs.declared.salvage.Salvaged.{Salvaged}
 use Rattle.run.specs.salvage.Salvaged as salvaging
 use Rattle.run.specs.salvage.Allowed.{SalvageAllows}
 use Rattle.statement.specs.Example.{weights, movements}
@@ -94,7 +91,7 @@ pub record RunsTo (o : Ran × List ℕ) : Type 0 where
   pub marking : o.1 ≡ 0 ∷ 3 ∷ []
 
 -- its fourth movement is dropped: the sheet written lists three, in 11 bytes
-pub record SalvagesTo (o : Salvaged × List ℕ) : Type 0 where
+pub record SalvagesTo (o : Result Report Refusal × List ℕ) : Type 0 where
   pub report : Report
   pub told : salvaging.told o.0 ≡ yields report
   pub counts : (report.length ≡ 11) × (report.kept ≡ 3) × (report.dropped ≡ 1)
@@ -111,12 +108,12 @@ pub record OwnExample : Type 0 where
   pub test_step : (told : Answer) → TestStepAllows net (3 ∷ 0 ∷ []) five told → carried told ≡ carries_by 11 3 0 2
   -- "refused 4 0 11 0 1", "end 3 0"; four movements tried, of two arcs each
   pub run : (o : Ran × List ℕ) → RunAllows net movements (3 ∷ 0 ∷ []) o → RunsTo o
-  pub salvage : (o : Salvaged × List ℕ) → SalvageAllows net movements room o → SalvagesTo o
+  pub salvage : (o : Result Report Refusal × List ℕ) → SalvageAllows net movements room o → SalvagesTo o
   pub certify : (told : Answer) → CertifyAllows net three (0 ∷ 3 ∷ []) told → number told ≡ 0
   -- "start 750"
-  pub figure : (o : Figured) → FigureAllows net weights (3 ∷ 0 ∷ []) o → figuring.told o ≡ yields (pos 750)
+  pub figure : (o : Result ℤ Refusal) → FigureAllows net weights (3 ∷ 0 ∷ []) o → figuring.told o ≡ yields (pos 750)
   -- -250
-  pub change : (o : Figured) → ChangeAllows net weights (mode_no 0) o → figuring.told o ≡ yields (negsuc 249)
+  pub change : (o : Result ℤ Refusal) → ChangeAllows net weights (mode_no 0) o → figuring.told o ≡ yields (negsuc 249)
   -- a ship of its three sheets into a record of zeros: three movements of 250 kilograms off, the fourth refused by 11
   pub add_ship : (o : Answer × Fleet) → AddShipAllows zeros net weights movements o
       → (number o.0 ≡ 0) × (o.1 ≡ record { ships = 1; movements = 3; by6 = 0; by11 = 1; by12 = 0; by13 = 0; by14 = 0; added = pos 0; removed = pos 750 })
@@ -124,13 +121,13 @@ pub record OwnExample : Type 0 where
   pub exclude : (told : Answer) → ExcludeAllows net even (3 ∷ 1 ∷ []) told → number told ≡ 0
   pub not_excluded : (told : Answer) → ExcludeAllows net even (0 ∷ 3 ∷ []) told → carried told ≡ carries 22 0 0
   pub not_balanced : (told : Answer) → ExcludeAllows net weights (3 ∷ 1 ∷ []) told → carried told ≡ carries 21 0 0
-  pub is_dead : (o : Deadness) → IsDeadAllows net (mode_no 0) o → one.told o ≡ yields false
-  pub first_dead : (o : FirstDead) → FirstDeadAllows net o → first.told o ≡ yields none
+  pub is_dead : (o : Result Bool Refusal) → IsDeadAllows net (mode_no 0) o → one.told o ≡ yields false
+  pub first_dead : (o : Result (Perhaps (Mode × Pair)) Refusal) → FirstDeadAllows net o → first.told o ≡ yields none
   -- two places of one colour, one mode, two arcs
-  pub size : (o : Measured) → SizeAllows net o → sizing.told o ≡ yields (record { pairs = 2; modes = 1; arcs = 2 })
-  pub complement : (o : Emitted × List ℕ) → ComplementAllows net room o → emitting.told o.0 ≡ yields 91
+  pub size : (o : Result NetSize Refusal) → SizeAllows net o → sizing.told o ≡ yields (record { pairs = 2; modes = 1; arcs = 2 })
+  pub complement : (o : Result ℕ Refusal × List ℕ) → ComplementAllows net room o → emitting.told o.0 ≡ yields 91
   -- its complement to the byte in PNML, and back
-  pub export_pnml : (o : Emitted × List ℕ) → ExportPnmlAllows complement_net (replicate 887 0) o → (emitting.told o.0 ≡ yields 887) × (o.1 ≡ text)
-  pub import_pnml : (o : Emitted × List ℕ) → ImportPnmlAllows text room o → (emitting.told o.0 ≡ yields 91) × (o.1 ≡ complement_net)
+  pub export_pnml : (o : Result ℕ Refusal × List ℕ) → ExportPnmlAllows complement_net (replicate 887 0) o → (emitting.told o.0 ≡ yields 887) × (o.1 ≡ text)
+  pub import_pnml : (o : Result ℕ Refusal × List ℕ) → ImportPnmlAllows text room o → (emitting.told o.0 ≡ yields 91) × (o.1 ≡ complement_net)
   -- one landed, and left aboard in the net's marking: pair 0, one token too many
-  pub audit : (o : Found) → AuditAllows net (3 ∷ 1 ∷ []) (2 ∷ 1 ∷ 3 ∷ []) o → auditing.told o ≡ yields (some (record { pair = pair_no 0; excess = pos 1 }))
+  pub audit : (o : Result (Perhaps (Pair × ℤ)) Refusal) → AuditAllows net (3 ∷ 1 ∷ []) (2 ∷ 1 ∷ 3 ∷ []) o → auditing.told o ≡ yields (some (record { pair = pair_no 0; excess = pos 1 }))

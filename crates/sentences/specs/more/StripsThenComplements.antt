@@ -1,14 +1,14 @@
 -- Stripping (document 02, P7), and then complementing: what a strip wrote runs alike with its complement, new modes among the movements, and in the complement
 -- too exactly one of the new modes is enabled and leaves the pair bare.
-use Rattle.std.specs.Prelude.{ℕ, ◌≤◌, ◌<◌, ◌≡◌, List, ◌↔◌, ◌≢◌}
+use Rattle.model.specs.declared.Refusal.{Refusal}
+use Rattle.std.specs.Prelude.{ℕ, ◌≤◌, ◌<◌, ◌≡◌, List, ◌↔◌, ◌≢◌, Result}
 use Rattle.model.specs.declared.Pair.{Pair}
-use Rattle.model.specs.declared.Answer.{Answer}
+use Rattle.model.specs.Refusals.{Answer}
 use Rattle.model.specs.Refusals.{number, carries}
 use Rattle.model.specs.Numbers.{fin}
 use Rattle.model.specs.Nets.{pairs, K, count}
 use Rattle.second_form.specs.Complement.{complement_pair}
 use Rattle.sheets.specs.Decoded.{net_of}
-use Rattle.sheets.specs.declared.Emitted.{Emitted}
 use Rattle.sheets.specs.Emitted.{told}
 use Rattle.fire.specs.Allowed.{TestAllows, FireAllows}
 use Rattle.bare.specs.Strip.{new_mode}
@@ -49,6 +49,6 @@ StripsThenComplements = (net : List ℕ) (p : Pair) (bare sheet : List ℕ) → 
 
 -- The other way round there is nothing to strip: every K of a complement is unbounded, and the answer is 15.
 abbrev pub NoStripAfter : Type 0
-NoStripAfter = (net sheet : List ℕ) → ComplementWrote net sheet → (p : Pair) → p.0 < pairs (net_of sheet) → (out : List ℕ) (o : Emitted × List ℕ)
+NoStripAfter = (net sheet : List ℕ) → ComplementWrote net sheet → (p : Pair) → p.0 < pairs (net_of sheet) → (out : List ℕ) (o : Result ℕ Refusal × List ℕ)
     → StripAllows sheet p out o
     → (told o.0).carried ≡ carries 15 0 0

@@ -7,8 +7,8 @@ use lib.Dec.{ltb}
 use borrow.Author.Tests.{lt-ltb, le-ltb}
 use Rattle.model.specs.declared.Thing.TheVariants.{Net}
 use Rattle.model.specs.declared.Fault.TheVariants.{NumberOutside, Blank}
-use Rattle.model.specs.declared.Answer.{Answer}
-use Rattle.model.specs.declared.Answer.TheVariants.{Accepted, Refused}
+use Rattle.model.specs.Refusals.{Answer}
+use Rattle.std.specs.Prelude.{Ok, Err}
 use Rattle.model.specs.Numbers.{limit}
 use Rattle.model.specs.Refusals.{answer, wrong}
 use Rattle.model.proofs.Refusals.{answer-passes, answer_fails, answer-last-passes, answer-last_fails}
@@ -19,7 +19,7 @@ use Rattle.sheets.specs.nets.Tails.{blank, tail_blank, tail_numbers}
 
 module _ (s : List ℕ) (arc tail : ℕ) {pre post inhibitor : ℕ} (p : pre ≡ u32_at s (tail_pre_at tail)) (q : post ≡ u32_at s (tail_post_at tail))
     (r : inhibitor ≡ u32_at s (tail_inhibitor_at tail)) where
-  pub pre-outside : {a : Answer} → limit < pre → a ≡ Refused (wrong Net (NumberOutside (tail_pre_at tail))) → a ≡ answer (tail_numbers s arc tail)
+  pub pre-outside : {a : Answer} → limit < pre → a ≡ Err (wrong Net (NumberOutside (tail_pre_at tail))) → a ≡ answer (tail_numbers s arc tail)
   unfolding tail_numbers
   pre-outside h e = answer_fails _ (ap (ltb limit) (sym p) ∙ lt-ltb limit pre h) e
 
@@ -27,7 +27,7 @@ module _ (s : List ℕ) (arc tail : ℕ) {pre post inhibitor : ℕ} (p : pre ≡
     pre_is : ltb limit (u32_at s (tail_pre_at tail)) ≡ false
     pre_is = ap (ltb limit) (sym p) ∙ le-ltb limit pre h
 
-    pub post-outside : {a : Answer} → limit < post → a ≡ Refused (wrong Net (NumberOutside (tail_post_at tail))) → a ≡ answer (tail_numbers s arc tail)
+    pub post-outside : {a : Answer} → limit < post → a ≡ Err (wrong Net (NumberOutside (tail_post_at tail))) → a ≡ answer (tail_numbers s arc tail)
     unfolding tail_numbers
     post-outside i e = answer-passes _ _ pre_is (answer_fails _ (ap (ltb limit) (sym q) ∙ lt-ltb limit post i) e)
 
@@ -38,7 +38,7 @@ module _ (s : List ℕ) (arc tail : ℕ) {pre post inhibitor : ℕ} (p : pre ≡
       tests : outside (bound (u32_at s (tail_inhibitor_at tail))) ≡ test
       tests = ap (λ x. outside (bound x)) (sym r) ∙ sym o
 
-      pub inhibitor-outside : {a : Answer} → test ≡ true → a ≡ Refused (wrong Net (NumberOutside (tail_inhibitor_at tail))) → a ≡ answer (tail_numbers s arc tail)
+      pub inhibitor-outside : {a : Answer} → test ≡ true → a ≡ Err (wrong Net (NumberOutside (tail_inhibitor_at tail))) → a ≡ answer (tail_numbers s arc tail)
       unfolding tail_numbers
       inhibitor-outside t e = answer-passes _ _ pre_is (answer-passes _ _ post_is (answer_fails _ (tests ∙ t) e))
 
@@ -47,10 +47,10 @@ module _ (s : List ℕ) (arc tail : ℕ) {pre post inhibitor : ℕ} (p : pre ≡
         unfolding tail_blank
         blank-is = rw (← p, ← q, ← r) (sym b)
 
-        pub all-blank : {a : Answer} → is ≡ true → a ≡ Refused (wrong Net (Blank arc)) → a ≡ answer (tail_numbers s arc tail)
+        pub all-blank : {a : Answer} → is ≡ true → a ≡ Err (wrong Net (Blank arc)) → a ≡ answer (tail_numbers s arc tail)
         unfolding tail_numbers
         all-blank f e = answer-passes _ _ pre_is (answer-passes _ _ post_is (answer-passes _ _ (tests ∙ t) (answer-last_fails (blank-is ∙ f) e)))
 
-        pub all_pass : is ≡ false → Accepted ≡ answer (tail_numbers s arc tail)
+        pub all_pass : is ≡ false → (Ok tt) ≡ answer (tail_numbers s arc tail)
         unfolding tail_numbers
         all_pass f = answer-passes _ _ pre_is (answer-passes _ _ post_is (answer-passes _ _ (tests ∙ t) (answer-last-passes _ (blank-is ∙ f))))

@@ -1,6 +1,6 @@
 -- The contracts of the readers of weight sheets and movement sheets, which the source states by these names.
 use Rattle.std.specs.Prelude.{ℕ, ◌≡◌, List}
-use Rattle.model.specs.declared.Answer.{Answer}
+use Rattle.model.specs.Refusals.{Answer}
 use Rattle.model.specs.Refusals.{answer}
 use Rattle.sheets.specs.lists.Weights.{weights_refusal}
 use Rattle.sheets.specs.lists.Movements.{movements_refusal}

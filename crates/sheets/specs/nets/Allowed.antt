@@ -1,6 +1,6 @@
 -- The contract of the net sheet's reader, which the source states by this name.
 use Rattle.std.specs.Prelude.{ℕ, ◌≡◌, List}
-use Rattle.model.specs.declared.Answer.{Answer}
+use Rattle.model.specs.Refusals.{Answer}
 use Rattle.model.specs.Refusals.{answer}
 use Rattle.sheets.specs.nets.Nets.{net_refusal}
 

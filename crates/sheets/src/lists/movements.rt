@@ -7,6 +7,7 @@ ghost use Rattle.sheets.specs.lists.Movements.{movement_fields};
 ghost use Rattle.sheets.specs.lists.Allowed.{ReadMovementsAllows};
 
 use heads::head::{read_head, refused, sheet_end};
+use heads::sheet::Sheet;
 use model::{Answer, Fault, Thing};
 
 // How many whole mode numbers stand in the sheet.
@@ -17,27 +18,23 @@ pub fn movement_count(s: &[u8]) -> usize
     (sheet_end(s) - 5) / 2
 }
 
-fn movement_fields(s: &[u8]) -> Answer
-    requires { Headed s.now }
-    ensures { result ≡ answer (movement_fields s.now) }
+fn movement_fields(sheet: &Sheet) -> Answer
+    ensures { result ≡ answer (movement_fields sheet.now.bytes.now) }
 {
-    let count = movement_count(s);
+    let count = movement_count(sheet.bytes);
     let end = 5 + 2 * count;
-    if end < sheet_end(s) {
+    if end < sheet_end(sheet.bytes) {
         return refused(Thing::Movements, Fault::WrongLength(end));
     }
     if 8192 < count {
         return refused(Thing::Movements, Fault::CountOutside(5));
     }
-    Answer::Accepted
+    Ok(())
 }
 
 pub fn read_movements(s: &[u8]) -> Answer
     ensures { ReadMovementsAllows s.now result }
 {
-    let head = read_head(s, Thing::Movements);
-    if let Answer::Refused(_) = head {
-        return head;
-    }
-    movement_fields(s)
+    read_head(s, Thing::Movements)?;
+    movement_fields(&Sheet { bytes: s })
 }

@@ -3,7 +3,6 @@ ghost use Rattle.std.specs.Prelude.{◌≡◌, ◌+◌, ◌*◌, ◌<◌, ◌≤
 ghost use Rattle.model.specs.First.{first};
 ghost use Rattle.model.specs.Refusals.{answer};
 ghost use Rattle.heads.specs.Layout.{arc_at};
-ghost use Rattle.heads.specs.Held.{Headed};
 ghost use Rattle.sheets.specs.nets.Names.{NamesAt};
 ghost use Rattle.sheets.specs.nets.Nets.{not_rising, arc_names_refusal, arc_refusal, arc_fields};
 
@@ -12,6 +11,7 @@ use fields::counts::read_count;
 use fields::read::{count_at, left_over};
 use heads::bytes::u16_at;
 use heads::head::{refused, sheet_end};
+use heads::sheet::Sheet;
 use model::{Answer, Fault, Thing};
 
 // The mode and the pair of an arc as one number, which rises as they do.
@@ -29,10 +29,7 @@ fn not_rising(s: &[u8], start: usize, k: usize, names: u32) -> bool
     requires names_at { NamesAt s.now (arc_at start k) names }
     ensures { result ≡ not_rising s.now start k }
 {
-    if k == 0 {
-        return false;
-    }
-    names <= names_at(s, start + 16 * (k - 1))
+    k != 0 && names <= names_at(s, start + 16 * (k - 1))
 }
 
 // 6 for the mode, 6 for the pair, 7.
@@ -51,55 +48,38 @@ fn read_arc_names(s: &[u8], modes: usize, pairs: usize, start: usize, k: usize) 
     if not_rising(s, start, k, names) {
         return refused(Thing::Net, Fault::NotRising(at));
     }
-    Answer::Accepted
+    Ok(())
 }
 
-fn read_arc(s: &[u8], modes: usize, pairs: usize, start: usize, k: usize) -> Answer
-    requires headed { Headed s.now }
+fn read_arc(sheet: &Sheet, modes: usize, pairs: usize, start: usize, k: usize) -> Answer
     requires start_bound { (start < 4096) × (k < 65536) × (modes ≤ 256) }
-    ensures { result ≡ answer (arc_refusal s.now modes pairs start k) }
+    ensures { result ≡ answer (arc_refusal sheet.now.bytes.now modes pairs start k) }
 {
     let at = start + 16 * k;
-    if sheet_end(s) < at + 16 {
+    if sheet_end(sheet.bytes) < at + 16 {
         return refused(Thing::Net, Fault::WrongLength(at));
     }
-    let names = read_arc_names(s, modes, pairs, start, k);
-    if let Answer::Refused(_) = names {
-        return names;
-    }
-    read_numbers(s, at, at + 2)
+    read_arc_names(sheet.bytes, modes, pairs, start, k)?;
+    read_numbers(sheet.bytes, at, at + 2)
 }
 
-fn read_arcs(s: &[u8], modes: usize, pairs: usize, start: usize, n: usize) -> Answer
-    requires headed { Headed s.now }
+fn read_arcs(sheet: &Sheet, modes: usize, pairs: usize, start: usize, n: usize) -> Answer
     requires start_bound { (start < 4096) × (n < 65536) × (modes ≤ 256) }
-    ensures { result ≡ answer (first n (arc_refusal s.now modes pairs start)) }
+    ensures { result ≡ answer (first n (arc_refusal sheet.now.bytes.now modes pairs start)) }
 {
-    let mut k = 0;
-    while k < n {
-        let answer = read_arc(s, modes, pairs, start, k);
-        if let Answer::Refused(_) = answer {
-            return answer;
-        }
-        k += 1;
+    for k in 0..n {
+        read_arc(sheet, modes, pairs, start, k)?;
     }
-    Answer::Accepted
+    Ok(())
 }
 
 // The arc count at `at`, the arcs, and nothing after them.
-pub(crate) fn arc_fields(s: &[u8], modes: usize, pairs: usize, at: usize) -> Answer
-    requires headed { Headed s.now }
+pub(crate) fn arc_fields(sheet: &Sheet, modes: usize, pairs: usize, at: usize) -> Answer
     requires at_bound { (at < 4000) × (modes ≤ 256) }
-    ensures { result ≡ answer (arc_fields s.now modes pairs at) }
+    ensures { result ≡ answer (arc_fields sheet.now.bytes.now modes pairs at) }
 {
-    let count = read_count(s, at, 0, 2048);
-    if let Answer::Refused(_) = count {
-        return count;
-    }
-    let n = count_at(s, at);
-    let arcs = read_arcs(s, modes, pairs, at + 2, n);
-    if let Answer::Refused(_) = arcs {
-        return arcs;
-    }
-    left_over(s, Thing::Net, at + 2 + 16 * n)
+    read_count(sheet, at, 0, 2048)?;
+    let n = count_at(sheet.bytes, at);
+    read_arcs(sheet, modes, pairs, at + 2, n)?;
+    left_over(sheet, Thing::Net, at + 2 + 16 * n)
 }

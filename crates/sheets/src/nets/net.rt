@@ -4,7 +4,7 @@ ghost use Rattle.model.specs.declared.Version.TheVariants.{Two};
 ghost use Rattle.model.specs.Refusals.{answer};
 ghost use Rattle.heads.specs.Layout.{pair_count, mode_count, pairs_offset};
 ghost use Rattle.heads.specs.Version.{version_of};
-ghost use Rattle.heads.specs.Held.{Headed, Counted};
+ghost use Rattle.heads.specs.Held.{Counted};
 ghost use Rattle.sheets.specs.nets.Nets.{arc_section, pair_and_arc_fields, rule_field, net_fields};
 ghost use Rattle.sheets.specs.nets.Allowed.{ReadNetAllows};
 
@@ -14,6 +14,7 @@ use fields::counts::{count_fields, total_of};
 use fields::pairs::read_pairs;
 use fields::read::count_at;
 use heads::head::{fields_at, read_head, refused, sheet_end};
+use heads::sheet::Sheet;
 use heads::version::version_of;
 use model::{Answer, Fault, Thing, Version};
 
@@ -43,75 +44,59 @@ pub fn pairs_at(s: &[u8]) -> usize
 }
 
 // The arcs as the version has them, from `at` on.
-fn arc_section(s: &[u8], modes: usize, pairs: usize, at: usize) -> Answer
-    requires headed { Headed s.now }
+fn arc_section(sheet: &Sheet, modes: usize, pairs: usize, at: usize) -> Answer
     requires at_bound { (at < 4000) × (modes ≤ 256) }
-    ensures { result ≡ answer (arc_section (version_of s.now) s.now modes pairs at) }
+    ensures { result ≡ answer (arc_section (version_of sheet.now.bytes.now) sheet.now.bytes.now modes pairs at) }
 {
-    match version_of(s) {
-        Version::One => arc_fields(s, modes, pairs, at),
-        Version::Two => group_fields(s, modes, pairs, at),
+    match version_of(sheet.bytes) {
+        Version::One => arc_fields(sheet, modes, pairs, at),
+        Version::Two => group_fields(sheet, modes, pairs, at),
     }
 }
 
-fn pair_and_arc_fields(s: &[u8]) -> Answer
-    requires { Counted s.now }
-    ensures { result ≡ answer (pair_and_arc_fields s.now) }
+fn pair_and_arc_fields(sheet: &Sheet) -> Answer
+    requires { Counted sheet.now.bytes.now }
+    ensures { result ≡ answer (pair_and_arc_fields sheet.now.bytes.now) }
 {
-    let start = pairs_at(s);
-    let count = pair_count(s);
-    let pairs = read_pairs(s, start, count);
-    if let Answer::Refused(_) = pairs {
-        return pairs;
-    }
-    arc_section(s, mode_count(s), count, start + 8 * count)
+    let start = pairs_at(sheet.bytes);
+    let count = pair_count(sheet.bytes);
+    read_pairs(sheet, start, count)?;
+    arc_section(sheet, mode_count(sheet.bytes), count, start + 8 * count)
 }
 
-fn read_rule(s: &[u8]) -> Answer
-    requires { Headed s.now }
-    ensures { result ≡ answer (rule_field Two s.now) }
+fn read_rule(sheet: &Sheet) -> Answer
+    ensures { result ≡ answer (rule_field Two sheet.now.bytes.now) }
 {
-    if sheet_end(s) < 6 {
+    if sheet_end(sheet.bytes) < 6 {
         return refused(Thing::Net, Fault::WrongLength(5));
     }
-    if 1 < s[5] {
+    if 1 < sheet.bytes[5] {
         return refused(Thing::Net, Fault::CountOutside(5));
     }
-    Answer::Accepted
+    Ok(())
 }
 
 // The rule byte, which version 2 alone has.
-fn rule_field(s: &[u8]) -> Answer
-    requires { Headed s.now }
-    ensures { result ≡ answer (rule_field (version_of s.now) s.now) }
+fn rule_field(sheet: &Sheet) -> Answer
+    ensures { result ≡ answer (rule_field (version_of sheet.now.bytes.now) sheet.now.bytes.now) }
 {
-    match version_of(s) {
-        Version::One => Answer::Accepted,
-        Version::Two => read_rule(s),
+    match version_of(sheet.bytes) {
+        Version::One => Ok(()),
+        Version::Two => read_rule(sheet),
     }
 }
 
-fn net_fields(s: &[u8]) -> Answer
-    requires { Headed s.now }
-    ensures { result ≡ answer (net_fields s.now) }
+fn net_fields(sheet: &Sheet) -> Answer
+    ensures { result ≡ answer (net_fields sheet.now.bytes.now) }
 {
-    let rule = rule_field(s);
-    if let Answer::Refused(_) = rule {
-        return rule;
-    }
-    let counts = count_fields(s);
-    if let Answer::Refused(_) = counts {
-        return counts;
-    }
-    pair_and_arc_fields(s)
+    rule_field(sheet)?;
+    count_fields(sheet)?;
+    pair_and_arc_fields(sheet)
 }
 
 pub fn read_net(s: &[u8]) -> Answer
     ensures { ReadNetAllows s.now result }
 {
-    let head = read_head(s, Thing::Net);
-    if let Answer::Refused(_) = head {
-        return head;
-    }
-    net_fields(s)
+    read_head(s, Thing::Net)?;
+    net_fields(&Sheet { bytes: s })
 }

@@ -11,13 +11,7 @@ use model::{Answer, Fault, Thing};
 fn is_blank(pre: u32, post: u32, inhibitor: u32) -> bool
     ensures { result ≡ blank pre post inhibitor }
 {
-    if pre != 0 {
-        return false;
-    }
-    if post != 0 {
-        return false;
-    }
-    inhibitor == 0xffff_ffff
+    pre == 0 && post == 0 && inhibitor == 0xffff_ffff
 }
 
 // 5 for Pre, Post and I in turn, 8: of the arc at `arc`, whose 14 bytes stand at `tail`.
@@ -40,5 +34,5 @@ pub(crate) fn read_numbers(s: &[u8], arc: usize, tail: usize) -> Answer
     if is_blank(pre, post, inhibitor) {
         return refused(Thing::Net, Fault::Blank(arc));
     }
-    Answer::Accepted
+    Ok(())
 }

@@ -1,7 +1,7 @@
 -- One ship into the record: the chain of its refusals, and what 25 leaves of a record.
 use Prim.Native.Nat.{ℕ, ◌+◌, ◌≤◌, ◌<◌}
 use mathlib.Core.Path.{◌≡◌, refl, sym, ◌∙◌, ap, ap₂}
-use mathlib.Core.Bool.{Bool, true, false, cond, false≢true, true≢false, ◌||◌}
+use mathlib.Core.Bool.{Bool, true, false, cond, false≢true, true≢false}
 use mathlib.Core.Option.{Option, none, some}
 use lib.Dec.{ltb, eqb}
 use lib.IntN.{ℤ, pos, negsuc, nat_abs, ◌+ℤ◌}
@@ -13,8 +13,7 @@ use borrow.Author.Tests.{ltb-true, ltb-false, lt-ltb, le-ltb}
 use Rattle.model.specs.declared.Thing.TheVariants.{Net, Argument}
 use Rattle.model.specs.declared.Fault.TheVariants.{CountOutside, FigurePast, RecordOutside}
 use Rattle.model.specs.declared.Refusal.{Refusal}
-use Rattle.model.specs.declared.Answer.{Answer}
-use Rattle.model.specs.declared.Answer.TheVariants.{Accepted, Refused}
+use Rattle.std.specs.Prelude.{Ok, Err, Result}
 use Rattle.model.specs.First.{◌▸◌}
 use Rattle.model.specs.Nets.{pairs}
 use Rattle.model.specs.Refusals.{number, wrong}
@@ -23,17 +22,11 @@ use Rattle.model.proofs.Decisions.{Decided}
 use Rattle.model.proofs.First.{none_then, some_then}
 use Rattle.sheets.specs.Whole.{whole_net, whole_weights, whole_movements}
 use Rattle.sheets.specs.Decoded.{net_of}
-use Rattle.opened.specs.declared.shape.NetShape.{NetShape}
-use Rattle.opened.specs.declared.Opened.{Opened}
-use Rattle.opened.specs.declared.Opened.TheVariants as net-was
-use Rattle.opened.specs.Shape.{shape_of}
-use Rattle.opened.specs.Opened.{opened}
-use Rattle.opened.proofs.Opening.{opened-refused, opened-shape}
 use Rattle.ships.specs.declared.Fleet.{Fleet}
-use Rattle.ships.specs.declared.Entered.{Entered}
 use Rattle.ships.specs.declared.Voyage.{Voyage}
 use Rattle.ships.specs.Ships.{Ship, voyage_of, with_voyage}
 use Rattle.ships.specs.Entered.{most_figure, is_past, is_outside, is_out_of_bounds, Figure, Past, InBounds, is_too_heavy, record_refusal, room_refusal, figure_refusal, ship_refusal, entered_by, entered}
+use Rattle.statement.specs.fleet.Parts.{raised_by, raised}
 
 inside : (z : ℤ) → is_outside z ≡ false → Figure z
 inside (pos n) e = (n, refl, ltb-false most_figure n (or_neither (ltb n 0) _ e).1)
@@ -118,6 +111,10 @@ module _ (f : Fleet) where
   unfolding room_refusal
   room-passes h = rw (le-ltb 1000 (f.ships + 1) h)
 
+-- 24 of a figure, tested as it is read
+pub read-past : {z : ℤ} {b : Bool} → SFits w64 z → b ≡ is_past (to_z w64 (of_z w64 z)) → is_past z ≡ b
+read-past fits e = ap is_past (sym (to_z-of_z fits)) ∙ sym e
+
 -- a sum of two figures that are read, as it is read
 pub read-sum : {a b r : ℤ} → SFits w64 a → SFits w64 b → SFits w64 r → r ≡ to_z w64 (of_z w64 a) +ℤ to_z w64 (of_z w64 b)
     → to_z w64 (of_z w64 r) ≡ a +ℤ b
@@ -131,54 +128,66 @@ pub summed : (f : Fleet) (v : Voyage) {n by6 by11 by12 by13 by14 : ℕ} {added r
 unfolding with_voyage
 summed f v n by6 by11 by12 by13 by14 added removed = rw (by6, by11, by12, by13, by14, n, added, removed)
 
-abbrev pub giving : Fleet → Answer → Entered
-giving f a = record { fleet = f; answer = a }
-
 module _ (f : Fleet) (s : Ship) where
-  pub stops : (o p : Option Refusal) {a : Answer} {r : Refusal} → o ≡ some r → a ≡ Refused r → giving f a ≡ entered_by (o ▸ p) f s
-  stops o p e q = rw (some_then p e, q)
+  pub stops : (o p : Option Refusal) {x : Result Fleet Refusal} {r : Refusal} → o ≡ some r → x ≡ Err r → x ≡ raised_by (o ▸ p) f s
+  stops o p e q = rw (some_then p e) q
 
-  pub goes_on : (o p : Option Refusal) {x : Entered} → o ≡ none → x ≡ entered_by p f s → x ≡ entered_by (o ▸ p) f s
-  goes_on o p e g = g ∙ ap (λ o. entered_by o f s) (sym (none_then e refl))
+  pub goes_on : (o p : Option Refusal) {x : Result Fleet Refusal} → o ≡ none → x ≡ raised_by p f s → x ≡ raised_by (o ▸ p) f s
+  goes_on o p e g = g ∙ ap (λ o. raised_by o f s) (sym (none_then e refl))
 
   -- what is left of the chain where the net is accepted
   abbrev pub unread : Option Refusal
   unread = whole_weights (pairs (net_of s.net)) s.weights ▸ whole_movements s.movements ▸ figure_refusal f s
 
-  -- the whole chain is `entered`
-  chain : entered_by (record_refusal f ▸ room_refusal f ▸ whole_net s.net ▸ unread) f s ≡ entered f s
-  unfolding entered ship_refusal
+  -- the whole chain is `raised`
+  chain : raised_by (record_refusal f ▸ room_refusal f ▸ whole_net s.net ▸ unread) f s ≡ raised f s
+  unfolding ship_refusal
   chain = refl
 
+  -- what a refusal leaves in the lent record, and what an accepted ship does
+  pub leaves : {r : Refusal} → Err r ≡ raised f s → (Err r ≡ (entered f s).answer) × (f ≡ (entered f s).fleet)
+  unfolding entered
+  leaves {r} e = go (ship_refusal f s) e
+    where
+      go : (o : Option Refusal) → Err r ≡ raised_by o f s → (Err r ≡ (entered_by o f s).answer) × (f ≡ (entered_by o f s).fleet)
+      go none g = let z : ◌≡◌ {A = ℕ} 0 1 = cc in absurd (omega arith)
+      go (some x) g = (cc, refl)
+
+  pub keeps : {next : Fleet} → Ok next ≡ raised f s → (Ok tt ≡ (entered f s).answer) × (next ≡ (entered f s).fleet)
+  unfolding entered
+  keeps {next} e = go (ship_refusal f s) e
+    where
+      go : (o : Option Refusal) → Ok next ≡ raised_by o f s → (Ok tt ≡ (entered_by o f s).answer) × (next ≡ (entered_by o f s).fleet)
+      go none g = (refl, cc)
+      go (some x) g = let z : ◌≡◌ {A = ℕ} 0 1 = cc in absurd (omega arith)
+
   module _ {b : Bool} (e : b ≡ is_out_of_bounds f) where
-    pub ends_unsound : b ≡ true → giving f (Refused (wrong Net RecordOutside)) ≡ entered f s
+    pub ends_unsound : b ≡ true → Err (wrong Net RecordOutside) ≡ raised f s
     ends_unsound t = stops _ _ (record_stops f (sym e ∙ t)) refl ∙ chain
 
     module _ (t : b ≡ false) where
-      sound : {x : Entered} → x ≡ entered_by (room_refusal f ▸ whole_net s.net ▸ unread) f s → x ≡ entered f s
+      sound : {x : Result Fleet Refusal} → x ≡ raised_by (room_refusal f ▸ whole_net s.net ▸ unread) f s → x ≡ raised f s
       sound g = goes_on _ _ (record_passes f (sym e ∙ t)) g ∙ chain
 
-      pub ends-full : 1000 < f.ships + 1 → giving f (Refused (wrong Argument (CountOutside 0))) ≡ entered f s
+      pub ends-full : 1000 < f.ships + 1 → Err (wrong Argument (CountOutside 0)) ≡ raised f s
       ends-full h = sound (stops _ _ (room-stops f h) refl)
 
-      module _ (h : f.ships + 1 ≤ 1000) {x : Opened} (o : x ≡ opened (whole_net s.net) (shape_of s.net)) where
-        pub ends-refused : {r : Refusal} → x ≡ net-was.Refused r → giving f (Refused r) ≡ entered f s
-        ends-refused q = sound (goes_on _ _ (room-passes f h) (stops _ _ (opened-refused _ _ o q) refl))
+      module _ (h : f.ships + 1 ≤ 1000) where
+        pub ends-refused : {r : Refusal} {x : Result Fleet Refusal} → whole_net s.net ≡ some r → x ≡ Err r → x ≡ raised f s
+        ends-refused o q = sound (goes_on _ _ (room-passes f h) (stops _ _ o q))
 
-        pub ends-counted : {net : NetShape} {r : Entered} → x ≡ net-was.Open net → r ≡ entered_by unread f s → r ≡ entered f s
-        ends-counted q g = sound (goes_on _ _ (room-passes f h) (goes_on _ _ (opened-shape _ _ o q).0 g))
+        pub ends-counted : {x : Result Fleet Refusal} → whole_net s.net ≡ none → x ≡ raised_by unread f s → x ≡ raised f s
+        ends-counted o g = sound (goes_on _ _ (room-passes f h) (goes_on _ _ o g))
 
-  module _ {v : Voyage} {next : Fleet} {a b : Bool} (at : v ≡ voyage_of s) (is : next ≡ with_voyage f v) (p : a ≡ is_past next.added) (q : b ≡ is_past next.removed) where
-    next-is : next ≡ with_voyage f (voyage_of s)
-    next-is = is ∙ ap (with_voyage f) at
+  -- 24, of the record with one ship more
+  module _ {v : Voyage} {next : Fleet} (at : v ≡ voyage_of s) (is : next ≡ with_voyage f v) where
+    next-is : with_voyage f (voyage_of s) ≡ next
+    next-is = ap (with_voyage f) (sym at) ∙ sym is
 
-    over-is : (a || b) ≡ is_too_heavy (with_voyage f (voyage_of s))
-    over-is = rw (p, q, next-is)
-
-    pub too_heavy_lem : (a || b) ≡ true → giving f (Refused (wrong Net FigurePast)) ≡ entered_by (figure_refusal f s) f s
+    pub too_heavy_lem : is_too_heavy next ≡ true → Err (wrong Net FigurePast) ≡ raised_by (figure_refusal f s) f s
     unfolding figure_refusal
-    too_heavy_lem t = let e : is_too_heavy (with_voyage f (voyage_of s)) ≡ true = sym over-is ∙ t in rw e
+    too_heavy_lem t = rw (next-is, t)
 
-    pub enters : (a || b) ≡ false → giving next Accepted ≡ entered_by (figure_refusal f s) f s
+    pub enters : is_too_heavy next ≡ false → Ok next ≡ raised_by (figure_refusal f s) f s
     unfolding figure_refusal
-    enters t = let e : is_too_heavy (with_voyage f (voyage_of s)) ≡ false = sym over-is ∙ t in rw (e, next-is)
+    enters t = rw (next-is, t) (ap Ok (sym next-is))

@@ -1,21 +1,18 @@
 -- What the accepted movements of a run add and remove, so far: each sum is exact.
-use Prim.Native.Nat.{ℕ, suc, ◌+◌, ◌≤◌, ◌<◌, ◌^◌}
+use Prim.Native.Nat.{ℕ, ◌+◌, ◌≤◌, ◌<◌, ◌^◌}
 use mathlib.Core.Path.{◌≡◌, refl, ◌∙◌, ap}
-use mathlib.Core.Bool.{true, false}
 use mathlib.Core.List.{List}
-use lib.IntN.{ℤ, pos, negsuc, nat_abs, ◌+ℤ◌, ◌-ℤ◌}
-use lib.Signed.{lt_z, mag}
+use lib.IntN.{ℤ, pos, negsuc, nat_abs, ◌+ℤ◌}
+use lib.Signed.{mag}
 use lib.ListN.{length, take, get_or}
 use lib.Seq.{length-take-le}
 use mir.Syntax.{w64}
 use mir.Val.{SFits, to_z, of_z, hbits}
 use mir.Facts.{to_z-of_z}
-use native.Mathlib.Nat.{zero-add}
 use native.Mathlib.Numerals.{add-one}
 use native.Mathlib.Omega.{arith}
-use borrow.Author.Tests.{ltb-true}
 use Rattle.model.specs.declared.Mode.{Mode}
-use Rattle.model.specs.declared.Answer.{Answer}
+use Rattle.model.specs.Refusals.{Answer}
 use Rattle.model.specs.Nets.{PNet, mode_no, modes}
 use Rattle.movement.specs.Runs.{run}
 use Rattle.movement.specs.Figures.{change}
@@ -34,23 +31,6 @@ use Rattle.statement.proofs.weigh.Terms.{change-size}
 use Rattle.ships.specs.declared.Voyage.{Voyage}
 use Rattle.ships.specs.Ships.{ship, gained, lost, added_by, removed_by, voyage_of}
 use Rattle.statement.specs.fleet.Parts.{heaviest_mode, heaviest, Light}
-
--- by the sign that was tested
-pub gained-below : (z : ℤ) → lt_z z (pos 0) ≡ true → pos 0 ≡ pos (gained z)
-gained-below (pos n) t = absurd (omega (arith, ltb-true n 0 t))
-gained-below (negsuc n) t = refl
-
-pub gained_else : (z : ℤ) → lt_z z (pos 0) ≡ false → z ≡ pos (gained z)
-gained_else (pos n) t = refl
-gained_else (negsuc n) t = let e : true ≡ false = t in let f : ◌≡◌ {A = ℕ} 0 1 = cc in absurd (omega arith)
-
-pub lost-below : (z : ℤ) → lt_z z (pos 0) ≡ true → pos 0 -ℤ z ≡ pos (lost z)
-lost-below (pos n) t = absurd (omega (arith, ltb-true n 0 t))
-lost-below (negsuc n) t = ap pos (zero-add (suc n))
-
-pub lost_else : (z : ℤ) → lt_z z (pos 0) ≡ false → pos 0 ≡ pos (lost z)
-lost_else (pos n) t = refl
-lost_else (negsuc n) t = let e : true ≡ false = t in let f : ◌≡◌ {A = ℕ} 0 1 = cc in absurd (omega arith)
 
 gained-size : (z : ℤ) → gained z ≤ nat_abs z
 gained-size (pos n) = omega arith

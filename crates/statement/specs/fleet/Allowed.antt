@@ -1,6 +1,6 @@
 -- The contract of the public call, which the source states by this name: what it allows of its answer, and of the record that it leaves.
 use Rattle.std.specs.Prelude.{ℕ, ◌≡◌, List}
-use Rattle.model.specs.declared.Answer.{Answer}
+use Rattle.model.specs.Refusals.{Answer}
 use Rattle.ships.specs.declared.Fleet.{Fleet}
 use Rattle.ships.specs.Ships.{ship}
 use Rattle.ships.specs.Entered.{entered}

@@ -13,12 +13,8 @@ fn number_of(answer: Answer) -> u64
     ensures { result ≡ number answer }
 {
     match answer {
-        Answer::Accepted => 0,
-        Answer::Refused(refusal) => {
-            let fault = refusal.fault;
-            let line = line_of(fault);
-            line.number
-        }
+        Ok(()) => 0,
+        Err(refusal) => line_of(refusal.fault).number,
     }
 }
 
@@ -27,7 +23,7 @@ fn raise(count: u64, number: u64, counted: u64) -> u64
     requires { count ≤ 1000 }
     ensures { result ≡ count + cond (eqb number counted) 1 0 }
 {
-    if number == counted { count + 1 } else { count }
+    count + u64::from(number == counted)
 }
 
 // The sum may pass 10^18, and does not wrap: 24 is tested after it.
@@ -45,11 +41,10 @@ pub(crate) fn with_voyage(found: Fleet, voyage: Voyage) -> Fleet
     requires light { Light voyage }
     ensures { result ≡ with_voyage found voyage }
 {
-    let answer = voyage.answer;
-    let number = number_of(answer);
+    let number = number_of(voyage.answer);
     Fleet {
         ships: found.ships + 1,
-        movements: found.movements + (voyage.accepted as u64),
+        movements: found.movements + voyage.accepted as u64,
         by6: raise(found.by6, number, 6),
         by11: raise(found.by11, number, 11),
         by12: raise(found.by12, number, 12),

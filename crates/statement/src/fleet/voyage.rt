@@ -6,7 +6,6 @@ ghost use Rattle.movement.specs.Runs.{run};
 ghost use Rattle.sheets.specs.Decoded.{net_of, movements_of};
 ghost use Rattle.sheets.specs.lists.Movements.{movements_refusal};
 ghost use Rattle.opened.specs.Read.{Read};
-ghost use Rattle.opened.specs.Shape.{Open};
 ghost use Rattle.opened.specs.Starts.{StartsAre};
 ghost use Rattle.run.specs.Parts.{RunTells};
 ghost use Rattle.ships.specs.Ships.{ship, gained as gained_by, lost as lost_by, voyage_of};
@@ -17,7 +16,7 @@ use fire::start::write_start;
 use model::Answer;
 use numbers::write_numbers;
 use opened::listed::movement;
-use opened::shape::NetShape;
+use opened::open::OpenNet;
 use opened::starts::starts;
 use run::Ran;
 use run::movements::run_listed;
@@ -27,62 +26,52 @@ use ships::Voyage;
 fn gained(change: i64) -> i64
     ensures { result ≡ pos (gained_by change) }
 {
-    if change < 0 { 0 } else { change }
+    change.max(0)
 }
 
 fn lost(change: i64) -> i64
     requires { nat_abs change ≤ heaviest_mode }
     ensures { result ≡ pos (lost_by change) }
 {
-    if change < 0 { 0 - change } else { 0 }
+    (-change).max(0)
 }
 
-// The numbers of the arcs (8 KiB) stand on the stack only while the list runs, where the table of changes comes after: one caller each, so that both are
-// inlined there (docs/SPEED.md).
-fn run_list(
-    s: &[u8],
-    net: NetShape,
-    starts: &[u16; 257],
-    movements: &[u8],
-    marking: &mut [u32],
-) -> Ran
-    requires fact { Open s.now net }
-    requires starts_are { StartsAre (net_of s.now).arcs starts.now }
+// The numbers of the arcs (8 KiB) stand on the stack only while the list runs, where the table of changes comes after. `movements::run_list` is the same: one
+// caller each, so that both are inlined there (docs/SPEED.md, 9), and one function for the two would be called.
+fn run_list(net: &OpenNet, starts: &[u16; 257], movements: &[u8], marking: &mut [u32]) -> Ran
+    requires starts_are { StartsAre (net_of net.now.sheet.now).arcs starts.now }
     requires movements_value { movements_refusal movements.now ≡ none }
-    requires marking { Marking (net_of s.now) marking.old }
-    ensures { RunTells (run (net_of s.now) (movements_of movements.now) marking.old) result.accepted result.answer }
+    requires marking { Marking (net_of net.now.sheet.now) marking.old }
+    ensures { RunTells (run (net_of net.now.sheet.now) (movements_of movements.now) marking.old) result.accepted result.answer }
 {
     let mut numbers = [0u32; 2048];
-    write_numbers(s, net, starts, &mut numbers);
-    run_listed(s, net, starts, &numbers, movements, marking)
+    write_numbers(net, starts, &mut numbers);
+    run_listed(net, starts, &numbers, movements, marking)
 }
 
 // The list has been run: what its accepted movements changed is added up, by the table of all modes' changes.
 fn weigh_run(
-    s: &[u8],
-    net: NetShape,
+    net: &OpenNet,
     starts: &[u16; 257],
     weights: &[u8],
     movements: &[u8],
     accepted: usize,
     answer: Answer,
 ) -> Voyage
-    requires read { Read s.now net weights.now movements.now }
-    requires starts_are { StartsAre (net_of s.now).arcs starts.now }
-    requires run_tells { RunTells (run (net_of s.now) (movements_of movements.now) (net_of s.now).start) accepted answer }
-    ensures { (result ≡ voyage_of (ship s.now weights.now movements.now)) × Light result }
+    requires read { Read net.now.sheet.now net.now.shape weights.now movements.now }
+    requires starts_are { StartsAre (net_of net.now.sheet.now).arcs starts.now }
+    requires run_tells { RunTells (run (net_of net.now.sheet.now) (movements_of movements.now) (net_of net.now.sheet.now).start) accepted answer }
+    ensures { (result ≡ voyage_of (ship net.now.sheet.now weights.now movements.now)) × Light result }
 {
     let mut changes = [0i64; 256];
-    write_changes(s, net, starts, weights, &mut changes);
+    write_changes(net, starts, weights, &mut changes);
     let mut added: i64 = 0;
     let mut removed: i64 = 0;
-    let mut k = 0;
-    while k < accepted {
+    for k in 0..accepted {
         let mode = movement(movements, k);
         let change = changes[mode.0 as usize];
         added += gained(change);
         removed += lost(change);
-        k += 1;
     }
     Voyage {
         accepted,
@@ -92,24 +81,22 @@ fn weigh_run(
     }
 }
 
-fn sail(s: &[u8], net: NetShape, weights: &[u8], movements: &[u8], marking: &mut [u32]) -> Voyage
-    requires read { Read s.now net weights.now movements.now }
-    requires marking_len { length marking.old ≡ net.pairs }
-    ensures { (result ≡ voyage_of (ship s.now weights.now movements.now)) × Light result }
+fn sail(net: &OpenNet, weights: &[u8], movements: &[u8], marking: &mut [u32]) -> Voyage
+    requires read { Read net.now.sheet.now net.now.shape weights.now movements.now }
+    requires marking_len { length marking.old ≡ net.now.shape.pairs }
+    ensures { (result ≡ voyage_of (ship net.now.sheet.now weights.now movements.now)) × Light result }
 {
-    write_start(s, net, marking);
-    let starts = starts(s, net);
-    let ran = run_list(s, net, &starts, movements, marking);
-    let answer = ran.answer;
-    weigh_run(s, net, &starts, weights, movements, ran.accepted, answer)
+    write_start(net, marking);
+    let starts = starts(net);
+    let ran = run_list(net, &starts, movements, marking);
+    weigh_run(net, &starts, weights, movements, ran.accepted, ran.answer)
 }
 
 // "a private working marking of 256 counts", filled from the ship's net.
-pub(crate) fn voyage_of(s: &[u8], net: NetShape, weights: &[u8], movements: &[u8]) -> Voyage
-    requires { Read s.now net weights.now movements.now }
-    ensures { (result ≡ voyage_of (ship s.now weights.now movements.now)) × Light result }
+pub(crate) fn voyage_of(net: &OpenNet, weights: &[u8], movements: &[u8]) -> Voyage
+    requires { Read net.now.sheet.now net.now.shape weights.now movements.now }
+    ensures { (result ≡ voyage_of (ship net.now.sheet.now weights.now movements.now)) × Light result }
 {
-    let pairs = net.pairs;
     let mut counts = [0u32; 256];
-    sail(s, net, weights, movements, &mut counts[..pairs])
+    sail(net, weights, movements, &mut counts[..net.shape.pairs])
 }

@@ -7,20 +7,19 @@ ghost use Rattle.movement.specs.Figures.{sum as sum_to, weight as weight_of, fig
 ghost use Rattle.movement.proofs.Figures.{gain as gain_by_arc};
 ghost use Rattle.sheets.specs.lists.Weights.{weights_refusal};
 ghost use Rattle.sheets.specs.Decoded.{net_of, weights_of};
-ghost use Rattle.opened.specs.Shape.{Open};
 ghost use Rattle.opened.specs.Starts.{StartsAre, ModeArcs, OwnArc};
 
 use model::{Mode, Pair};
 use opened::arcs::arc;
 use opened::listed::weight;
-use opened::shape::NetShape;
+use opened::open::OpenNet;
 use opened::starts::{Segment, arcs_of};
 
 // "weight times (Post less Pre)", exact: 2^31 times less than 2^32 is less than 2^63.
 fn gain(weight: i32, pre: u32, post: u32) -> i64
     ensures { result ≡ weight *ℤ (pos post -ℤ pos pre) }
 {
-    (weight as i64) * ((post as i64) - (pre as i64))
+    i64::from(weight) * (i64::from(post) - i64::from(pre))
 }
 
 // What the count of the p-th pair weighs: its gain over none.
@@ -33,63 +32,50 @@ fn term(weights: &[u8], pairs: usize, p: usize, count: u32) -> i64
 }
 
 // "The figure is the sum over all pairs of weight times count."
-pub(crate) fn figure_of(s: &[u8], net: NetShape, weights: &[u8], marking: &[u32]) -> i64
-    requires fact { Open s.now net }
-    requires weights_value { weights_refusal net.pairs weights.now ≡ none }
-    requires marking { Marking (net_of s.now) marking.now }
-    ensures { result ≡ figure (net_of s.now) (weights_of weights.now) marking.now }
+pub(crate) fn figure_of(net: &OpenNet, weights: &[u8], marking: &[u32]) -> i64
+    requires weights_value { weights_refusal net.now.shape.pairs weights.now ≡ none }
+    requires marking { Marking (net_of net.now.sheet.now) marking.now }
+    ensures { result ≡ figure (net_of net.now.sheet.now) (weights_of weights.now) marking.now }
 {
-    let pairs = net.pairs;
     let mut sum: i64 = 0;
-    let mut p = 0;
-    while p < pairs {
-        sum += term(weights, pairs, p, marking[p]);
-        p += 1;
+    for p in 0..net.shape.pairs {
+        sum += term(weights, net.shape.pairs, p, marking[p]);
     }
     sum
 }
 
 // What the i-th arc adds to its mode's weight change.
-fn arc_gain(s: &[u8], net: NetShape, weights: &[u8], arcs: Segment, i: usize) -> i64
-    requires fact { Open s.now net }
-    requires weights_value { weights_refusal net.pairs weights.now ≡ none }
-    requires own_arc { OwnArc (net_of s.now).arcs arcs i }
-    ensures { result ≡ gain_by_arc (weights_of weights.now) (arc_no (net_of s.now).arcs (arcs.start + i)) }
+fn arc_gain(net: &OpenNet, weights: &[u8], arcs: Segment, i: usize) -> i64
+    requires weights_value { weights_refusal net.now.shape.pairs weights.now ≡ none }
+    requires own_arc { OwnArc (net_of net.now.sheet.now).arcs arcs i }
+    ensures { result ≡ gain_by_arc (weights_of weights.now) (arc_no (net_of net.now.sheet.now).arcs (arcs.start + i)) }
 {
-    let arc = arc(s, net, arcs, i);
-    let pair = arc.pair;
-    gain(weight(weights, net.pairs, pair), arc.pre, arc.post)
+    let arc = arc(net, arcs, i);
+    gain(
+        weight(weights, net.shape.pairs, arc.pair),
+        arc.pre,
+        arc.post,
+    )
 }
 
-pub(crate) fn gains(s: &[u8], net: NetShape, weights: &[u8], arcs: Segment) -> i64
-    requires fact { Open s.now net }
-    requires weights_value { weights_refusal net.pairs weights.now ≡ none }
-    requires mode_arcs { ModeArcs (net_of s.now).arcs arcs.mode arcs.start arcs.count }
-    ensures { result ≡ sum_to arcs.count (λ k. gain_by_arc (weights_of weights.now) (arc_no (net_of s.now).arcs (arcs.start + k))) }
+pub(crate) fn gains(net: &OpenNet, weights: &[u8], arcs: Segment) -> i64
+    requires weights_value { weights_refusal net.now.shape.pairs weights.now ≡ none }
+    requires mode_arcs { ModeArcs (net_of net.now.sheet.now).arcs arcs.mode arcs.start arcs.count }
+    ensures { result ≡ sum_to arcs.count (λ k. gain_by_arc (weights_of weights.now) (arc_no (net_of net.now.sheet.now).arcs (arcs.start + k))) }
 {
-    let count = arcs.count;
     let mut sum: i64 = 0;
-    let mut i = 0;
-    while i < count {
-        sum += arc_gain(s, net, weights, arcs, i);
-        i += 1;
+    for i in 0..arcs.count {
+        sum += arc_gain(net, weights, arcs, i);
     }
     sum
 }
 
 // "A mode's weight change is the sum of weight times (Post less Pre)": over its own arcs, since elsewhere Pre = Post = 0.
-pub(crate) fn change_of(
-    s: &[u8],
-    net: NetShape,
-    starts: &[u16; 257],
-    weights: &[u8],
-    mode: Mode,
-) -> i64
-    requires fact { Open s.now net }
-    requires starts_are { StartsAre (net_of s.now).arcs starts.now }
-    requires weights_value { weights_refusal net.pairs weights.now ≡ none }
-    requires mode_lt_modes { mode.0 < net.modes }
-    ensures { result ≡ change (net_of s.now) (weights_of weights.now) mode }
+pub(crate) fn change_of(net: &OpenNet, starts: &[u16; 257], weights: &[u8], mode: Mode) -> i64
+    requires starts_are { StartsAre (net_of net.now.sheet.now).arcs starts.now }
+    requires weights_value { weights_refusal net.now.shape.pairs weights.now ≡ none }
+    requires mode_lt_modes { mode.0 < net.now.shape.modes }
+    ensures { result ≡ change (net_of net.now.sheet.now) (weights_of weights.now) mode }
 {
-    gains(s, net, weights, arcs_of(s, net, starts, mode))
+    gains(net, weights, arcs_of(net, starts, mode))
 }

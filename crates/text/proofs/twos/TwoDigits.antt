@@ -1,11 +1,9 @@
 -- The digits of a number cut in two, and the table of two digits.
 use Prim.Native.Nat.{ℕ, zero, suc, ◌+◌, ◌*◌, ◌/◌, ◌%◌, ◌^◌, ◌≤◌, ◌<◌}
 use mathlib.Core.Path.{◌≡◌, refl, sym, ◌∙◌, ap}
-use mathlib.Core.Logic.{⊎_elim}
 use mathlib.Core.List.{List, [], ◌∷◌, ◌++◌, append_assoc, append-nil}
-use lib.ListN.{length, get_or, set, length-set}
-use lib.Seq.{get_or-set_same, get_or-set_other}
-use native.Mathlib.Nat.{zero-add, suc-add, mul_assoc, div-one, div-div-eq-div-mul, div-add-mod, pow-zero, pow-suc, pow-succ', one-le-pow, mod-eq_of_lt, eq-or-lt_of_le}
+use lib.ListN.{get_or}
+use native.Mathlib.Nat.{zero-add, suc-add, mul_assoc, div-one, div-div-eq-div-mul, div-add-mod, pow-zero, pow-suc, pow-succ', one-le-pow, mod-eq_of_lt}
 use native.Mathlib.Omega.{arith}
 use Rattle.text.specs.Decimals.{digit, decimal}
 use Rattle.text.specs.LastDigits.{last_digits}
@@ -59,25 +57,3 @@ module _ {table : List ℕ} {k : ℕ} where
   pub two-read : TwosAre 100 table → k < 100 → last_digits 2 k ≡ get_or table (2 * k) 0 ∷ get_or table (2 * k + 1) 0 ∷ []
   unfolding last_digits
   two-read twos h = rw (twos.ten k h, twos.one k h, mod-eq_of_lt {n = k / 10} {m = 10} (omega arith))
-
-  pub two-more : k < 100 → length table ≡ 200 → TwosAre k table
-      → TwosAre (k + 1) (set (set table (2 * k) (digit (k / 10))) (2 * k + 1) (digit (k % 10)))
-  two-more h long before =
-      let ten = digit (k / 10) in
-      let one = digit (k % 10) in
-      let then = set table (2 * k) ten in
-      record {
-        ten =
-            λ j l.
-            get_or-set_other then (2 * k + 1) (2 * j) one 0 (λ q. omega arith)
-            ∙ ⊎_elim (λ (q : j ≡ k). rw q (get_or-set_same table (2 * k) ten 0 (omega arith)))
-            (λ (b : j < k). get_or-set_other table (2 * k) (2 * j) ten 0 (λ q. omega arith) ∙ before.ten j b)
-            (eq-or-lt_of_le (omega arith));
-        one =
-            λ j l.
-            ⊎_elim (λ (q : j ≡ k). rw q (get_or-set_same then (2 * k + 1) one 0 (rw length-set (omega arith))))
-            (λ (b : j < k).
-            get_or-set_other then (2 * k + 1) (2 * j + 1) one 0 (λ q. omega arith) ∙ get_or-set_other table (2 * k) (2 * j + 1) ten 0 (λ q. omega arith)
-            ∙ before.one j b)
-            (eq-or-lt_of_le (omega arith));
-      }

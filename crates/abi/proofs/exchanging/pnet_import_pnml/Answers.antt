@@ -2,4 +2,4 @@
 use Rattle.abi.proofs.exchanging.pnet_import_pnml.Goals as goal
 
 pub returns : goal.returns
-returns c = (_, c.import_pnml.ensures, c.tell_emitted.ensures)
+returns c = (_, c.import_pnml.ensures, c.into.ensures)

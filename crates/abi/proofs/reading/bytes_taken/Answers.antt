@@ -8,19 +8,19 @@ use Rattle.sheets.specs.Whole.{rest}
 use Rattle.abi.proofs.reading.bytes_taken.Goals as goal
 
 pub sheet_end-requires : goal.sheet_end-requires
-sheet_end-requires c = omega (arith, c.requires c.in-Accepted.is)
+sheet_end-requires c = omega (arith, c.requires c.in-Ok.is)
 
-pub returns-in-Accepted : goal.returns-in-Accepted
+pub returns-in-Ok : goal.returns-in-Ok
 unfolding rest
-returns-in-Accepted c =
+returns-in-Ok c =
     let s = c.args.s.now in
-    let accepted = c.in-Accepted.is in
+    let accepted = c.in-Ok.is in
     let kept : length s - length (drop (sheet_end s) s) ≡ sheet_end s = simp length-drop (omega (arith, c.requires accepted)) in
-    rw (c.tell-answer.ensures, accepted, kept, c.sheet_end.ensures)
+    rw (c.into-answer.ensures, accepted, kept, c.sheet_end.ensures)
 
-pub returns-in-Refused : goal.returns-in-Refused
+pub returns-in-Err : goal.returns-in-Err
 unfolding rest
-returns-in-Refused c =
+returns-in-Err c =
     let s = c.args.s.now in
     let none_kept : length s - length s ≡ 0 = omega arith in
-    rw (c.tell-answer.ensures, c.in-Refused.is, none_kept)
+    rw (c.into-answer.ensures, c.in-Err.is, none_kept)

@@ -1,16 +1,16 @@
 -- A refusal, or the search.
 use mathlib.Core.Path.{sym, ◌∙◌}
-use Rattle.model.proofs.Refusals.{answer-none, answer-refused}
+use Rattle.model.proofs.Refusals.{answer-refused}
+use Rattle.model.proofs.Asking.{handed_on, no_refusal}
 use Rattle.complement.proofs.audit.OneEach.{one_each_lem}
-use Rattle.complement.proofs.audit.Answers.{finds-refused, finds-same}
+use Rattle.complement.proofs.audit.Answers.{finds-refused, finds-all}
 use Rattle.complement.proofs.audit.audit_open.Goals as goal
 
 pub find-requires : goal.find-requires
-find-requires c = record { fact = c.requires; below_are = c.bounded_below-below.ensures; one_each = one_each_lem _ _ _ _ (answer-none _ c.audit_answer-answer.ensures c.in-Accepted.is) }
+find-requires c = record { below_are = c.bounded_below-below.ensures; one_each = one_each_lem _ _ _ _ (no_refusal _ c.in_ok-audit_answer.ensures) }
 
-pub returns-in-Refused : goal.returns-in-Refused
-returns-in-Refused c = finds-refused _ (answer-refused _ (sym c.audit_answer-answer.ensures ∙ c.in-Refused.is))
+pub returns-in_err-audit_answer : goal.returns-in_err-audit_answer
+returns-in_err-audit_answer c = handed_on c.from_residual.ensures ∙ finds-refused _ (answer-refused _ (sym c.in_err-audit_answer.ensures))
 
-pub returns-in-Accepted : goal.returns-in-Accepted
-returns-in-Accepted c =
-    finds-same _ (answer-none _ c.audit_answer-answer.ensures c.in-Accepted.is) c.find.ensures
+pub returns : goal.returns
+returns c = finds-all _ (no_refusal _ c.in_ok-audit_answer.ensures) c.find.ensures

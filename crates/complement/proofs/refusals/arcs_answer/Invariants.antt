@@ -1,5 +1,5 @@
 -- No arc of a mode below t is refused.
-use Prim.Native.Nat.{ℕ, ◌≤◌, ◌-◌}
+use Prim.Native.Nat.{ℕ}
 use mathlib.Core.Path.{◌≡◌}
 use mathlib.Core.Option.{none}
 use Rattle.model.specs.First.{first}
@@ -9,7 +9,4 @@ use Rattle.complement.specs.ArcRefusals.{inhibited_at}
 use Rattle.complement.proofs.refusals.arcs_answer.Given as goal
 
 abbrev pub invariant-loop-t : goal.invariant-loop-t
-invariant-loop-t l = (l.t ≤ l.modes) × ((k : ℕ) → FirstFrom (net_of l.s).arcs l.t k → first k (inhibited_at l.s) ≡ none)
-
-abbrev pub decreases-loop-t : goal.decreases-loop-t
-decreases-loop-t l = l.modes - l.t
+invariant-loop-t l = ((k : ℕ) → FirstFrom (net_of l.net.sheet.now).arcs l.t k → first k (inhibited_at l.net.sheet.now) ≡ none)

@@ -1,20 +1,20 @@
-use borrow.Author.Rules.{rules}
 use mathlib.Core.Path.{sym}
 use Rattle.model.proofs.First.{first-none}
-use Rattle.model.proofs.Refusals.{answer-first-at, answer-first-end, answer-first-more}
+use Rattle.model.proofs.Refusals.{answer-first-end}
+use Rattle.model.proofs.Asking.{first_goes_on, first_stops}
 use Rattle.complement.proofs.refusals.mode_answer.Goals as goal
 
-pub returns-in-Refused : goal.returns-in-Refused
-returns-in-Refused c =
+pub returns-in_err-arc_answer : goal.returns-in_err-arc_answer
+returns-in_err-arc_answer c =
     let l = c.loop-i in
-    answer-first-at _ l.i _ c.loop-i-test.true l.invariant.1 c.arc_answer-answer.ensures c.in-Refused.is
+    first_stops _ l.i _ c.loop-i-test.true l.invariant c.in_err-arc_answer.ensures c.from_residual.ensures
 
 pub loop-i-preserved : goal.loop-i-preserved
 loop-i-preserved c =
-    (search rules, answer-first-more _ _ c.loop-i.invariant.1 c.arc_answer-answer.ensures c.in_default.is)
+    first_goes_on _ _ c.loop-i.invariant c.in_ok-arc_answer.ensures
 
 pub returns : goal.returns
-returns c = answer-first-end _ _ _ c.loop-i.invariant.0 c.loop-i-test.false c.loop-i.invariant.1
+returns c = answer-first-end _ _ _ c.loop-i.auto.i-end c.loop-i-test.false c.loop-i.invariant
 
 pub loop-i-init : goal.loop-i-init
-loop-i-init c = (search rules, sym (first-none _))
+loop-i-init c = sym (first-none _)

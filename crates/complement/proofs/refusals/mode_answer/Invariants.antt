@@ -1,5 +1,5 @@
 -- No arc of the mode before the i-th is refused.
-use Prim.Native.Nat.{◌+◌, ◌≤◌, ◌-◌}
+use Prim.Native.Nat.{◌+◌}
 use mathlib.Core.Path.{◌≡◌}
 use mathlib.Core.Option.{none}
 use Rattle.model.specs.First.{first}
@@ -7,7 +7,4 @@ use Rattle.complement.specs.ArcRefusals.{inhibited_at}
 use Rattle.complement.proofs.refusals.mode_answer.Given as goal
 
 abbrev pub invariant-loop-i : goal.invariant-loop-i
-invariant-loop-i l = (l.i ≤ l.count) × (first l.i (λ k. inhibited_at l.s (l.arcs.start + k)) ≡ none)
-
-abbrev pub decreases-loop-i : goal.decreases-loop-i
-decreases-loop-i l = l.count - l.i
+invariant-loop-i l = (first l.i (λ k. inhibited_at l.net.sheet.now (l.arcs.start + k)) ≡ none)

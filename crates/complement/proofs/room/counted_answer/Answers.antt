@@ -1,8 +1,11 @@
 -- What fits with more arcs fits; else they are counted.
-use mathlib.Core.Path.{sym, ◌∙◌, ap}
+use mathlib.Core.Path.{◌≡◌, refl, sym, ◌∙◌, ap}
+use mathlib.Core.Bool.{true, false≢true}
+use mathlib.Core.Option.{Option, none, some}
 use native.Mathlib.Omega.{arith}
-use Rattle.model.specs.Refusals.{answer}
-use Rattle.model.proofs.Refusals.{answer-none}
+use Rattle.std.specs.Result.{is_ok}
+use Rattle.model.specs.declared.Refusal.{Refusal}
+use Rattle.model.specs.Refusals.{Answer, answer}
 use Rattle.sheets.specs.Decoded.{net_of}
 use Rattle.opened.proofs.Shapes.{sizes}
 use Rattle.complement.specs.Sizes.{sizes_refusal}
@@ -10,24 +13,24 @@ use Rattle.complement.proofs.SheetParts.{sizes-is}
 use Rattle.complement.proofs.Answers.{still-fits}
 use Rattle.complement.proofs.room.counted_answer.Goals as goal
 
-pub room_answer-fits-requires : goal.room_answer-fits-requires
-room_answer-fits-requires c = let pre = c.requires in
-    let z = sizes pre.fact in record { few = pre.sizes_with.1; transitions_bound = (omega (arith, z.transitions, z.well_formed.transitions.many), z.modes_within) }
+none_if_ok : (o : Option Refusal) {a : Answer} → a ≡ answer o → true ≡ is_ok a → o ≡ none
+none_if_ok none e h = refl
+none_if_ok (some r) e h = absurd (false≢true (sym (h ∙ ap is_ok e)))
 
-pub returns-in-Accepted : goal.returns-in-Accepted
-returns-in-Accepted c =
+pub room_answer-requires-clause-transitions_bound : goal.room_answer-requires-clause-transitions_bound
+room_answer-requires-clause-transitions_bound c = let z = sizes c.args.net.now.is_open in (omega (arith, z.transitions, z.well_formed.transitions.many), z.modes_within)
+
+pub returns-then-is_ok : goal.returns-then-is_ok
+returns-then-is_ok c =
     let pre = c.requires in
-    let accepted = c.in-Accepted.is in
-    accepted ∙ sym (ap answer (still-fits pre.fact _ pre.starts_are pre.sizes_with.0 (answer-none _ c.room_answer-fits.ensures accepted)))
+    ap answer (sym (still-fits c.args.net.now.is_open _ pre.starts_are pre.sizes_with.0 (none_if_ok _ c.room_answer.ensures (sym c.if-is_ok.true ∙ c.is_ok.ensures.value))))
 
-pub room_answer-requires : goal.room_answer-requires
-room_answer-requires c = let pre = c.requires in
-    let z = sizes pre.fact in
-    let few = pre.sizes_with.1 in record { few = record { places = few.places; pairs = few.pairs; arcs = c.count_arcs.ensures.1 }; transitions_bound = (omega (arith, z.transitions, z.well_formed.transitions.many), z.modes_within) }
+pub room_answer-requires-2-clause-transitions_bound : goal.room_answer-requires-2-clause-transitions_bound
+room_answer-requires-2-clause-transitions_bound c = let z = sizes c.args.net.now.is_open in (omega (arith, z.transitions, z.well_formed.transitions.many), z.modes_within)
 
 pub returns : goal.returns
 returns c =
     let a = c.args in
     let with = c.requires.sizes_with.0 in
-    c.room_answer.ensures
-    ∙ ap (λ of. answer (sizes_refusal a.net of a.room)) (sizes-is (net_of a.s.now) (record { places = with.places; pairs = with.pairs; arcs = c.count_arcs.ensures.0 }))
+    c.room_answer-2.ensures
+    ∙ ap (λ of. answer (sizes_refusal a.net.now.shape of a.room)) (sizes-is (net_of a.net.now.sheet.now) (record { places = with.places; pairs = with.pairs; arcs = c.count_arcs.ensures.0 }))

@@ -23,27 +23,27 @@ pub put_head-at_places-requires : goal.put_head-at_places-requires
 put_head-at_places-requires c =
     let pre = c.requires in
     record {
-      room = room_as (sym (head_is pre.fact pre.size_value.0)) (room-first _ _ pre.room);
+      room = room_as (sym (head_is c.args.net.now.is_open pre.size_value.0)) (room-first _ _ pre.room);
       le_size = ((length-is _ _ pre.size_value.0).1, pre.size_value.1);
     }
 
 pub put_count-at_transitions-requires : goal.put_count-at_transitions-requires
 put_count-at_transitions-requires c =
     let pre = c.requires in
-    let head = puts_as (head_is pre.fact pre.size_value.0) c.put_head-at_places.ensures in
+    let head = puts_as (head_is c.args.net.now.is_open pre.size_value.0) c.put_head-at_places.ensures in
     (count_fits _ (room-first _ _ (room_next _ _ pre.room head)), omega (arith, pre.places_value.1))
 
 pub put_count-requires : goal.put_count-requires
 put_count-requires c =
     let pre = c.requires in
-    let z = sizes pre.fact in
-    let head = puts_as (head_is pre.fact pre.size_value.0) c.put_head-at_places.ensures in
+    let z = sizes c.args.net.now.is_open in
+    let head = puts_as (head_is c.args.net.now.is_open pre.size_value.0) c.put_head-at_places.ensures in
     let places = puts_as (ap bytes16 pre.places_value.0) (put_length c.put_count-at_transitions.ensures) in
     (count_fits _ (room_next _ _ (room_next _ _ pre.room head) places), omega (arith, z.transitions, z.well_formed.transitions.many))
 
 pub returns : goal.returns
 returns c =
     let pre = c.requires in
-    let head = puts_as (head_is pre.fact pre.size_value.0) c.put_head-at_places.ensures in
+    let head = puts_as (head_is c.args.net.now.is_open pre.size_value.0) c.put_head-at_places.ensures in
     let places = puts_as (ap bytes16 pre.places_value.0) (put_length c.put_count-at_transitions.ensures) in
-    puts-both head (puts-both places (puts_as (ap bytes16 (transitions-are pre.fact)) (put_length c.put_count.ensures)))
+    puts-both head (puts-both places (puts_as (ap bytes16 (transitions-are c.args.net.now.is_open)) (put_length c.put_count.ensures)))

@@ -7,7 +7,4 @@ use Rattle.convert.specs.Parts.{mode_group}
 use Rattle.convert.proofs.arcs.put_groups.Given as goal
 
 abbrev pub invariant-loop-t : goal.invariant-loop-t
-invariant-loop-t l = (l.t ≤ l.modes) × Puts l.initial.out l.at (joined l.t (mode_group l.version (net_of l.s))) l.out l.next
-
-abbrev pub decreases-loop-t : goal.decreases-loop-t
-decreases-loop-t l = l.modes - l.t
+invariant-loop-t l = Puts l.initial.out l.at (joined l.t (mode_group l.version (net_of l.net.sheet.now))) l.out l.next

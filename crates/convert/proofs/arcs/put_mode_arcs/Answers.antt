@@ -6,18 +6,18 @@ use Rattle.convert.proofs.arcs.put_mode_arcs.Goals as goal
 
 pub put_arc-next-requires : goal.put_arc-next-requires
 put_arc-next-requires c = let l = c.loop-i in
-    let room = room-more _ l.i l.invariant.1 _ (room_as (segment_bytes _ _ _ _ c.requires.mode_arcs _) c.requires.room) c.loop-i-test.true in record { fact = c.requires.fact; own_arc = record { own = c.requires.mode_arcs; there = c.loop-i-test.true }; version_in_bounds = arc-fits c.args.version _ room }
+    let room = room-more _ l.i l.invariant _ (room_as (segment_bytes _ _ _ _ c.requires.mode_arcs _) c.requires.room) c.loop-i-test.true in record { own_arc = record { own = c.requires.mode_arcs; there = c.loop-i-test.true }; version_in_bounds = arc-fits c.args.version _ room }
 
 pub loop-i-preserved : goal.loop-i-preserved
 loop-i-preserved c =
     let l = c.loop-i in
-    (omega (arith, c.loop-i-test.true), puts-more _ l.i l.invariant.1 (put_length c.put_arc-next.ensures))
+    puts-more _ l.i l.invariant (put_length c.put_arc-next.ensures)
 
 pub returns : goal.returns
 returns c =
     let l = c.loop-i in
     let pre = c.requires in
-    puts_as (sym (segment_bytes _ _ _ _ pre.mode_arcs _)) (puts-end _ l.i l.invariant.1 _ l.invariant.0 c.loop-i-test.false)
+    puts_as (sym (segment_bytes _ _ _ _ pre.mode_arcs _)) (puts-end _ l.i l.invariant _ l.auto.i-end c.loop-i-test.false)
 
 pub loop-i-init : goal.loop-i-init
-loop-i-init c = (omega arith, puts_none _)
+loop-i-init c = puts_none _

@@ -7,8 +7,4 @@ use Rattle.convert.specs.Parts.{arc_no_bytes}
 use Rattle.convert.proofs.arcs.put_mode_arcs.Given as goal
 
 abbrev pub invariant-loop-i : goal.invariant-loop-i
-invariant-loop-i l =
-    (l.i ≤ l.count) × Puts l.initial.out l.at (joined l.i (λ k. arc_no_bytes l.version (net_of l.s) (l.arcs.start + k))) l.out l.next
-
-abbrev pub decreases-loop-i : goal.decreases-loop-i
-decreases-loop-i l = l.count - l.i
+invariant-loop-i l = Puts l.initial.out l.at (joined l.i (λ k. arc_no_bytes l.version (net_of l.net.sheet.now) (l.arcs.start + k))) l.out l.next

@@ -1,12 +1,12 @@
 -- All K, then the I of the arcs.
-use Rattle.model.proofs.Refusals.{answer-stops, answer-goes-on}
+use Rattle.model.proofs.Asking.{goes_on, stops}
 use Rattle.export.specs.Exports.{refusal19}
 use Rattle.export.proofs.bounds.bounds_answer.Goals as goal
 
-pub returns-in-Refused : goal.returns-in-Refused
+pub returns-in_err-capacities_answer : goal.returns-in_err-capacities_answer
 unfolding refusal19
-returns-in-Refused c = answer-stops _ _ c.capacities_answer-capacities.ensures c.in-Refused.is
+returns-in_err-capacities_answer c = stops _ _ c.in_err-capacities_answer.ensures c.from_residual.ensures
 
 pub returns : goal.returns
 unfolding refusal19
-returns c = answer-goes-on _ _ c.capacities_answer-capacities.ensures c.in_default.is c.inhibitors_answer.ensures
+returns c = goes_on _ _ c.in_ok-capacities_answer.ensures c.inhibitors_answer.ensures

@@ -1,5 +1,4 @@
 -- No K of a pair before the p-th is finite.
-use Prim.Native.Nat.{◌≤◌, ◌-◌}
 use mathlib.Core.Path.{◌≡◌}
 use mathlib.Core.Option.{none}
 use Rattle.model.specs.First.{first}
@@ -7,7 +6,4 @@ use Rattle.export.specs.Bounds.{capacity_refusal}
 use Rattle.export.proofs.bounds.capacities_answer.Given as goal
 
 abbrev pub invariant-loop-p : goal.invariant-loop-p
-invariant-loop-p l = (l.p ≤ l.pairs) × (first l.p (capacity_refusal l.s) ≡ none)
-
-abbrev pub decreases-loop-p : goal.decreases-loop-p
-decreases-loop-p l = l.pairs - l.p
+invariant-loop-p l = (first l.p (capacity_refusal l.net.sheet.now) ≡ none)

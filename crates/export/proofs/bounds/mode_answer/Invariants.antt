@@ -1,5 +1,5 @@
 -- No I of the mode's arcs before the i-th is finite.
-use Prim.Native.Nat.{◌+◌, ◌≤◌, ◌-◌}
+use Prim.Native.Nat.{◌+◌}
 use mathlib.Core.Path.{◌≡◌}
 use mathlib.Core.Option.{none}
 use Rattle.model.specs.First.{first}
@@ -7,7 +7,4 @@ use Rattle.export.specs.Bounds.{inhibitor_refusal}
 use Rattle.export.proofs.bounds.mode_answer.Given as goal
 
 abbrev pub invariant-loop-i : goal.invariant-loop-i
-invariant-loop-i l = (l.i ≤ l.count) × (first l.i (λ k. inhibitor_refusal l.s (l.arcs.start + k)) ≡ none)
-
-abbrev pub decreases-loop-i : goal.decreases-loop-i
-decreases-loop-i l = l.count - l.i
+invariant-loop-i l = (first l.i (λ k. inhibitor_refusal l.net.sheet.now (l.arcs.start + k)) ≡ none)

@@ -8,8 +8,4 @@ use Rattle.fields.specs.Fields.{running_refusal}
 use Rattle.fields.proofs.counts.read_counts.Given as goal
 
 abbrev pub invariant-loop-i : goal.invariant-loop-i
-invariant-loop-i l =
-    (l.i ≤ l.n) × (first l.i (running_refusal l.s l.start) ≡ none) × (l.total ≡ total_of l.s l.start l.i) × (l.total ≤ 256)
-
-abbrev pub decreases-loop-i : goal.decreases-loop-i
-decreases-loop-i l = l.n - l.i
+invariant-loop-i l = (first l.i (running_refusal l.sheet.bytes.now l.start) ≡ none) × (l.total ≡ total_of l.sheet.bytes.now l.start l.i) × (l.total ≤ 256)

@@ -5,7 +5,4 @@ use Rattle.heads.specs.Layout.{total_of}
 use Rattle.fields.proofs.counts.total_of.Given as goal
 
 abbrev pub invariant-loop-i : goal.invariant-loop-i
-invariant-loop-i l = (l.i ≤ l.n) × (l.total ≡ total_of l.s l.start l.i) × (l.total ≤ 65536 * l.i)
-
-abbrev pub decreases-loop-i : goal.decreases-loop-i
-decreases-loop-i l = l.n - l.i
+invariant-loop-i l = (l.total ≡ total_of l.s l.start l.i) × (l.total ≤ 65536 * l.i)

@@ -1,9 +1,10 @@
--- An unbounded number is in range.
+-- 4,294,967,295 is unbounded, and not outside.
+use borrow.Author.Tests.{eq-eqb}
 use Rattle.fields.proofs.Bounds.{bound-unbounded, bound-finite}
 use Rattle.fields.proofs.numbers.bound_outside.Goals as goal
 
-pub returns-then-x-eq4294967295 : goal.returns-then-x-eq4294967295
-returns-then-x-eq4294967295 c = rw (bound-unbounded _ c.if-x-eq4294967295.true)
+pub returns-then-x-ne4294967295 : goal.returns-then-x-ne4294967295
+returns-then-x-ne4294967295 c = rw (bound-finite _ c.if-x-ne4294967295.true)
 
-pub returns : goal.returns
-returns c = rw (bound-finite _ c.if-x-eq4294967295.false)
+pub returns-else-x-ne4294967295 : goal.returns-else-x-ne4294967295
+returns-else-x-ne4294967295 c = rw (bound-unbounded _ c.if-x-ne4294967295.false, eq-eqb _ _ c.if-x-ne4294967295.false)

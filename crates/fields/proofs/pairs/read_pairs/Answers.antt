@@ -1,20 +1,21 @@
 use borrow.Author.Rules.{rules}
 use Rattle.model.specs.First.{first}
-use Rattle.model.proofs.Refusals.{answer-first-at, answer-first-end, answer-first-more}
+use Rattle.model.proofs.Refusals.{answer-first-end}
+use Rattle.model.proofs.Asking.{first_goes_on, first_stops}
 use Rattle.fields.proofs.pairs.read_pairs.Goals as goal
 
 pub loop-p-init : goal.loop-p-init
 unfolding first
 loop-p-init c = search rules
 
-pub returns-in-Refused : goal.returns-in-Refused
-returns-in-Refused c =
+pub returns-in_err-read_pair : goal.returns-in_err-read_pair
+returns-in_err-read_pair c =
     let l = c.loop-p in
-    answer-first-at _ l.p _ c.loop-p-test.true l.invariant.1 c.read_pair-answer.ensures c.in-Refused.is
+    first_stops _ l.p _ c.loop-p-test.true l.invariant c.in_err-read_pair.ensures c.from_residual.ensures
 
 pub loop-p-preserved : goal.loop-p-preserved
 loop-p-preserved c =
-    (search rules, answer-first-more _ _ c.loop-p.invariant.1 c.read_pair-answer.ensures c.in_default.is)
+    first_goes_on _ _ c.loop-p.invariant c.in_ok-read_pair.ensures
 
 pub returns : goal.returns
-returns c = answer-first-end _ _ _ c.loop-p.invariant.0 c.loop-p-test.false c.loop-p.invariant.1
+returns c = answer-first-end _ _ _ c.loop-p.auto.p-end c.loop-p-test.false c.loop-p.invariant

@@ -8,7 +8,4 @@ use Rattle.fields.specs.Fields.{pair_refusal}
 use Rattle.fields.proofs.pairs.read_pairs.Given as goal
 
 abbrev pub invariant-loop-p : goal.invariant-loop-p
-invariant-loop-p l = (l.p ≤ l.n) × (first l.p (λ q. pair_refusal l.s (pair_at l.start q)) ≡ none)
-
-abbrev pub decreases-loop-p : goal.decreases-loop-p
-decreases-loop-p l = l.n - l.p
+invariant-loop-p l = (first l.p (λ q. pair_refusal l.sheet.bytes.now (pair_at l.start q)) ≡ none)

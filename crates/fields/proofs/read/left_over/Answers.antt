@@ -7,7 +7,7 @@ use Rattle.fields.proofs.read.left_over.Goals as goal
 pub returns-then-at-sheet_end : goal.returns-then-at-sheet_end
 returns-then-at-sheet_end c =
     let a = c.args in
-    simp (lt-ltb a.at (sheet_end a.s.now) (omega arith)) c.refused.ensures
+    simp (lt-ltb a.at (sheet_end a.sheet.now.bytes.now) (omega arith)) c.refused.ensures
 
 pub returns : goal.returns
-returns c = let a = c.args in simp (le-ltb a.at (sheet_end a.s.now) (omega arith))
+returns c = let a = c.args in simp (le-ltb a.at (sheet_end a.sheet.now.bytes.now) (omega arith))

@@ -7,7 +7,7 @@ use Rattle.opened.proofs.Shapes.{sizes}
 use Rattle.fire.proofs.marking.count_answer.Goals as goal
 
 pub overflow_cast-pair : goal.overflow_cast-pair
-overflow_cast-pair c = omega (arith, (sizes c.requires.fact).pairs_within)
+overflow_cast-pair c = omega (arith, (sizes c.args.net.now.is_open).pairs_within)
 
 pub returns-then-count-gt1000000 : goal.returns-then-count-gt1000000
 returns-then-count-gt1000000 c = answer_fails _ (lt-ltb _ _ c.if-count-gt1000000.true) c.refused.ensures

@@ -8,7 +8,4 @@ use Rattle.model.specs.Markings.{count_at_refusal}
 use Rattle.fire.proofs.marking.each_count.Given as goal
 
 abbrev pub invariant-loop-p : goal.invariant-loop-p
-invariant-loop-p l = (l.p ≤ l.pairs) × (first l.p (count_at_refusal (net_of l.s) l.marking) ≡ none)
-
-abbrev pub decreases-loop-p : goal.decreases-loop-p
-decreases-loop-p l = l.pairs - l.p
+invariant-loop-p l = (first l.p (count_at_refusal (net_of l.net.sheet.now) l.marking) ≡ none)

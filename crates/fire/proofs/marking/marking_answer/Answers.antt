@@ -8,9 +8,9 @@ use Rattle.fire.proofs.marking.marking_answer.Goals as goal
 pub returns-then-marking-net : goal.returns-then-marking-net
 unfolding marking_refusal
 returns-then-marking-net c =
-    answer_fails _ (not_one-each c.requires _ c.if-marking-net.true) c.refused.ensures
+    answer_fails _ (not_one-each c.args.net.now.is_open _ c.if-marking-net.true) c.refused.ensures
 
 pub returns : goal.returns
 unfolding marking_refusal
 returns c =
-    answer-passes _ _ (one_each_lem c.requires _ c.if-marking-net.false) (rw (sizes c.requires).pairs at c.each_count.ensures)
+    answer-passes _ _ (one_each_lem c.args.net.now.is_open _ c.if-marking-net.false) (rw (sizes c.args.net.now.is_open).pairs at c.each_count.ensures)

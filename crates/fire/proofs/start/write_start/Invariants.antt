@@ -8,8 +8,4 @@ use Rattle.fire.proofs.Filling.{Filled}
 use Rattle.fire.proofs.start.write_start.Given as goal
 
 abbrev pub invariant-loop-p : goal.invariant-loop-p
-invariant-loop-p l =
-    (l.p ≤ l.pairs) × (length l.marking ≡ l.pairs) × Filled (λ q x. x ≡ count (net_of l.s).start q) l.marking l.p
-
-abbrev pub decreases-loop-p : goal.decreases-loop-p
-decreases-loop-p l = l.pairs - l.p
+invariant-loop-p l = Filled (λ q x. x ≡ count (net_of l.net.sheet.now).start q) l.marking l.p

@@ -1,20 +1,16 @@
 -- The net's refusal, or what is left to test and write once it is open.
-use Rattle.opened.proofs.Opening.{opens}
 use Rattle.fire.specs.step.Calls.{test_step_refusal}
 use Rattle.fire.proofs.Opening.{sheet-leaves, open_leaves}
+use Rattle.model.proofs.Asking.{handed_on}
 use Rattle.fire.proofs.step.fire_step.Goals as goal
 
-pub fire_open-requires : goal.fire_open-requires
-fire_open-requires c = opens _ c.open_net-opened.ensures c.in-Open.is
-
-pub returns-in-Refused : goal.returns-in-Refused
+pub returns-in_err-net : goal.returns-in_err-net
 unfolding test_step_refusal
-returns-in-Refused c =
-    let l = sheet-leaves _ _ c.open_net-opened.ensures c.in-Refused.is in
-    (l.answers, l.leaves)
+returns-in_err-net c = rw (handed_on c.from_residual.ensures) (let l = sheet-leaves _ _ c.in_err-net.ensures in
+    (l.answers, l.leaves))
 
-pub returns-in-Open : goal.returns-in-Open
+pub returns : goal.returns
 unfolding test_step_refusal
-returns-in-Open c =
-    let l = open_leaves _ _ c.open_net-opened.ensures c.in-Open.is c.fire_open.ensures in
+returns c =
+    let l = open_leaves _ _ c.in_ok-net.ensures.0 (rw c.in_ok-net.ensures.1 at c.fire_open.ensures) in
     (l.answers, l.leaves)

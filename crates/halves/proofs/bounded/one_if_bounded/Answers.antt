@@ -1,15 +1,18 @@
--- K is finite, or it is not.
-use mathlib.Core.Path.{sym, ◌∙◌}
+-- 1 where K is finite.
+use mathlib.Core.Path.{◌≡◌, refl, ◌∙◌, ap}
+use mathlib.Core.Bool.{Bool, true, false, cond}
 use native.Mathlib.Omega.{arith}
+use Rattle.std.specs.Int.{from_bool}
+use Rattle.second_form.specs.Complement.{finite}
 use Rattle.opened.proofs.Shapes.{sizes}
-use Rattle.fields.proofs.BoundNumbers.{finite-is, unbounded-is}
 use Rattle.halves.proofs.bounded.one_if_bounded.Goals as goal
 
-pub overflow_cast-p : goal.overflow_cast-p
-overflow_cast-p c = let z = sizes c.requires.fact in omega (arith, z.pairs_within)
+from-is : (b : Bool) → from_bool b ≡ cond b 1 0
+from-is true = refl
+from-is false = refl
 
-pub returns-then-is_finite : goal.returns-then-is_finite
-returns-then-is_finite c = rw (sym c.capacity.ensures ∙ finite-is _ (sym c.is_finite.ensures ∙ c.if-is_finite.true))
+pub overflow_cast-p : goal.overflow_cast-p
+overflow_cast-p c = let z = sizes c.args.net.now.is_open in omega (arith, z.pairs_within)
 
 pub returns : goal.returns
-returns c = rw (sym c.capacity.ensures ∙ unbounded-is _ (sym c.is_finite.ensures ∙ c.if-is_finite.false))
+returns c = c.from.ensures ∙ from-is _ ∙ ap (λ b. cond b 1 0) (c.is_finite.ensures ∙ ap finite c.capacity.ensures)

@@ -1,13 +1,8 @@
 -- The fields of an arc, one after the other.
-use mathlib.Core.Path.{◌∙◌}
 use mathlib.Core.List.{flatten}
 use Rattle.sheets.specs.written.Written.{mode_bytes, tail_bytes, arc_bytes}
 use Rattle.sheets.proofs.written.Puts.{nothing, puts}
 use Rattle.import.proofs.arcs.put_arc.Goals as goal
-
-pub shape_of-out : goal.shape_of-out
-shape_of-out c =
-    c.put32.auto.out ∙ c.put32-to_inhibitor.auto.out ∙ c.put32-to_post.auto.out ∙ c.put16-to_pre.auto.out ∙ c.put16-to_pair.auto.out
 
 pub returns : goal.returns
 unfolding arc_bytes mode_bytes tail_bytes flatten

@@ -1,20 +1,20 @@
 -- The opening, all lines, and nothing after them.
-use native.Mathlib.Omega.{arith}
-use Rattle.grammar.proofs.parts.Values.{whole_of, part_of, whole-within}
-use Rattle.import.proofs.scan.Answers.{lines-refused, lines-longer, lines-accepted, opening-part}
+use Rattle.grammar.proofs.HandedOn.{handed_on}
+use Rattle.grammar.proofs.parts.Values.{whole-within}
+use Rattle.import.proofs.scan.Answers.{lines-refused, lines-longer, lines-accepted, opening-part, checked-not}
 use Rattle.import.proofs.scan.check_text.Goals as goal
 
-pub returns-then-s-first : goal.returns-then-s-first
-returns-then-s-first c = absurd (omega (arith, whole-within (whole_of c.compare_opening-open.ensures c.in-Whole.is), c.if-s-first.true))
+pub returns-in_err-first : goal.returns-in_err-first
+returns-in_err-first c = checked-not (handed_on c.from_residual.ensures) (opening-part c.in_err-first.ensures.how)
+
+pub read_lines-requires : goal.read_lines-requires
+read_lines-requires c = whole-within c.in_ok-first.ensures.how
+
+pub returns-in_err-q : goal.returns-in_err-q
+returns-in_err-q c = checked-not (handed_on c.from_residual-in_err-q.ensures) (lines-refused c.in_ok-first.ensures.how c.in_err-q.ensures.how)
 
 pub returns-then-next-s : goal.returns-then-next-s
-returns-then-next-s c = record { how = lines-longer (whole_of c.compare_opening-open.ensures c.in-Whole.is) c.read_lines-lines.ensures c.in-Ended.is c.if-next-s.true }
+returns-then-next-s c = record { how = lines-longer c.in_ok-first.ensures.how c.in_ok-q.ensures.how c.if-next-s.true }
 
-pub returns-in-Part : goal.returns-in-Part
-returns-in-Part c = record { how = opening-part (part_of c.compare_opening-open.ensures c.in-Part.is) }
-
-pub returns-in-Refused : goal.returns-in-Refused
-returns-in-Refused c = record { how = lines-refused (whole_of c.compare_opening-open.ensures c.in-Whole.is) c.read_lines-lines.ensures c.in-Refused.is }
-
-pub returns-else-next-s : goal.returns-else-next-s
-returns-else-next-s c = record { how = lines-accepted (whole_of c.compare_opening-open.ensures c.in-Whole.is) c.read_lines-lines.ensures c.in-Ended.is c.if-next-s.false }
+pub returns : goal.returns
+returns c = record { how = lines-accepted c.in_ok-first.ensures.how c.in_ok-q.ensures.how c.if-next-s.false }

@@ -10,14 +10,6 @@ put_count-to_colours-requires c =
     let pre = c.requires in
     (count_fits _ (room-first _ _ (room_next _ _ pre.room (put_length c.put_count-to_transitions.ensures))), pre.places_bound.1)
 
-pub put_ones-to_modes-requires : goal.put_ones-to_modes-requires
-put_ones-to_modes-requires c =
-    room-first _ _ (room_next _ _ (room_next _ _ c.requires.room (put_length c.put_count-to_transitions.ensures)) (put_length c.put_count-to_colours.ensures))
-
-pub put_ones-requires : goal.put_ones-requires
-put_ones-requires c =
-    room_next _ _ (room_next _ _ (room_next _ _ c.requires.room (put_length c.put_count-to_transitions.ensures)) (put_length c.put_count-to_colours.ensures)) c.put_ones-to_modes.ensures
-
 pub returns : goal.returns
 returns c =
     puts-both (put_length c.put_count-to_transitions.ensures) (puts-both (put_length c.put_count-to_colours.ensures) (puts-both c.put_ones-to_modes.ensures c.put_ones.ensures))

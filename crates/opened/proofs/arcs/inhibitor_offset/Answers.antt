@@ -8,4 +8,4 @@ use Rattle.opened.proofs.arcs.inhibitor_offset.Goals as goal
 pub returns : goal.returns
 returns c =
     let pre = c.requires in
-    ap tail_inhibitor_at c.tail_of.ensures.0 ∙ inhibitor-there _ pre.fact.accepted _ _ (own-there pre.own_arc) (own-mode pre.own_arc)
+    ap tail_inhibitor_at c.tail_of.ensures.0 ∙ inhibitor-there _ c.args.net.now.is_open.accepted _ _ (own-there pre.own_arc) (own-mode pre.own_arc)

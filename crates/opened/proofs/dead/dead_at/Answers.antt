@@ -5,4 +5,4 @@ use Rattle.sheets.specs.Decoded.{net_of}
 use Rattle.opened.proofs.dead.dead_at.Goals as goal
 
 pub returns : goal.returns
-returns c = c.dead_by.ensures ∙ ap (is_dead (net_of c.args.s.now)) c.find_arcs.ensures.mode
+returns c = c.dead_by.ensures ∙ ap (is_dead (net_of c.args.net.now.sheet.now)) c.find_arcs.ensures.mode

@@ -11,19 +11,19 @@ unfolding is_dead
 returns-then-kills c =
     let l = c.loop-i in
     let i = c.loop-i-test.true in
-    rw (one-kills c.requires.fact _ _ _ c.requires.mode_arcs _ (omega arith) (omega arith) l.invariant.1
+    rw (one-kills c.args.net.now.is_open _ _ _ c.requires.mode_arcs _ (omega arith) (omega arith) l.invariant
     (sym (arc-kills c.arc.ensures c.kills.ensures) ∙ c.if-kills.true))
 
 pub loop-i-preserved : goal.loop-i-preserved
 loop-i-preserved c =
     let l = c.loop-i in
-    (search rules, passed-more (net_of c.args.s.now) c.args.arcs.start l.i l.invariant.1 (sym (arc-kills c.arc.ensures c.kills.ensures) ∙ c.if-kills.false))
+    passed-more (net_of c.args.net.now.sheet.now) c.args.arcs.start l.i l.invariant (sym (arc-kills c.arc.ensures c.kills.ensures) ∙ c.if-kills.false)
 
 pub returns : goal.returns
 unfolding is_dead
 returns c =
     let l = c.loop-i in
-    rw (none-kills c.requires.fact _ _ _ c.requires.mode_arcs (λ i h. l.invariant.1 i (omega (arith, c.loop-i-test.false))))
+    rw (none-kills c.args.net.now.is_open _ _ _ c.requires.mode_arcs (λ i h. l.invariant i (omega (arith, c.loop-i-test.false))))
 
 pub loop-i-init : goal.loop-i-init
-loop-i-init c = (search rules, λ k h l. absurd (omega arith))
+loop-i-init c = λ k h l. absurd (omega arith)

@@ -1,13 +1,10 @@
 -- The net's refusals, then the search.
-use Rattle.opened.proofs.Opening.{opened-refused, opened-shape, opens}
+use mathlib.Core.Path.{refl}
+use Rattle.model.proofs.Asking.{handed_on}
 use Rattle.opened.proofs.dead.first_dead.Goals as goal
 
-pub search-requires : goal.search-requires
-search-requires c = opens _ c.open_net-opened.ensures c.in-Open.is
+pub returns-in_err-net : goal.returns-in_err-net
+returns-in_err-net c = rw (handed_on c.from_residual.ensures, c.in_err-net.ensures)
 
-pub returns-in-Refused : goal.returns-in-Refused
-returns-in-Refused c = rw (opened-refused _ _ c.open_net-opened.ensures c.in-Refused.is)
-
-pub returns-in-Open : goal.returns-in-Open
-returns-in-Open c =
-    rw (opened-shape _ _ c.open_net-opened.ensures c.in-Open.is).0 c.search.ensures
+pub returns : goal.returns
+returns c = rw (c.in_ok-net.ensures.0, ← c.in_ok-net.ensures.1) (rw c.search.ensures)

@@ -5,4 +5,4 @@ use Rattle.opened.proofs.dead.highest_pre.Goals as goal
 
 pub returns : goal.returns
 returns c =
-    rw c.least.ensures (least_bounds _ _ (omega (arith, c.ranges.room)) (omega (arith, c.ranges.inhibitor)))
+    rw c.min.ensures (least_bounds _ _ (omega (arith, c.ranges.room)) (omega (arith, c.ranges.inhibitor)))

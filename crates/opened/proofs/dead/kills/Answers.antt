@@ -1,5 +1,4 @@
 -- By document 01's rule, then by the net's own.
-use borrow.Author.Tests.{not-true}
 use mathlib.Core.Path.{sym, ◌∙◌}
 use Rattle.fields.specs.Numbers.{bound}
 use Rattle.sheets.specs.Decoded.{net_of, net_arc}
@@ -7,13 +6,13 @@ use Rattle.opened.proofs.Shapes.{shaped}
 use Rattle.opened.proofs.dead.Bounds.{spared}
 use Rattle.opened.proofs.dead.kills.Goals as goal
 
-pub returns-then-not-kills_by : goal.returns-then-not-kills_by
-returns-then-not-kills_by c =
-    let start = c.args in
+pub returns-else-kills_by : goal.returns-else-kills_by
+returns-else-kills_by c =
+    let a = c.args in
     let most = c.capacity-most.result in
-    rw (← c.capacity-most.ensures)
-    (sym (spared (net_of start.s.now).rule (net_arc start.arc).entry (bound most) (sym c.kills_by.ensures ∙ not-true _ c.if-not-kills_by.true-raw)))
+    c.if-kills_by.false
+    ∙ rw (← c.capacity-most.ensures) (sym (spared (net_of a.net.now.sheet.now).rule (net_arc a.arc).entry (bound most) (sym c.kills_by.ensures ∙ c.if-kills_by.false)))
 
-pub returns : goal.returns
-returns c =
-    rw (← (shaped c.requires.fact).rule, ← c.capacity-most.ensures) c.kills_by-2.ensures
+pub returns-then-kills_by : goal.returns-then-kills_by
+returns-then-kills_by c =
+    rw (← (shaped c.args.net.now.is_open).rule, ← c.capacity-most.ensures) c.kills_by-then-kills_by.ensures

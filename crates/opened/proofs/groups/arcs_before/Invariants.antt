@@ -4,7 +4,4 @@ use Rattle.opened.specs.Shape.{Before}
 use Rattle.opened.proofs.groups.arcs_before.Given as goal
 
 abbrev pub invariant-loop-t : goal.invariant-loop-t
-invariant-loop-t l = (l.t ≤ l.n) × Before l.s l.base l.t l.k
-
-abbrev pub decreases-loop-t : goal.decreases-loop-t
-decreases-loop-t l = l.n - l.t
+invariant-loop-t l = Before l.s l.base l.t l.k

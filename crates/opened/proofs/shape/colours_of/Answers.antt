@@ -8,19 +8,19 @@ use Rattle.opened.proofs.shape.colours_of.Goals as goal
 
 pub returns : goal.returns
 returns c =
-    colours-read c.requires.fact _ _ c.requires.place_lt_places (rw c.fields_at.ensures.0 at c.count_at.ensures.0)
+    colours-read c.args.net.now.is_open _ _ c.requires.place_lt_places (rw c.fields_at.ensures.0 at c.count_at.ensures.0)
 
 pub fields_at-requires : goal.fields_at-requires
-fields_at-requires c = headed _ c.requires.fact.accepted
+fields_at-requires c = headed _ c.args.net.now.is_open.accepted
 
 pub overflow_mul-place : goal.overflow_mul-place
-overflow_mul-place c = let there : let a = c.args in c.fields_at.result + 4 + 2 * a.place + 2 ≤ length a.s.now = omega (arith, c.fields_at.ensures.0, place-there c.requires.fact _ c.requires.place_lt_places) in
+overflow_mul-place c = let there : let a = c.args in c.fields_at.result + 4 + 2 * a.place + 2 ≤ length a.net.now.sheet.now = omega (arith, c.fields_at.ensures.0, place-there c.args.net.now.is_open _ c.requires.place_lt_places) in
     omega (arith, there)
 
 pub overflow_add-fields_at-2 : goal.overflow_add-fields_at-2
-overflow_add-fields_at-2 c = let there : let a = c.args in c.fields_at.result + 4 + 2 * a.place + 2 ≤ length a.s.now = omega (arith, c.fields_at.ensures.0, place-there c.requires.fact _ c.requires.place_lt_places) in
+overflow_add-fields_at-2 c = let there : let a = c.args in c.fields_at.result + 4 + 2 * a.place + 2 ≤ length a.net.now.sheet.now = omega (arith, c.fields_at.ensures.0, place-there c.args.net.now.is_open _ c.requires.place_lt_places) in
     omega (arith, there)
 
 pub count_at-requires : goal.count_at-requires
-count_at-requires c = let there : let a = c.args in c.fields_at.result + 4 + 2 * a.place + 2 ≤ length a.s.now = omega (arith, c.fields_at.ensures.0, place-there c.requires.fact _ c.requires.place_lt_places) in
+count_at-requires c = let there : let a = c.args in c.fields_at.result + 4 + 2 * a.place + 2 ≤ length a.net.now.sheet.now = omega (arith, c.fields_at.ensures.0, place-there c.args.net.now.is_open _ c.requires.place_lt_places) in
     there

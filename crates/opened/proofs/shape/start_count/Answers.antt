@@ -4,4 +4,4 @@ use Rattle.opened.proofs.shape.start_count.Goals as goal
 
 pub returns : goal.returns
 returns c =
-    start-read c.requires.fact c.args.pair.0 _ c.requires.pair_lt_pairs (rw c.pair_at.ensures.0 at c.u32_at.ensures.0)
+    start-read c.args.net.now.is_open c.args.pair.0 _ c.requires.pair_lt_pairs (rw c.pair_at.ensures.0 at c.u32_at.ensures.0)

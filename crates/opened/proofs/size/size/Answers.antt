@@ -1,13 +1,9 @@
 -- The net's refusals, then its size.
-use Rattle.opened.proofs.Opening.{opened-refused, opened-shape, opens}
+use Rattle.model.proofs.Asking.{handed_on}
 use Rattle.opened.proofs.size.size.Goals as goal
 
-pub size_of-requires : goal.size_of-requires
-size_of-requires c = opens _ c.open_net-opened.ensures c.in-Open.is
+pub returns-in_err-net : goal.returns-in_err-net
+returns-in_err-net c = rw (handed_on c.from_residual.ensures, c.in_err-net.ensures)
 
-pub returns-in-Refused : goal.returns-in-Refused
-returns-in-Refused c = rw (opened-refused _ _ c.open_net-opened.ensures c.in-Refused.is)
-
-pub returns-in-Open : goal.returns-in-Open
-returns-in-Open c =
-    rw ((opened-shape _ _ c.open_net-opened.ensures c.in-Open.is).0, c.size_of.ensures)
+pub returns : goal.returns
+returns c = rw (c.in_ok-net.ensures.0, ← c.in_ok-net.ensures.1) (rw c.size_of.ensures)

@@ -3,4 +3,4 @@ use Rattle.opened.proofs.Shapes.{sizes}
 use Rattle.opened.proofs.size.size_of.Goals as goal
 
 pub returns : goal.returns
-returns c = let z = sizes c.requires in rw (z.pairs, z.modes, z.arcs)
+returns c = let z = sizes c.args.net.now.is_open in rw (z.pairs, z.modes, z.arcs)

@@ -14,48 +14,46 @@ use Rattle.opened.proofs.starts.starts.Goals as goal
 
 pub loop-t-init : goal.loop-t-init
 loop-t-init c = (
-  omega arith,
-  length-replicate 257 c.args.net.arcs,
+  length-replicate 257 c.args.net.now.shape.arcs,
   first-arc _,
   λ t h. absurd (omega arith),
-  λ u l h. get_or-replicate 257 u c.args.net.arcs 0 h,
+  λ u l h. get_or-replicate 257 u c.args.net.now.shape.arcs 0 h,
 )
 
 pub loop-t-preserved : goal.loop-t-preserved
 loop-t-preserved c =
-    let z = sizes c.requires in
+    let z = sizes c.args.net.now.is_open in
     let l = c.loop-t in (
-      omega arith,
-      length-set l.table _ _ ∙ l.invariant.1,
+      length-set l.table _ _ ∙ l.invariant.0,
       c.next_start-k.ensures,
-      filled_more (FirstFrom (net_of c.args.s.now).arcs) 0 l.table l.t _ (omega arith) l.invariant.3 l.invariant.2,
-      λ u b h. get_or-set_other l.table l.t u _ 0 (λ e. omega arith) ∙ l.invariant.4 u (omega arith) h,
+      filled_more (FirstFrom (net_of c.args.net.now.sheet.now).arcs) 0 l.table l.t _ (omega arith) l.invariant.2 l.invariant.1,
+      λ u b h. get_or-set_other l.table l.t u _ 0 (λ e. omega arith) ∙ l.invariant.3 u (omega arith) h,
     )
 
 pub returns : goal.returns
 returns c =
     let l = c.loop-t in
-    let z = sizes c.requires in
-    let arcs = (net_of c.args.s.now).arcs in
+    let z = sizes c.args.net.now.is_open in
+    let arcs = (net_of c.args.net.now.sheet.now).arcs in
     record {
       each =
           λ u h.
-          ⊎_elim (λ (b : u < l.t). l.invariant.3 u b)
-          (λ (b : l.t ≤ u). rw (l.invariant.4 u b h) (first_ends arcs u _ z.arcs (record { each = λ j i. omega (arith, z.modes, (z.well_formed.each_arc j (omega (arith, z.arcs))).mode) })))
+          ⊎_elim (λ (b : u < l.t). l.invariant.2 u b)
+          (λ (b : l.t ≤ u). rw (l.invariant.3 u b h) (first_ends arcs u _ z.arcs (record { each = λ j i. omega (arith, z.modes, (z.well_formed.each_arc j (omega (arith, z.arcs))).mode) })))
           (below_or u l.t);
     }
 
 pub overflow_cast-table : goal.overflow_cast-table
-overflow_cast-table c = omega (arith, sizes c.requires)
+overflow_cast-table c = omega (arith, sizes c.args.net.now.is_open)
 
 pub overflow_cast-table-in-loop-t : goal.overflow_cast-table-in-loop-t
-overflow_cast-table-in-loop-t c = omega (arith, c.loop-t.invariant.2.inside, sizes c.requires)
+overflow_cast-table-in-loop-t c = omega (arith, c.loop-t.invariant.1.inside, sizes c.args.net.now.is_open)
 
 pub offset_bounds-table-t : goal.offset_bounds-table-t
-offset_bounds-table-t c = omega (arith, sizes c.requires)
+offset_bounds-table-t c = omega (arith, sizes c.args.net.now.is_open)
 
 pub bounds-table-t : goal.bounds-table-t
-bounds-table-t c = omega (arith, sizes c.requires)
+bounds-table-t c = omega (arith, sizes c.args.net.now.is_open)
 
 pub next_start-k-requires : goal.next_start-k-requires
-next_start-k-requires c = record { fact = c.requires; t_lt_modes = c.loop-t-test.true; first_from = c.loop-t.invariant.2 }
+next_start-k-requires c = record { t_lt_modes = c.loop-t-test.true; first_from = c.loop-t.invariant.1 }

@@ -9,11 +9,4 @@ use Rattle.opened.proofs.starts.starts.Given as goal
 
 abbrev pub invariant-loop-t : goal.invariant-loop-t
 invariant-loop-t l =
-    (l.t ≤ l.modes)
-    × (length l.table ≡ 257)
-    × FirstFrom (net_of l.s).arcs l.t l.k
-    × Filled (FirstFrom (net_of l.s).arcs) 0 l.table l.t
-    × ((u : ℕ) → l.t ≤ u → u < 257 → get_or l.table u 0 ≡ l.net.arcs)
-
-abbrev pub decreases-loop-t : goal.decreases-loop-t
-decreases-loop-t l = l.modes - l.t
+    (length l.table ≡ 257) × FirstFrom (net_of l.net.sheet.now).arcs l.t l.k × Filled (FirstFrom (net_of l.net.sheet.now).arcs) 0 l.table l.t × ((u : ℕ) → l.t ≤ u → u < 257 → get_or l.table u 0 ≡ l.net.shape.arcs)

@@ -7,7 +7,4 @@ use Rattle.movement.specs.Runs.{elsewhere}
 use Rattle.run.proofs.certificate.compare.Given as goal
 
 abbrev pub invariant-loop-p : goal.invariant-loop-p
-invariant-loop-p l = (l.p ≤ l.pairs) × (first l.p (elsewhere l.last l.claim) ≡ none)
-
-abbrev pub decreases-loop-p : goal.decreases-loop-p
-decreases-loop-p l = l.pairs - l.p
+invariant-loop-p l = (first l.p (elsewhere l.last l.claim) ≡ none)

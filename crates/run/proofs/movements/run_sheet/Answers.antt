@@ -3,19 +3,16 @@ use mathlib.Core.Path.{refl}
 use Rattle.run.proofs.movements.run_sheet.Goals as goal
 
 pub write_numbers-requires : goal.write_numbers-requires
-write_numbers-requires c = record { fact = c.requires.fact; starts_are = c.starts-starts.ensures; numbers_len = refl }
+write_numbers-requires c = record { starts_are = c.starts-starts.ensures; numbers_len = refl }
 
 pub run_listed-requires : goal.run_listed-requires
 run_listed-requires c =
     let pre = c.requires in
     record {
-      tables = record { numbered = record { opened = pre.fact; numbers_are = λ _. c.write_numbers.ensures }; starts_hold = c.starts-starts.ensures };
+      tables = record { numbered = record { opened = c.args.net.now.is_open; numbers_are = λ _. c.write_numbers.ensures }; starts_hold = c.starts-starts.ensures };
       movements_value = pre.movements_value;
       marking = pre.marking;
     }
-
-pub starts-starts-requires : goal.starts-starts-requires
-starts-starts-requires c = c.requires.fact
 
 pub returns : goal.returns
 returns c = c.run_listed.ensures

@@ -1,4 +1,5 @@
 -- 10, or the sheet from the first byte on.
+use mathlib.Core.Path.{refl}
 use Prim.Native.Nat.{◌≤◌}
 use lib.ListN.{length}
 use native.Mathlib.Omega.{arith}
@@ -12,7 +13,7 @@ pub returns-then-out-kept : goal.returns-then-out-kept
 returns-then-out-kept c =
     let a = c.args in
     let part : a.kept ≤ considered a.damaged.now = omega (arith, c.requires.count_value) in
-    let is = refused (report_of a.damaged.now a.kept a.stop) (sheet_of_first a.damaged.now a.kept) a.out.now (short _ _ part c.if-out-kept.true) in
+    let is = refused (report_of a.damaged.now a.kept a.stop) (sheet_of_first a.damaged.now a.kept) a.out.now (short _ _ part c.if-out-kept.true) refl in
     record { value = is.0; out_after = is.1 }
 
 pub put_fresh-length-requires : goal.put_fresh-length-requires

@@ -7,9 +7,9 @@ use Rattle.heads.specs.Layout.{sheet_end}
 use Rattle.sheets.specs.Whole.{rest}
 use Rattle.sheets.proofs.whole.after.Goals as goal
 
-pub returns-in-Refused : goal.returns-in-Refused
+pub returns-in-Err : goal.returns-in-Err
 unfolding rest
-returns-in-Refused c = rw c.in-Refused.is
+returns-in-Err c = rw c.in-Err.is
 
 pub sheet_end-end-requires : goal.sheet_end-end-requires
 sheet_end-end-requires c = omega (arith, c.requires c.in_default.is)

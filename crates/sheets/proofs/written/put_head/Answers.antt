@@ -9,9 +9,9 @@ put32-next-requires c = long-fits _ _ c.requires.room
 pub put_version-requires : goal.put_version-requires
 unfolding head_bytes
 put_version-requires c =
-    rw c.rule_byte.ensures (room_next _ _ c.requires.room (put_length c.put32-next.ensures))
+    rw c.from.ensures (room_next _ _ c.requires.room (put_length c.put32-next.ensures))
 
 pub returns : goal.returns
 unfolding head_bytes
 returns c =
-    puts-both (put_length c.put32-next.ensures) (rw c.rule_byte.ensures at c.put_version.ensures)
+    puts-both (put_length c.put32-next.ensures) (rw c.from.ensures at c.put_version.ensures)

@@ -1,23 +1,23 @@
 -- The weights, the claim, or what is left to test of it.
-use Rattle.model.proofs.Refusals.{answer-none, answer-stops, answer-goes-on}
+use Rattle.model.proofs.Asking.{goes_on, no_refusal, stops}
 use Rattle.movement.proofs.Markings.{marking-test}
 use Rattle.opened.proofs.Shapes.{sizes}
 use Rattle.statement.proofs.weigh.Answers.{weights-accepted}
 use Rattle.statement.proofs.exclude.exclude_open.Goals as goal
 
-pub returns-in-Refused : goal.returns-in-Refused
-returns-in-Refused c =
-    answer-stops _ _ (rw (sizes c.requires).pairs at c.whole_weights-sheet.ensures) c.in-Refused.is
+pub returns-in_err-whole_weights : goal.returns-in_err-whole_weights
+returns-in_err-whole_weights c =
+    stops _ _ (rw (sizes c.args.net.now.is_open).pairs at c.in_err-whole_weights.ensures) c.from_residual.ensures
 
-pub returns-in-Refused-counts : goal.returns-in-Refused-counts
-returns-in-Refused-counts c =
-    answer-goes-on _ _ (rw (sizes c.requires).pairs at c.whole_weights-sheet.ensures) c.in_default.is
-    (answer-stops _ _ c.marking_answer-counts.ensures c.in-Refused-counts.is)
+pub returns-in_err-marking_answer : goal.returns-in_err-marking_answer
+returns-in_err-marking_answer c =
+    goes_on _ _ (rw (sizes c.args.net.now.is_open).pairs at c.in_ok-whole_weights.ensures)
+    (stops _ _ c.in_err-marking_answer.ensures c.from_residual-in_err-marking_answer.ensures)
 
 pub claim_answer-requires : goal.claim_answer-requires
-claim_answer-requires c = record { fact = c.requires; weights_value = weights-accepted c.requires _ c.whole_weights-sheet.ensures c.in_default.is; marking = (marking-test _ _).0 (answer-none _ c.marking_answer-counts.ensures c.in_default-counts.is) }
+claim_answer-requires c = record { weights_value = weights-accepted c.args.net.now.is_open _ c.in_ok-whole_weights.ensures; marking = (marking-test _ _).0 (no_refusal _ c.in_ok-marking_answer.ensures) }
 
 pub returns : goal.returns
 returns c =
-    answer-goes-on _ _ (rw (sizes c.requires).pairs at c.whole_weights-sheet.ensures) c.in_default.is
-    (answer-goes-on _ _ c.marking_answer-counts.ensures c.in_default-counts.is c.claim_answer.ensures)
+    goes_on _ _ (rw (sizes c.args.net.now.is_open).pairs at c.in_ok-whole_weights.ensures)
+    (goes_on _ _ c.in_ok-marking_answer.ensures c.claim_answer.ensures)

@@ -1,60 +1,64 @@
 -- The weights, the movements, then 24 or the ship.
 use borrow.Author.Rules.{rules}
-use mathlib.Core.Path.{sym, ◌∙◌, ap}
+use mathlib.Core.Path.{◌≡◌, sym}
+use mathlib.Core.Bool.{true, false}
 use mir.Syntax.{w64}
 use mir.Val.{SFits}
-use mir.Facts.{to_z-of_z}
+use Rattle.model.proofs.Asking.{handed_on, no_refusal}
 use Rattle.model.proofs.First.{left-none}
-use Rattle.model.proofs.Refusals.{answer-none, answer-refused}
+use Rattle.model.proofs.Refusals.{answer-refused}
 use Rattle.sheets.specs.Whole.{whole_movements}
 use Rattle.statement.proofs.weigh.Answers.{weights-refused, weights-pass, weights-accepted}
-use Rattle.ships.specs.Entered.{is_past}
-use Rattle.statement.proofs.fleet.Entering.{stops, goes_on, too_heavy_lem, enters}
+use Rattle.statement.proofs.fleet.Entering.{stops, goes_on, read-past, too_heavy_lem, enters}
+use Rattle.ships.specs.Entered.{is_too_heavy}
 use Rattle.statement.proofs.fleet.count_open.Goals as goal
+use Rattle.statement.proofs.fleet.count_open.Goals.{then-is_past-via-then-is_past, then-is_past-via-else-is_past+then-is_past-2}
 
-pub returns-in-Refused : goal.returns-in-Refused
-returns-in-Refused c =
-    stops c.args.found _ _ _ (weights-refused c.requires.fact _ c.whole_weights-sheet.ensures c.in-Refused.is) c.in-Refused.is
+pub returns-in_err-whole_weights : goal.returns-in_err-whole_weights
+returns-in_err-whole_weights c =
+    stops c.args.found _ _ _ (weights-refused c.args.net.now.is_open _ c.in_err-whole_weights.ensures) (handed_on c.from_residual.ensures)
 
-pub returns-in-Refused-list : goal.returns-in-Refused-list
-returns-in-Refused-list c =
+pub returns-in_err-whole_movements : goal.returns-in_err-whole_movements
+returns-in_err-whole_movements c =
     let found = c.args.found in
-    goes_on found _ _ _ (weights-pass c.requires.fact _ c.whole_weights-sheet.ensures c.in_default.is)
-    (stops found _ _ _ (answer-refused _ (sym c.whole_movements-list.ensures ∙ c.in-Refused-list.is)) c.in-Refused-list.is)
+    goes_on found _ _ _ (weights-pass c.args.net.now.is_open _ c.in_ok-whole_weights.ensures)
+    (stops found _ _ _ (answer-refused _ (sym c.in_err-whole_movements.ensures)) (handed_on c.from_residual-in_err-whole_movements.ensures))
 
 pub voyage_of-requires : goal.voyage_of-requires
 unfolding whole_movements
 voyage_of-requires c =
     let pre = c.requires in
     record {
-      opened = pre.fact;
-      weighed = weights-accepted pre.fact _ c.whole_weights-sheet.ensures c.in_default.is;
-      listed = left-none _ _ (answer-none _ c.whole_movements-list.ensures c.in_default-list.is);
+      opened = c.args.net.now.is_open;
+      weighed = weights-accepted c.args.net.now.is_open _ c.in_ok-whole_weights.ensures;
+      listed = left-none _ _ (no_refusal _ c.in_ok-whole_movements.ensures);
     }
 
-pub returns-then-added-removed : goal.returns-then-added-removed
-returns-then-added-removed c =
+pub with_voyage-next-requires : goal.with_voyage-next-requires
+with_voyage-next-requires c = record { in_bounds = c.requires.in_bounds; light = c.voyage_of.ensures.1 }
+
+pub returns-then-is_past : goal.returns-then-is_past
+returns-then-is_past c =
     let found = c.args.found in
     let added : SFits w64 c.with_voyage-next.result.added = search rules in
     let removed : SFits w64 c.with_voyage-next.result.removed = search rules in
-    goes_on found _ _ _ (weights-pass c.requires.fact _ c.whole_weights-sheet.ensures c.in_default.is)
-    (goes_on found _ _ _ (answer-none _ c.whole_movements-list.ensures c.in_default-list.is)
-    (too_heavy_lem found _ c.voyage_of.ensures.0 c.with_voyage-next.ensures
-    (c.is_past-added.ensures ∙ ap is_past (to_z-of_z added))
-    (c.is_past-removed.ensures ∙ ap is_past (to_z-of_z removed))
-    c.if-added-removed.true))
+    let heavy : is_too_heavy c.with_voyage-next.result ≡ true =
+    elim c.then-is_past.branch [
+      | then-is_past-via-then-is_past w ↦ rw (read-past added c.is_past.ensures, w.if-is_past.true)
+      | then-is_past-via-else-is_past+then-is_past-2 w ↦
+          rw (read-past added c.is_past.ensures, w.if-is_past.false, read-past removed w.is_past-else-is_past.ensures, w.if-is_past-2.true)
+    ] in
+    goes_on found _ _ _ (weights-pass c.args.net.now.is_open _ c.in_ok-whole_weights.ensures)
+    (goes_on found _ _ _ (no_refusal _ c.in_ok-whole_movements.ensures)
+    (too_heavy_lem found _ c.voyage_of.ensures.0 c.with_voyage-next.ensures heavy))
 
 pub returns : goal.returns
 returns c =
     let found = c.args.found in
     let added : SFits w64 c.with_voyage-next.result.added = search rules in
     let removed : SFits w64 c.with_voyage-next.result.removed = search rules in
-    goes_on found _ _ _ (weights-pass c.requires.fact _ c.whole_weights-sheet.ensures c.in_default.is)
-    (goes_on found _ _ _ (answer-none _ c.whole_movements-list.ensures c.in_default-list.is)
-    (enters found _ c.voyage_of.ensures.0 c.with_voyage-next.ensures
-    (c.is_past-added.ensures ∙ ap is_past (to_z-of_z added))
-    (c.is_past-removed.ensures ∙ ap is_past (to_z-of_z removed))
-    c.if-added-removed.false))
-
-pub with_voyage-next-requires : goal.with_voyage-next-requires
-with_voyage-next-requires c = record { in_bounds = c.requires.in_bounds; light = c.voyage_of.ensures.1 }
+    let light : is_too_heavy c.with_voyage-next.result ≡ false =
+    rw (read-past added c.is_past.ensures, c.if-is_past.false, read-past removed c.is_past-else-is_past.ensures, c.if-is_past-2.false) in
+    goes_on found _ _ _ (weights-pass c.args.net.now.is_open _ c.in_ok-whole_weights.ensures)
+    (goes_on found _ _ _ (no_refusal _ c.in_ok-whole_movements.ensures)
+    (enters found _ c.voyage_of.ensures.0 c.with_voyage-next.ensures light))

@@ -1,7 +1,7 @@
 -- 25, then 4, then the net, then the rest.
 use mathlib.Core.Path.{sym, ◌∙◌}
 use native.Mathlib.Omega.{arith}
-use Rattle.opened.proofs.Opening.{opens}
+use Rattle.model.proofs.Asking.{handed_on}
 use Rattle.statement.proofs.fleet.Entering.{within, ends_unsound, ends-full, ends-refused, ends-counted}
 use Rattle.statement.proofs.fleet.count_ship.Goals as goal
 
@@ -14,19 +14,15 @@ overflow_add-found c =
 
 pub returns-then-found-gt1000 : goal.returns-then-found-gt1000
 returns-then-found-gt1000 c =
-    let found = c.args.found in
-    ends-full found _ c.is_out_of_bounds.ensures c.if-is_out_of_bounds.false c.if-found-gt1000.true
+    ends-full c.args.found _ c.is_out_of_bounds.ensures c.if-is_out_of_bounds.false c.if-found-gt1000.true
 
 pub count_open-requires : goal.count_open-requires
-count_open-requires c = record { fact = opens _ c.open_net-opened.ensures c.in-Open.is; in_bounds = within _ (sym c.is_out_of_bounds.ensures ∙ c.if-is_out_of_bounds.false) }
+count_open-requires c = record { in_bounds = within _ (sym c.is_out_of_bounds.ensures ∙ c.if-is_out_of_bounds.false) }
 
-pub returns-in-Refused : goal.returns-in-Refused
-returns-in-Refused c =
-    let found = c.args.found in
-    ends-refused found _ c.is_out_of_bounds.ensures c.if-is_out_of_bounds.false c.if-found-gt1000.false c.open_net-opened.ensures c.in-Refused.is
+pub returns-in_err-net : goal.returns-in_err-net
+returns-in_err-net c =
+    ends-refused c.args.found _ c.is_out_of_bounds.ensures c.if-is_out_of_bounds.false c.if-found-gt1000.false c.in_err-net.ensures (handed_on c.from_residual.ensures)
 
-pub returns-in-Open : goal.returns-in-Open
-returns-in-Open c =
-    let found = c.args.found in
-    ends-counted found _ c.is_out_of_bounds.ensures c.if-is_out_of_bounds.false c.if-found-gt1000.false c.open_net-opened.ensures c.in-Open.is
-    c.count_open.ensures
+pub returns : goal.returns
+returns c =
+    ends-counted c.args.found _ c.is_out_of_bounds.ensures c.if-is_out_of_bounds.false c.if-found-gt1000.false c.in_ok-net.ensures.0 (rw c.in_ok-net.ensures.1 at c.count_open.ensures)

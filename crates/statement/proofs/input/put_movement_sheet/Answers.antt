@@ -9,20 +9,20 @@ use Rattle.statement.specs.Replay.{movements_text}
 use Rattle.statement.proofs.Texts.{bad_told, text-told}
 use Rattle.statement.proofs.input.put_movement_sheet.Goals as goal
 
-pub returns-in-Refused : goal.returns-in-Refused
+pub returns-in-Err : goal.returns-in-Err
 unfolding movements_text
-returns-in-Refused c =
-    bad_told _ _ c.whole_movements-answer.ensures c.in-Refused.is c.put_bad.ensures
+returns-in-Err c =
+    bad_told _ _ c.whole_movements-answer.ensures c.in-Err.is c.put_bad.ensures
 
 pub slice_bounds-counts-end : goal.slice_bounds-counts-end
-slice_bounds-counts-end c = (sizes c.requires.fact).pairs_within
+slice_bounds-counts-end c = (sizes c.args.net.now.is_open).pairs_within
 
 pub slice_bounds-put_run-end : goal.slice_bounds-put_run-end
-slice_bounds-put_run-end c = sym (length-take-le _ _ (sizes c.requires.fact).pairs_within)
+slice_bounds-put_run-end c = sym (length-take-le _ _ (sizes c.args.net.now.is_open).pairs_within)
 
 pub put_run-requires : goal.put_run-requires
 unfolding whole_movements
-put_run-requires c = let pre = c.requires in record { read = record { opened = pre.fact; weighed = pre.weights_value; listed = left-none _ _ (answer-none _ c.whole_movements-answer.ensures c.in_default.is) }; marking_len = length-take-le _ _ (sizes pre.fact).pairs_within; room_in_bounds = pre.room_in_bounds }
+put_run-requires c = let pre = c.requires in record { read = record { opened = c.args.net.now.is_open; weighed = pre.weights_value; listed = left-none _ _ (answer-none _ c.whole_movements-answer.ensures c.in_default.is) }; marking_len = length-take-le _ _ (sizes c.args.net.now.is_open).pairs_within; room_in_bounds = pre.room_in_bounds }
 
 pub returns : goal.returns
 unfolding movements_text

@@ -26,5 +26,5 @@ returns c =
     let a = c.args in
     let told = c.line_of-line in
     refused_worded a.refusal told.result.number told.result.position told.ensures.0 told.ensures.1 a.place a.mode told.result.amount told.ensures.2
-    c.write_bytes-word.ensures c.next_decimal-first.ensures c.next_decimal-second.ensures c.next_decimal-third.ensures c.next_decimal-fourth.ensures
+    c.write_bytes-word.ensures c.next_decimal-first.ensures (rw c.from.ensures at c.next_decimal-second.ensures) c.next_decimal-third.ensures c.next_decimal-fourth.ensures
     c.last_decimal.ensures

@@ -1,6 +1,5 @@
 use borrow.Author.Rules.{rules}
 use mathlib.Core.Path.{refl, ◌∙◌}
-use native.Mathlib.Nat.{lt_of_le_of_lt}
 use native.Mathlib.Omega.{arith}
 use mir.Facts.{to_z-of_z}
 use Rattle.opened.proofs.Shapes.{sizes}
@@ -8,12 +7,11 @@ use Rattle.statement.proofs.Telling.{along-none, along-more, along-stops, along-
 use Rattle.statement.proofs.movements.put_movements.Goals as goal
 
 pub write_changes-requires : goal.write_changes-requires
-write_changes-requires c = let pre = c.requires in record { fact = pre.read.opened; starts_are = pre.starts_are; weights_value = pre.read.weighed; changes_len = refl }
+write_changes-requires c = let pre = c.requires in record { starts_are = pre.starts_are; weights_value = pre.read.weighed; changes_len = refl }
 
 pub loop-k-init : goal.loop-k-init
 loop-k-init c =
     let pre = c.requires in (
-      search rules,
       refl,
       along-none _ _ _ (sizes pre.read.opened).well_formed.start (to_z-of_z c.ranges.first ∙ pre.first_value) (omega (arith, pre.at_in_bounds)),
     )
@@ -24,56 +22,53 @@ movement-mode-requires c = let pre = c.requires in record { s_value = pre.read.l
 pub offset_bounds-changes-mode : goal.offset_bounds-changes-mode
 offset_bounds-changes-mode c =
     let pre = c.requires in
-    record { fits = omega (arith, along-entry pre.read pre.run_tells c.loop-k.invariant.2 c.loop-k-test.true c.movement-mode.ensures) }
+    record { fits = omega (arith, along-entry pre.read pre.run_tells c.loop-k.invariant.1 c.loop-k-test.true c.movement-mode.ensures) }
 
 pub bounds-changes-mode : goal.bounds-changes-mode
 bounds-changes-mode c =
     let pre = c.requires in
-    along-entry pre.read pre.run_tells c.loop-k.invariant.2 c.loop-k-test.true c.movement-mode.ensures
+    along-entry pre.read pre.run_tells c.loop-k.invariant.1 c.loop-k-test.true c.movement-mode.ensures
 
 pub overflow_add-figure : goal.overflow_add-figure
 overflow_add-figure c =
     let pre = c.requires in
-    next_fits pre.read pre.run_tells c.loop-k.invariant.2 c.loop-k-test.true c.movement-mode.ensures c.write_changes.ensures (search rules)
+    next_fits pre.read pre.run_tells c.loop-k.invariant.1 c.loop-k-test.true c.movement-mode.ensures c.write_changes.ensures (search rules)
 
 pub put_accepted-end-requires : goal.put_accepted-end-requires
-put_accepted-end-requires c = let pre = c.requires in record { twos_are = c.twos-twos.ensures; at_in_bounds = along-line pre.read pre.run_tells c.loop-k.invariant.2 c.loop-k-test.true pre.at_in_bounds }
+put_accepted-end-requires c = let pre = c.requires in record { at_in_bounds = along-line pre.read pre.run_tells c.loop-k.invariant.1 c.loop-k-test.true pre.at_in_bounds }
 
 pub loop-k-preserved : goal.loop-k-preserved
 loop-k-preserved c =
     let pre = c.requires in
     let h = c.loop-k-test.true in (
-      omega (arith, h),
-      c.put_accepted-end.auto.out ∙ c.loop-k.invariant.1,
-      along-more pre.read pre.run_tells c.loop-k.invariant.2 h c.movement-mode.ensures c.write_changes.ensures (search rules)
+      c.put_accepted-end.auto.out ∙ c.loop-k.invariant.0,
+      along-more pre.read pre.run_tells c.loop-k.invariant.1 h c.movement-mode.ensures c.write_changes.ensures (search rules)
           c.put_accepted-end.ensures,
     )
 
 pub put_stop-requires : goal.put_stop-requires
-put_stop-requires c = let pre = c.requires in
-    let k = c.loop-k.invariant.0 in record { movements_value = pre.read.listed; accepted_in_bounds = lt_of_le_of_lt k (refused-there pre.read pre.run_tells c.in-Refused.is); at_in_bounds = along-room pre.read pre.run_tells c.loop-k.invariant.2 k pre.at_in_bounds }
-
-pub shape_of-out-in-Refused : goal.shape_of-out-in-Refused
-shape_of-out-in-Refused c = c.put_stop.auto.out ∙ c.loop-k.invariant.1
-
-pub returns-in-Refused : goal.returns-in-Refused
-returns-in-Refused c =
+put_stop-requires c =
     let pre = c.requires in
-    along-stops pre.read pre.run_tells c.loop-k.invariant.2 c.loop-k.invariant.0 c.loop-k-test.false c.in-Refused.is
+    record { movements_value = pre.read.listed; accepted_in_bounds = refused-there pre.read pre.run_tells c.in-Err.is; at_in_bounds = along-room pre.read pre.run_tells c.loop-k.invariant.1 c.loop-k.auto.k-end pre.at_in_bounds }
+
+pub shape_of-out-in-Err : goal.shape_of-out-in-Err
+shape_of-out-in-Err c = c.put_stop.auto.out ∙ c.loop-k.invariant.0
+
+pub returns-in-Err : goal.returns-in-Err
+returns-in-Err c =
+    let pre = c.requires in
+    along-stops pre.read pre.run_tells c.loop-k.invariant.1 c.loop-k.auto.k-end c.loop-k-test.false c.in-Err.is
     c.put_stop.ensures
 
 pub put_end-requires : goal.put_end-requires
 put_end-requires c =
     let pre = c.requires in
-    along-last pre.read pre.run_tells c.loop-k.invariant.2 c.loop-k.invariant.0 pre.at_in_bounds
+    along-last pre.read pre.run_tells c.loop-k.invariant.1 c.loop-k.auto.k-end pre.at_in_bounds
 
 pub shape_of-out : goal.shape_of-out
-shape_of-out c = c.put_end.auto.out ∙ c.loop-k.invariant.1
+shape_of-out c = c.put_end.auto.out ∙ c.loop-k.invariant.0
 
 pub returns : goal.returns
 returns c =
     let pre = c.requires in
-    along-ends pre.read pre.run_tells c.loop-k.invariant.2 c.loop-k.invariant.0 c.loop-k-test.false c.in_default.is c.put_end.ensures
-
-pub loop-k-smaller : goal.loop-k-smaller
-loop-k-smaller c = omega (arith, c.loop-k-test.true)
+    along-ends pre.read pre.run_tells c.loop-k.invariant.1 c.loop-k.auto.k-end c.loop-k-test.false c.in_default.is c.put_end.ensures

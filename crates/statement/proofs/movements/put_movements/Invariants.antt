@@ -1,5 +1,4 @@
 -- k movements have been told, and the lines that are left from here complete the whole.
-use Prim.Native.Nat.{◌≤◌, ◌-◌}
 use mathlib.Core.Path.{◌≡◌}
 use lib.ListN.{length}
 use Rattle.sheets.specs.Decoded.{net_of, weights_of, movements_of}
@@ -8,7 +7,4 @@ use Rattle.statement.proofs.movements.put_movements.Given as goal
 
 abbrev pub invariant-loop-k : goal.invariant-loop-k
 invariant-loop-k l =
-    (l.k ≤ l.accepted) × (length l.out ≡ length l.initial.out) × Along (net_of l.s) (weights_of l.weights) (movements_of l.movements) l.initial.out l.at l.k l.figure l.end l.out
-
-abbrev pub decreases-loop-k : goal.decreases-loop-k
-decreases-loop-k l = l.accepted - l.k
+    (length l.out ≡ length l.initial.out) × Along (net_of l.net.sheet.now) (weights_of l.weights) (movements_of l.movements) l.initial.out l.at l.k l.figure l.end l.out

@@ -1,18 +1,15 @@
 -- The net, then the rest.
-use Rattle.opened.proofs.Opening.{opened-refused, opened-shape, opens}
 use Rattle.statement.specs.weigh.Calls.{change_refusal}
 use Rattle.statement.proofs.weigh.Answers.{figured-stops, figured-goes-on}
+use Rattle.model.proofs.Asking.{handed_on}
 use Rattle.statement.proofs.weigh.change.Goals as goal
 
-pub change_answer-requires : goal.change_answer-requires
-change_answer-requires c = opens _ c.open_net-opened.ensures c.in-Open.is
-
-pub returns-in-Refused : goal.returns-in-Refused
+pub returns-in_err-net : goal.returns-in_err-net
 unfolding change_refusal
-returns-in-Refused c = figured-stops _ _ _ (opened-refused _ _ c.open_net-opened.ensures c.in-Refused.is)
+returns-in_err-net c = figured-stops _ _ _ c.in_err-net.ensures (handed_on c.from_residual.ensures)
 
-pub returns-in-Open : goal.returns-in-Open
+pub returns : goal.returns
 unfolding change_refusal
-returns-in-Open c =
-    figured-goes-on _ _ _ (opened-shape _ _ c.open_net-opened.ensures c.in-Open.is).0
-    c.change_answer.ensures
+returns c =
+    figured-goes-on _ _ _ c.in_ok-net.ensures.0
+    (rw c.in_ok-net.ensures.1 at c.change_answer.ensures)

@@ -1,5 +1,4 @@
 -- The digits written: those that are left, put before what is written, make the whole.
-use Prim.Native.Nat.{◌≤◌}
 use mathlib.Core.Path.{◌≡◌}
 use lib.ListN.{length}
 use Rattle.text.specs.Decimals.{decimal}
@@ -9,8 +8,5 @@ use Rattle.text.proofs.digits.write_digits.Given as goal
 
 abbrev pub invariant-loop-left : goal.invariant-loop-left
 invariant-loop-left l =
-    (l.left ≤ l.count) × (length l.out ≡ length l.initial.out)
+    (length l.out ≡ length l.initial.out)
     × (completed l.out l.at l.left l.rest ≡ put_into l.initial.out l.at (decimal l.n))
-
-abbrev pub decreases-loop-left : goal.decreases-loop-left
-decreases-loop-left l = l.left

@@ -12,9 +12,3 @@ returns-then-high-lt100000000 c =
 
 pub write_decimal-requires : goal.write_decimal-requires
 write_decimal-requires c = omega (arith, length-at-most c.args.n 19 (omega arith))
-
-pub write_to_eight-middle-requires : goal.write_to_eight-middle-requires
-write_to_eight-middle-requires c = record { twos_are = c.requires.twos_are; n_bound = omega arith; at_in_bounds = omega arith }
-
-pub write_eight-requires : goal.write_eight-requires
-write_eight-requires c = record { twos_are = c.requires.twos_are; n_bound = omega arith; at_in_bounds = omega arith }

@@ -5,4 +5,4 @@ use Rattle.text.proofs.twos.write_two.Goals as goal
 
 pub returns : goal.returns
 returns c =
-    rw (two-read c.requires.twos_are c.requires.n_bound) (c.write_byte-middle.ensures and c.write_byte.ensures)
+    rw (two-read c.args.twos.now.digits_are c.requires.n_bound) (c.write_byte-middle.ensures and c.write_byte.ensures)

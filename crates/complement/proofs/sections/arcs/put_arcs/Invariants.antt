@@ -1,5 +1,4 @@
 -- The arcs of the modes passed are put.
-use Prim.Native.Nat.{◌≤◌, ◌-◌}
 use Rattle.model.specs.Lists.{joined}
 use Rattle.sheets.specs.Decoded.{net_of}
 use Rattle.sheets.specs.written.Puts.{Puts}
@@ -7,7 +6,4 @@ use Rattle.complement.specs.sections.Arcs.{row_bytes}
 use Rattle.complement.proofs.sections.arcs.put_arcs.Given as goal
 
 abbrev pub invariant-loop-t : goal.invariant-loop-t
-invariant-loop-t l = (l.t ≤ l.modes) × Puts l.initial.out l.at (joined l.t (row_bytes (net_of l.s) l.net.version)) l.out l.next
-
-abbrev pub decreases-loop-t : goal.decreases-loop-t
-decreases-loop-t l = l.modes - l.t
+invariant-loop-t l = Puts l.initial.out l.at (joined l.t (row_bytes (net_of l.net.sheet.now) l.net.shape.version)) l.out l.next

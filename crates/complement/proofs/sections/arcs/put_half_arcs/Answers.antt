@@ -3,14 +3,14 @@ use Rattle.sheets.proofs.written.Puts.{puts_none, room-more, puts-more, puts-end
 use Rattle.complement.proofs.sections.arcs.put_half_arcs.Goals as goal
 
 pub loop-i-init : goal.loop-i-init
-loop-i-init c = (search rules, puts_none _)
+loop-i-init c = puts_none _
 
 pub put_half_arc-next-requires : goal.put_half_arc-next-requires
 put_half_arc-next-requires c = let l = c.loop-i in
-    let pre = c.requires in record { fact = pre.fact; below_are = pre.below_are; own_arc = search rules; dead_value = search rules; room = room-more _ l.i l.invariant.1 _ pre.room c.loop-i-test.true }
+    let pre = c.requires in record { below_are = pre.below_are; own_arc = search rules; dead_value = search rules; room = room-more _ l.i l.invariant _ pre.room c.loop-i-test.true }
 
 pub loop-i-preserved : goal.loop-i-preserved
-loop-i-preserved c = let l = c.loop-i in (search rules, puts-more _ l.i l.invariant.1 c.put_half_arc-next.ensures)
+loop-i-preserved c = let l = c.loop-i in puts-more _ l.i l.invariant c.put_half_arc-next.ensures
 
 pub returns : goal.returns
-returns c = let l = c.loop-i in puts-end _ l.i l.invariant.1 _ l.invariant.0 c.loop-i-test.false
+returns c = let l = c.loop-i in puts-end _ l.i l.invariant _ l.auto.i-end c.loop-i-test.false

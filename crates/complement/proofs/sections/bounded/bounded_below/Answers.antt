@@ -1,4 +1,3 @@
-use borrow.Author.Rules.{rules}
 use Prim.Native.Nat.{◌+◌}
 use mathlib.Core.Path.{refl, sym, ◌∙◌}
 use lib.ListN.{length-set}
@@ -11,31 +10,31 @@ use Rattle.halves.proofs.Below.{none_below, one_more_lem, filled}
 use Rattle.complement.proofs.sections.bounded.bounded_below.Goals as goal
 
 pub loop-p-init : goal.loop-p-init
-loop-p-init c = (search rules, refl, sym (below_none _), none_below _)
+loop-p-init c = (refl, sym (below_none _), none_below _)
 
 pub overflow_add-count : goal.overflow_add-count
 overflow_add-count c =
-    let z = sizes c.requires in
+    let z = sizes c.args.net.now.is_open in
     let l = c.loop-p in
-    let k = K (net_of c.args.s.now) in
-    let more = one_more_lem k l.p l.invariant.2 c.one_if_bounded-count.ensures in
+    let k = K (net_of c.args.net.now.sheet.now) in
+    let more = one_more_lem k l.p l.invariant.1 c.one_if_bounded-count.ensures in
     omega (arith, more, below-at-most k (l.p + 1), z.pairs_within)
 
 pub offset_bounds-table-p : goal.offset_bounds-table-p
-offset_bounds-table-p c = let z = sizes c.requires in omega (arith, z.pairs_within)
+offset_bounds-table-p c = let z = sizes c.args.net.now.is_open in omega (arith, z.pairs_within)
 
 pub bounds-table-p : goal.bounds-table-p
-bounds-table-p c = let z = sizes c.requires in omega (arith, z.pairs_within)
+bounds-table-p c = let z = sizes c.args.net.now.is_open in omega (arith, z.pairs_within)
 
 pub loop-p-preserved : goal.loop-p-preserved
 loop-p-preserved c =
-    let z = sizes c.requires in
+    let z = sizes c.args.net.now.is_open in
     let l = c.loop-p in
-    let k = K (net_of c.args.s.now) in
-    let more = one_more_lem k l.p l.invariant.2 c.one_if_bounded-count.ensures in
-    (search rules, length-set l.table _ _ ∙ l.invariant.1, more, filled k l.table l.p (omega (arith, z.pairs_within)) l.invariant.3 more)
+    let k = K (net_of c.args.net.now.sheet.now) in
+    let more = one_more_lem k l.p l.invariant.1 c.one_if_bounded-count.ensures in
+    (length-set l.table _ _ ∙ l.invariant.0, more, filled k l.table l.p (omega (arith, z.pairs_within)) l.invariant.2 more)
 
 pub returns : goal.returns
 returns c =
-    let z = sizes c.requires in
-    record { each = λ p h. c.loop-p.invariant.3 p (omega (arith, z.pairs)) }
+    let z = sizes c.args.net.now.is_open in
+    record { each = λ p h. c.loop-p.invariant.2 p (omega (arith, z.pairs)) }

@@ -1,5 +1,4 @@
 -- The entries up to p are right, and count is the last of them.
-use Prim.Native.Nat.{◌≤◌, ◌-◌}
 use mathlib.Core.Path.{◌≡◌}
 use lib.ListN.{length}
 use Rattle.model.specs.Nets.{K}
@@ -10,7 +9,4 @@ use Rattle.complement.proofs.sections.bounded.bounded_below.Given as goal
 
 abbrev pub invariant-loop-p : goal.invariant-loop-p
 invariant-loop-p l =
-    (l.p ≤ l.pairs) × (length l.table ≡ 257) × (l.count ≡ bounded_below (K (net_of l.s)) l.p) × UpTo (K (net_of l.s)) l.table l.p
-
-abbrev pub decreases-loop-p : goal.decreases-loop-p
-decreases-loop-p l = l.pairs - l.p
+    (length l.table ≡ 257) × (l.count ≡ bounded_below (K (net_of l.net.sheet.now)) l.p) × UpTo (K (net_of l.net.sheet.now)) l.table l.p

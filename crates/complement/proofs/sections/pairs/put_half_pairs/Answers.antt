@@ -1,16 +1,15 @@
-use borrow.Author.Rules.{rules}
 use Rattle.sheets.proofs.written.Puts.{puts_none, room-more, puts-more, puts-end}
 use Rattle.complement.proofs.sections.pairs.put_half_pairs.Goals as goal
 
 pub loop-p-init : goal.loop-p-init
-loop-p-init c = (search rules, puts_none _)
+loop-p-init c = puts_none _
 
 pub put_half_pair-next-requires : goal.put_half_pair-next-requires
 put_half_pair-next-requires c = let l = c.loop-p in
-    let pre = c.requires in record { fact = pre.fact; p_lt_pairs = c.loop-p-test.true; room = room-more _ l.p l.invariant.1 _ pre.room c.loop-p-test.true }
+    let pre = c.requires in record { p_lt_pairs = c.loop-p-test.true; room = room-more _ l.p l.invariant _ pre.room c.loop-p-test.true }
 
 pub loop-p-preserved : goal.loop-p-preserved
-loop-p-preserved c = let l = c.loop-p in (search rules, puts-more _ l.p l.invariant.1 c.put_half_pair-next.ensures)
+loop-p-preserved c = let l = c.loop-p in puts-more _ l.p l.invariant c.put_half_pair-next.ensures
 
 pub returns : goal.returns
-returns c = let l = c.loop-p in puts-end _ l.p l.invariant.1 _ l.invariant.0 c.loop-p-test.false
+returns c = let l = c.loop-p in puts-end _ l.p l.invariant _ l.auto.p-end c.loop-p-test.false

@@ -1,5 +1,5 @@
 -- The places passed have become so many, and the next one's pairs start at `first`.
-use Prim.Native.Nat.{◌≤◌, ◌-◌}
+use Prim.Native.Nat.{◌≤◌}
 use mathlib.Core.Path.{◌≡◌}
 use lib.ListN.{length}
 use Rattle.model.specs.Lists.{joined}
@@ -11,7 +11,4 @@ use Rattle.complement.proofs.sections.places.count_new_places.Given as goal
 
 abbrev pub invariant-loop-place : goal.invariant-loop-place
 invariant-loop-place l =
-    (l.place ≤ l.places) × (l.first ≡ first_pair_of (net_of l.s) l.place) × (l.count ≡ length (joined l.place (half_place (net_of l.s) Complement))) × (l.count ≤ l.place)
-
-abbrev pub decreases-loop-place : goal.decreases-loop-place
-decreases-loop-place l = l.places - l.place
+    (l.first ≡ first_pair_of (net_of l.net.sheet.now) l.place) × (l.count ≡ length (joined l.place (half_place (net_of l.net.sheet.now) Complement))) × (l.count ≤ l.place)

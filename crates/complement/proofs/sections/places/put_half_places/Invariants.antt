@@ -1,5 +1,4 @@
 -- The bytes of the places passed are put, and the next one's pairs start at `first`.
-use Prim.Native.Nat.{◌≤◌, ◌-◌}
 use mathlib.Core.Path.{◌≡◌}
 use Rattle.model.specs.Lists.{joined}
 use Rattle.sheets.specs.Decoded.{net_of}
@@ -10,7 +9,4 @@ use Rattle.complement.proofs.sections.places.put_half_places.Given as goal
 
 abbrev pub invariant-loop-place : goal.invariant-loop-place
 invariant-loop-place l =
-    (l.place ≤ l.places) × (l.first ≡ first_pair_of (net_of l.s) l.place) × Puts l.initial.out l.at (joined l.place (place_bytes (net_of l.s) l.half)) l.out l.next
-
-abbrev pub decreases-loop-place : goal.decreases-loop-place
-decreases-loop-place l = l.places - l.place
+    (l.first ≡ first_pair_of (net_of l.net.sheet.now) l.place) × Puts l.initial.out l.at (joined l.place (place_bytes (net_of l.net.sheet.now) l.half)) l.out l.next

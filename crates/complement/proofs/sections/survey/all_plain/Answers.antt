@@ -1,4 +1,3 @@
-use borrow.Author.Rules.{rules}
 use Prim.Native.Nat.{◌+◌}
 use mathlib.Core.Path.{◌≡◌, refl}
 use native.Mathlib.Omega.{arith}
@@ -13,19 +12,18 @@ use Rattle.complement.proofs.sections.survey.all_plain.Goals as goal
 pub loop-i-preserved : goal.loop-i-preserved
 loop-i-preserved c =
     let l = c.loop-i in
-    let net = net_of c.args.s.now in
+    let net = net_of c.args.net.now.sheet.now in
     let plain = c.is_plain.ensures c.if-not-is_plain.false in
     let most = c.capacity in (
-      search rules,
-      passed-more net c.args.arcs.start l.i l.invariant.1 (plain_passes c.arc-here.ensures _ most.ensures plain.0),
-      every_more (λ i. clear_at net (c.args.arcs.start + i)) l.i l.invariant.2 (plain_clear c.arc-here.ensures _ most.ensures plain.1) refl,
+      passed-more net c.args.arcs.start l.i l.invariant.0 (plain_passes c.arc-here.ensures _ most.ensures plain.0),
+      every_more (λ i. clear_at net (c.args.arcs.start + i)) l.i l.invariant.1 (plain_clear c.arc-here.ensures _ most.ensures plain.1) refl,
     )
 
 pub returns : goal.returns
 returns c _ =
     let l = c.loop-i in
     let e : l.i ≡ c.args.arcs.count = omega arith in
-    (rw e at l.invariant.2, none-dead c.requires.fact _ _ _ c.requires.mode_arcs (rw e at l.invariant.1))
+    (rw e at l.invariant.1, none-dead c.args.net.now.is_open _ _ _ c.requires.mode_arcs (rw e at l.invariant.0))
 
 pub loop-i-init : goal.loop-i-init
-loop-i-init c = (search arith, λ k h l. absurd (omega arith), every-none _)
+loop-i-init c = (λ k h l. absurd (omega arith), every-none _)

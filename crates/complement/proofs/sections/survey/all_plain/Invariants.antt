@@ -1,5 +1,5 @@
 -- The arcs before the i-th are plain: none makes the mode dead, and each is clear.
-use Prim.Native.Nat.{◌+◌, ◌≤◌, ◌-◌}
+use Prim.Native.Nat.{◌+◌}
 use mathlib.Core.Path.{◌≡◌}
 use mathlib.Core.Bool.{true}
 use Rattle.second_form.proofs.Dead.{Passed}
@@ -8,8 +8,4 @@ use Rattle.complement.specs.sections.Arcs.{clear_at, every}
 use Rattle.complement.proofs.sections.survey.all_plain.Given as goal
 
 abbrev pub invariant-loop-i : goal.invariant-loop-i
-invariant-loop-i l =
-    (l.i ≤ l.count) × Passed (net_of l.s) l.arcs.start (l.arcs.start + l.i) × (true ≡ every l.i (λ k. clear_at (net_of l.s) (l.arcs.start + k)))
-
-abbrev pub decreases-loop-i : goal.decreases-loop-i
-decreases-loop-i l = l.count - l.i
+invariant-loop-i l = Passed (net_of l.net.sheet.now) l.arcs.start (l.arcs.start + l.i) × (true ≡ every l.i (λ k. clear_at (net_of l.net.sheet.now) (l.arcs.start + k)))

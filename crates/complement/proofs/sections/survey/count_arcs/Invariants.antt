@@ -1,5 +1,4 @@
 -- What the arcs of the modes below t become.
-use Prim.Native.Nat.{◌≤◌, ◌-◌}
 use mathlib.Core.Path.{◌≡◌}
 use lib.ListN.{length}
 use Rattle.model.specs.Lists.{joined}
@@ -8,7 +7,4 @@ use Rattle.complement.specs.sections.Arcs.{row_arcs}
 use Rattle.complement.proofs.sections.survey.count_arcs.Given as goal
 
 abbrev pub invariant-loop-t : goal.invariant-loop-t
-invariant-loop-t l = (l.t ≤ l.modes) × (l.count ≡ length (joined l.t (row_arcs (net_of l.s))))
-
-abbrev pub decreases-loop-t : goal.decreases-loop-t
-decreases-loop-t l = l.modes - l.t
+invariant-loop-t l = (l.count ≡ length (joined l.t (row_arcs (net_of l.net.sheet.now))))

@@ -1,5 +1,5 @@
 -- What the arcs before the i-th become.
-use Prim.Native.Nat.{◌+◌, ◌≤◌, ◌-◌, ◌*◌}
+use Prim.Native.Nat.{◌+◌, ◌≤◌, ◌*◌}
 use mathlib.Core.Path.{◌≡◌}
 use lib.ListN.{length}
 use Rattle.model.specs.Lists.{joined}
@@ -8,10 +8,4 @@ use Rattle.complement.proofs.sections.ModeHalves.{both_halves}
 use Rattle.complement.proofs.sections.survey.count_mode.Given as goal
 
 abbrev pub invariant-loop-i : goal.invariant-loop-i
-invariant-loop-i l =
-    (l.i ≤ l.end)
-    × (l.count ≡ length (joined l.i (λ k. both_halves (net_of l.s) (l.arcs.start + k))))
-    × (l.count ≤ 2 * l.i)
-
-abbrev pub decreases-loop-i : goal.decreases-loop-i
-decreases-loop-i l = l.end - l.i
+invariant-loop-i l = (l.count ≡ length (joined l.i (λ k. both_halves (net_of l.net.sheet.now) (l.arcs.start + k)))) × (l.count ≤ 2 * l.i)

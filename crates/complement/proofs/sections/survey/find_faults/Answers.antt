@@ -1,6 +1,5 @@
-use borrow.Author.Rules.{rules}
 use Prim.Native.Nat.{◌+◌}
-use mathlib.Core.Path.{◌≡◌}
+use mathlib.Core.Path.{◌≡◌, refl}
 use native.Mathlib.Omega.{arith}
 use Rattle.sheets.specs.Decoded.{net_of}
 use Rattle.opened.proofs.dead.Searches.{arc-kills}
@@ -10,19 +9,18 @@ use Rattle.complement.proofs.sections.Surveys.{searched_none, searched_more, sea
 use Rattle.complement.proofs.sections.survey.find_faults.Goals as goal
 
 pub loop-i-init : goal.loop-i-init
-loop-i-init c = (search rules, every-none _, searched_none c.requires.fact _ _ _ c.requires.mode_arcs)
+loop-i-init c = (every-none _, searched_none c.args.net.now.is_open _ _ _ c.requires.mode_arcs)
 
 pub loop-i-preserved : goal.loop-i-preserved
 loop-i-preserved c =
     let l = c.loop-i in
-    let here = arc-kills c.arc.ensures c.kills.ensures in (
-      search rules,
-      every_more (λ i. clear_at (net_of c.args.s.now) (c.args.arcs.start + i)) l.i l.invariant.1 c.arc_clear.ensures c.both-clear.ensures,
-      searched_more c.requires.fact _ _ _ c.requires.mode_arcs l.i _ _ c.loop-i-test.true l.invariant.2 here c.either-dead.ensures,
+    let here = arc-kills c.arc.ensures c.kills-dead.ensures in (
+      every_more (λ i. clear_at (net_of c.args.net.now.sheet.now) (c.args.arcs.start + i)) l.i l.invariant.0 c.arc_clear-clear.ensures refl,
+      searched_more c.args.net.now.is_open _ _ _ c.requires.mode_arcs l.i _ _ c.loop-i-test.true l.invariant.1 here refl,
     )
 
 pub returns : goal.returns
 returns c =
     let l = c.loop-i in
     let e : l.i ≡ c.args.arcs.count = omega arith in
-    (rw e at l.invariant.1, searched_all c.requires.fact _ _ _ c.requires.mode_arcs _ (rw e at l.invariant.2))
+    (rw e at l.invariant.0, searched_all c.args.net.now.is_open _ _ _ c.requires.mode_arcs _ (rw e at l.invariant.1))

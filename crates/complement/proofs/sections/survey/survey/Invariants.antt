@@ -4,7 +4,6 @@ use mathlib.Core.Bool.{Bool}
 use mathlib.Core.List.{List}
 use Rattle.model.specs.Nets.{mode_no}
 use Rattle.second_form.specs.Dead.{is_dead}
-use Prim.Native.Nat.{◌≤◌, ◌-◌}
 use mathlib.Core.Path.{◌≡◌}
 use mathlib.Core.Bool.{false}
 use lib.ListN.{length}
@@ -18,7 +17,4 @@ abbrev pub IsDead : List ℕ → ℕ → Bool → Type 0
 IsDead s t dead = dead ≡ is_dead (net_of s) (mode_no t)
 
 abbrev pub invariant-loop-t : goal.invariant-loop-t
-invariant-loop-t l = (l.t ≤ l.modes) × (length l.dead ≡ 256) × ClearBelow (net_of l.s) l.t l.clear × Filled (IsDead l.s) false l.dead l.t
-
-abbrev pub decreases-loop-t : goal.decreases-loop-t
-decreases-loop-t l = l.modes - l.t
+invariant-loop-t l = (length l.dead ≡ 256) × ClearBelow (net_of l.net.sheet.now) l.t l.clear × Filled (IsDead l.net.sheet.now) false l.dead l.t

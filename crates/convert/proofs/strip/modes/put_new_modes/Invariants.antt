@@ -6,7 +6,4 @@ use Rattle.convert.specs.strip.Parts.{new_group}
 use Rattle.convert.proofs.strip.modes.put_new_modes.Given as goal
 
 abbrev pub invariant-loop-n : goal.invariant-loop-n
-invariant-loop-n l = (l.n ≤ l.many) × Puts l.initial.out l.at (joined l.n (new_group l.version l.before l.pair)) l.out l.next
-
-abbrev pub decreases-loop-n : goal.decreases-loop-n
-decreases-loop-n l = l.many - l.n
+invariant-loop-n l = Puts l.initial.out l.at (joined l.n (new_group l.version l.before l.pair)) l.out l.next

@@ -7,18 +7,18 @@ use Rattle.convert.proofs.strip.sheet.put_records.Goals as goal
 
 pub put_part-at_new-requires : goal.put_part-at_new-requires
 put_part-at_new-requires c = let o = c.requires.strips.opened in
-    let fields = c.fields_at-numbers.ensures in record { n_in_bounds = omega (arith, fields.0, records_there o); room = numbers-room o (λ i. omega (arith, c.type_inv.s i)) fields.0 _ c.requires.room }
+    let fields = c.fields_at-numbers.ensures in record { n_in_bounds = omega (arith, fields.0, records_there o); room = numbers-room o c.args.net.now.are_bytes fields.0 _ c.requires.room }
 
 pub put_count-at_pairs-requires : goal.put_count-at_pairs-requires
 put_count-at_pairs-requires c =
-    (count_room c.requires.strips.opened (λ i. omega (arith, c.type_inv.s i)) c.fields_at-numbers.ensures.0 _ c.requires.room c.put_part-at_new.ensures, omega (arith, numbers c.requires.strips))
+    (count_room c.requires.strips.opened c.args.net.now.are_bytes c.fields_at-numbers.ensures.0 _ c.requires.room c.put_part-at_new.ensures, omega (arith, numbers c.requires.strips))
 
 pub put_part-requires : goal.put_part-requires
-put_part-requires c = let o = c.requires.strips.opened in record { n_in_bounds = omega (arith, c.fields_at-numbers.ensures.0, records_there o); room = pairs-room o (λ i. omega (arith, c.type_inv.s i)) c.fields_at-numbers.ensures.0 _ c.requires.room c.put_part-at_new.ensures c.put_count-at_pairs.ensures }
+put_part-requires c = let o = c.requires.strips.opened in record { n_in_bounds = omega (arith, c.fields_at-numbers.ensures.0, records_there o); room = pairs-room o c.args.net.now.are_bytes c.fields_at-numbers.ensures.0 _ c.requires.room c.put_part-at_new.ensures c.put_count-at_pairs.ensures }
 
 pub returns : goal.returns
 returns c =
-    records_put c.requires.strips.opened (λ i. omega (arith, c.type_inv.s i)) c.fields_at-numbers.ensures.0 c.args.k c.put_part-at_new.ensures c.put_count-at_pairs.ensures c.put_part.ensures
+    records_put c.requires.strips.opened c.args.net.now.are_bytes c.fields_at-numbers.ensures.0 c.args.k c.put_part-at_new.ensures c.put_count-at_pairs.ensures c.put_part.ensures
 
 pub fields_at-numbers-requires : goal.fields_at-numbers-requires
 fields_at-numbers-requires c = headed _ c.requires.strips.opened.accepted

@@ -8,7 +8,7 @@ pub put_total-at_old-requires : goal.put_total-at_old-requires
 put_total-at_old-requires c = let pre = c.requires in record { room = total-room pre.strips pre.room; arcs_bound = omega (arith, numbers pre.strips) }
 
 pub put_groups-at_new-requires : goal.put_groups-at_new-requires
-put_groups-at_new-requires c = let pre = c.requires in record { fact = pre.strips.opened; starts_are = c.starts-starts.ensures; room = old_room pre.strips pre.room c.put_total-at_old.ensures }
+put_groups-at_new-requires c = let pre = c.requires in record { starts_are = c.starts-starts.ensures; room = old_room pre.strips pre.room c.put_total-at_old.ensures }
 
 pub put_new_modes-requires : goal.put_new_modes-requires
 put_new_modes-requires c = let pre = c.requires in record { many_bound = (numbers pre.strips).modes; room = new-room pre.strips pre.room c.put_total-at_old.ensures c.put_groups-at_new.ensures }

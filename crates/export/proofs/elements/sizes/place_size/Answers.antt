@@ -7,10 +7,10 @@ use Rattle.export.proofs.elements.Lengths.{digits-most}
 use Rattle.export.proofs.elements.sizes.place_size.Goals as goal
 
 pub overflow_add-result : goal.overflow_add-result
-overflow_add-result c = omega (arith, c.digit_count.ensures, digits-most c.args.count c.requires)
+overflow_add-result c = omega (arith, rw c.from.ensures at c.digit_count.ensures, digits-most c.args.count c.requires)
 
 pub returns : goal.returns
 unfolding place_size
 returns c =
-    let digits = c.digit_count.ensures in
+    let digits = rw c.from.ensures at c.digit_count.ensures in
     (ap (λ n. 78 + n) digits, omega (arith, digits, digits-most c.args.count c.requires))

@@ -9,9 +9,9 @@ pub returns-then-weight-eq0 : goal.returns-then-weight-eq0
 returns-then-weight-eq0 c = (sym (weight-none c.args.weight c.if-weight-eq0.true), omega arith)
 
 pub overflow_add-result : goal.overflow_add-result
-overflow_add-result c = omega (arith, c.digit_count.ensures, digits-most c.args.weight c.requires)
+overflow_add-result c = omega (arith, rw c.from.ensures at c.digit_count.ensures, digits-most c.args.weight c.requires)
 
-pub returns : goal.returns
-returns c =
-    let digits = c.digit_count.ensures in
+pub returns-else-weight-eq0 : goal.returns-else-weight-eq0
+returns-else-weight-eq0 c =
+    let digits = rw c.from.ensures at c.digit_count.ensures in
     (ap (λ n. 100 + n) digits ∙ sym (weight-some c.args.weight c.if-weight-eq0.false), omega (arith, digits, digits-most c.args.weight c.requires))

@@ -12,15 +12,3 @@ returns c =
     let pre = c.weight_size.ensures in
     let post = c.weight_size-2.ensures in
     (ap₂ ◌+◌ pre.0 post.0 ∙ sym (arc-long _) ∙ ap (λ a. length (arc_text a)) c.arc-a.ensures.is, omega (arith, pre.1, post.1))
-
-pub arc-a-requires : goal.arc-a-requires
-arc-a-requires c = c.requires
-
-pub weight_size-requires : goal.weight_size-requires
-weight_size-requires c = c.arc-a.ensures.pre
-
-pub weight_size-requires-2 : goal.weight_size-requires-2
-weight_size-requires-2 c = c.arc-a.ensures.post
-
-pub overflow_add-result : goal.overflow_add-result
-overflow_add-result c = omega (arith, c.weight_size.ensures.1, c.weight_size-2.ensures.1)

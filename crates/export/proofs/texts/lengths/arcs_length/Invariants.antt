@@ -1,5 +1,5 @@
 -- As long as the arcs passed.
-use Prim.Native.Nat.{◌+◌, ◌*◌, ◌≤◌, ◌-◌}
+use Prim.Native.Nat.{◌+◌, ◌*◌, ◌≤◌}
 use mathlib.Core.Path.{◌≡◌}
 use lib.ListN.{length}
 use Rattle.model.specs.Lists.{joined}
@@ -8,7 +8,4 @@ use Rattle.export.specs.texts.Parts.{arc_no_text}
 use Rattle.export.proofs.texts.lengths.arcs_length.Given as goal
 
 abbrev pub invariant-loop-i : goal.invariant-loop-i
-invariant-loop-i l = (l.i ≤ l.count) × (l.total ≡ length (joined l.i (λ k. arc_no_text (net_of l.s) (l.arcs.start + k)))) × (l.total ≤ 214 * l.i)
-
-abbrev pub decreases-loop-i : goal.decreases-loop-i
-decreases-loop-i l = l.count - l.i
+invariant-loop-i l = (l.total ≡ length (joined l.i (λ k. arc_no_text (net_of l.net.sheet.now) (l.arcs.start + k)))) × (l.total ≤ 214 * l.i)

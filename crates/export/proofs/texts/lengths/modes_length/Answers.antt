@@ -7,44 +7,30 @@ use Rattle.sheets.specs.Decoded.{net_of}
 use Rattle.opened.proofs.Shapes.{sizes}
 use Rattle.sheets.specs.written.Written.{of_mode}
 use Rattle.pnml.specs.Pnml.{arc_text}
-use Rattle.export.proofs.texts.Texts.{none-long, more-long, end-long, mode-long}
+use Rattle.export.proofs.texts.Texts.{none-long, more-long, mode-long}
 use Rattle.export.proofs.texts.lengths.modes_length.Goals as goal
 
 pub overflow_add-total : goal.overflow_add-total
 overflow_add-total c =
-    let z = sizes c.requires.fact in
+    let z = sizes c.args.net.now.is_open in
     omega (arith, c.arcs_of.ensures.own.fits, z.arcs, z.arcs_within, c.arcs_length.ensures.1)
 
 pub overflow_add-total-in-loop-t : goal.overflow_add-total-in-loop-t
 overflow_add-total-in-loop-t c =
-    let z = sizes c.requires.fact in
-    omega (arith, c.arcs_of.ensures.own.fits, z.arcs, z.arcs_within, c.arcs_length.ensures.1, z.modes_within, c.loop-t.invariant.2, c.loop-t-test.true)
+    let z = sizes c.args.net.now.is_open in
+    omega (arith, c.arcs_of.ensures.own.fits, z.arcs, z.arcs_within, c.arcs_length.ensures.1, z.modes_within, c.loop-t.invariant.1, c.loop-t-test.true)
 
 pub loop-t-preserved : goal.loop-t-preserved
 loop-t-preserved c =
     let l = c.loop-t in
-    let z = sizes c.requires.fact in
-    let arcs = (net_of c.args.s.now).arcs in
+    let z = sizes c.args.net.now.is_open in
+    let arcs = (net_of c.args.net.now.sheet.now).arcs in
     let segment = c.arcs_of.ensures in
     let own = ap (λ n. 30 + n) (c.arcs_length.ensures.0 ∙ ap (λ m. length (flat_map arc_text (of_mode arcs m.0))) segment.mode) ∙ sym (mode-long arcs l.t) in
-    (omega (arith, c.loop-t-test.true), more-long _ l.t l.invariant.1 own, omega (arith, segment.own.fits, z.arcs, z.arcs_within, c.arcs_length.ensures.1, l.invariant.2))
-
-pub returns : goal.returns
-returns c =
-    let l = c.loop-t in
-    (end-long _ l.t _ l.invariant.0 c.loop-t-test.false l.invariant.1, omega (arith, l.invariant.0, l.invariant.2))
+    (more-long _ l.t l.invariant.0 own, omega (arith, segment.own.fits, z.arcs, z.arcs_within, c.arcs_length.ensures.1, l.invariant.1))
 
 pub loop-t-init : goal.loop-t-init
-loop-t-init c = (omega arith, none-long _, omega arith)
+loop-t-init c = (none-long _, omega arith)
 
 pub overflow_cast-t : goal.overflow_cast-t
-overflow_cast-t c = omega (arith, (sizes c.requires.fact).modes_within)
-
-pub arcs_of-requires : goal.arcs_of-requires
-arcs_of-requires c = let pre = c.requires in record { fact = pre.fact; starts_are = pre.starts_are; mode_lt_modes = c.loop-t-test.true }
-
-pub arcs_length-requires : goal.arcs_length-requires
-arcs_length-requires c = record { fact = c.requires.fact; mode_arcs = c.arcs_of.ensures.own }
-
-pub loop-t-smaller : goal.loop-t-smaller
-loop-t-smaller c = omega (arith, c.loop-t-test.true)
+overflow_cast-t c = omega (arith, (sizes c.args.net.now.is_open).modes_within)

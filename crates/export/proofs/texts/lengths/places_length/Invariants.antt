@@ -1,5 +1,5 @@
 -- As long as the places passed.
-use Prim.Native.Nat.{◌*◌, ◌≤◌, ◌-◌}
+use Prim.Native.Nat.{◌*◌, ◌≤◌}
 use mathlib.Core.Path.{◌≡◌}
 use lib.ListN.{length}
 use Rattle.model.specs.Lists.{joined}
@@ -8,7 +8,4 @@ use Rattle.export.specs.texts.Parts.{place_of}
 use Rattle.export.proofs.texts.lengths.places_length.Given as goal
 
 abbrev pub invariant-loop-p : goal.invariant-loop-p
-invariant-loop-p l = (l.p ≤ l.pairs) × (l.total ≡ length (joined l.p (place_of (net_of l.s)))) × (l.total ≤ 85 * l.p)
-
-abbrev pub decreases-loop-p : goal.decreases-loop-p
-decreases-loop-p l = l.pairs - l.p
+invariant-loop-p l = (l.total ≡ length (joined l.p (place_of (net_of l.net.sheet.now)))) × (l.total ≤ 85 * l.p)

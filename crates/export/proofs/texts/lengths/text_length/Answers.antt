@@ -6,11 +6,11 @@ use Rattle.export.proofs.texts.lengths.text_length.Goals as goal
 
 pub overflow_add-result-2 : goal.overflow_add-result-2
 overflow_add-result-2 c =
-    let z = sizes c.requires.fact in
+    let z = sizes c.args.net.now.is_open in
     omega (arith, c.places_length.ensures.1, c.modes_length.ensures.1, z.pairs_within, z.modes_within)
 
 pub returns : goal.returns
-returns c = text-long c.requires.fact c.places_length.ensures.0 c.modes_length.ensures.0
+returns c = text-long c.args.net.now.is_open c.places_length.ensures.0 c.modes_length.ensures.0
 
 pub overflow_add-result : goal.overflow_add-result
-overflow_add-result c = omega (arith, c.places_length.ensures.1, (sizes c.requires.fact).pairs_within)
+overflow_add-result c = omega (arith, c.places_length.ensures.1, (sizes c.args.net.now.is_open).pairs_within)

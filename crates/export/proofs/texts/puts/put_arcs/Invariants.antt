@@ -1,5 +1,5 @@
 -- The arcs passed are put.
-use Prim.Native.Nat.{◌+◌, ◌≤◌, ◌-◌}
+use Prim.Native.Nat.{◌+◌}
 use Rattle.model.specs.Lists.{joined}
 use Rattle.sheets.specs.Decoded.{net_of}
 use Rattle.sheets.specs.written.Puts.{Puts}
@@ -7,7 +7,4 @@ use Rattle.export.specs.texts.Parts.{arc_no_text}
 use Rattle.export.proofs.texts.puts.put_arcs.Given as goal
 
 abbrev pub invariant-loop-i : goal.invariant-loop-i
-invariant-loop-i l = (l.i ≤ l.count) × Puts l.initial.out l.at (joined l.i (λ k. arc_no_text (net_of l.s) (l.arcs.start + k))) l.out l.next
-
-abbrev pub decreases-loop-i : goal.decreases-loop-i
-decreases-loop-i l = l.count - l.i
+invariant-loop-i l = Puts l.initial.out l.at (joined l.i (λ k. arc_no_text (net_of l.net.sheet.now) (l.arcs.start + k))) l.out l.next

@@ -9,10 +9,7 @@ put_transition-next-requires c = let pre = c.requires in record { mode_bound = p
 
 pub put_arcs-requires : goal.put_arcs-requires
 put_arcs-requires c = let pre = c.requires in
-    let room = for_next _ _ (for_as (mode-parts _ _) pre.room_for) (put_of c.put_transition-next.ensures) in record { fact = pre.fact; mode_arcs = pre.mode_arcs; twos_are = pre.twos_are; room_for = room }
+    let room = for_next _ _ (for_as (mode-parts _ _) pre.room_for) (put_of c.put_transition-next.ensures) in record { mode_arcs = pre.mode_arcs; room_for = room }
 
 pub returns : goal.returns
 returns c = puts_as (sym (mode-parts _ _)) (puts-both (put_of c.put_transition-next.ensures) c.put_arcs.ensures)
-
-pub shape_of-out : goal.shape_of-out
-shape_of-out c = (returns c).kept

@@ -1,5 +1,4 @@
 -- The places passed are put.
-use Prim.Native.Nat.{◌≤◌, ◌-◌}
 use Rattle.model.specs.Lists.{joined}
 use Rattle.sheets.specs.Decoded.{net_of}
 use Rattle.sheets.specs.written.Puts.{Puts}
@@ -7,7 +6,4 @@ use Rattle.export.specs.texts.Parts.{place_of}
 use Rattle.export.proofs.texts.puts.put_places.Given as goal
 
 abbrev pub invariant-loop-p : goal.invariant-loop-p
-invariant-loop-p l = (l.p ≤ l.pairs) × Puts l.initial.out l.at (joined l.p (place_of (net_of l.s))) l.out l.next
-
-abbrev pub decreases-loop-p : goal.decreases-loop-p
-decreases-loop-p l = l.pairs - l.p
+invariant-loop-p l = Puts l.initial.out l.at (joined l.p (place_of (net_of l.net.sheet.now))) l.out l.next

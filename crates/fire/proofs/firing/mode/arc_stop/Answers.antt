@@ -4,7 +4,7 @@ use Rattle.fire.proofs.firing.mode.arc_stop.Goals as goal
 
 pub returns-then-is_stopped : goal.returns-then-is_stopped
 returns-then-is_stopped c =
-    stop-found c.meet-at.ensures _ _ c.is_stopped.ensures c.if-is_stopped.true c.stopped_by-by.ensures
+    stop-found c.meet-at.ensures _ _ c.is_stopped.ensures c.if-is_stopped.true c.stopped_by.ensures
     c.refused.ensures
 
 pub returns : goal.returns

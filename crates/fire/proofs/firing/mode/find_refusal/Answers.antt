@@ -1,40 +1,30 @@
 -- The first of the four that is found, or the last.
-use Rattle.sheets.specs.Decoded.{net_of}
-use Rattle.fire.proofs.InTurn.{first-refuses, second-refuses, third-refuses, last-answers}
+use mathlib.Core.Path.{◌∙◌, ap}
+use Rattle.model.specs.Refusals.{answer}
+use Rattle.model.proofs.Asking.{stops, goes_on}
 use Rattle.fire.proofs.firing.ByMode.{in_order_lem}
 use Rattle.fire.proofs.firing.mode.find_refusal.Goals as goal
 
-pub returns-in-Refused : goal.returns-in-Refused
-returns-in-Refused c = λ t own.
-    let a = c.args in
-    first-refuses (in_order_lem a.thing (net_of a.s.now) a.marking.now t) (c.find_stop-lacking.ensures t own) c.in-Refused.is
+pub returns-in_err-find_stop : goal.returns-in_err-find_stop
+returns-in_err-find_stop c = λ t own.
+    stops _ _ (c.in_err-find_stop.ensures t own) c.from_residual.ensures ∙ ap answer (in_order_lem _ _ _ t)
 
-pub returns-in-Refused-over : goal.returns-in-Refused-over
-returns-in-Refused-over c = λ t own.
-    let a = c.args in
-    second-refuses (in_order_lem a.thing (net_of a.s.now) a.marking.now t) (c.find_stop-lacking.ensures t own) c.in_default.is
-    (c.find_stop-over.ensures t own) c.in-Refused-over.is
+pub returns-in_err-find_stop-2 : goal.returns-in_err-find_stop-2
+returns-in_err-find_stop-2 c = λ t own.
+    goes_on _ _ (c.in_ok-find_stop.ensures t own)
+    (stops _ _ (c.in_err-find_stop-2.ensures t own) c.from_residual-in_err-find_stop-2.ensures)
+    ∙ ap answer (in_order_lem _ _ _ t)
 
-pub returns-in-Refused-inhibited : goal.returns-in-Refused-inhibited
-returns-in-Refused-inhibited c = λ t own.
-    let a = c.args in
-    third-refuses (in_order_lem a.thing (net_of a.s.now) a.marking.now t) (c.find_stop-lacking.ensures t own) c.in_default.is
-    (c.find_stop-over.ensures t own) c.in_default-over.is (c.find_stop-inhibited.ensures t own) c.in-Refused-inhibited.is
+pub returns-in_err-find_stop-3 : goal.returns-in_err-find_stop-3
+returns-in_err-find_stop-3 c = λ t own.
+    goes_on _ _ (c.in_ok-find_stop.ensures t own)
+    (goes_on _ _ (c.in_ok-find_stop-2.ensures t own)
+    (stops _ _ (c.in_err-find_stop-3.ensures t own) c.from_residual-in_err-find_stop-3.ensures))
+    ∙ ap answer (in_order_lem _ _ _ t)
 
 pub returns : goal.returns
 returns c = λ t own.
-    let a = c.args in
-    last-answers (in_order_lem a.thing (net_of a.s.now) a.marking.now t) (c.find_stop-lacking.ensures t own) c.in_default.is
-    (c.find_stop-over.ensures t own) c.in_default-over.is (c.find_stop-inhibited.ensures t own) c.in_default-inhibited.is (c.find_stop.ensures t own)
-
-pub find_stop-lacking-requires : goal.find_stop-lacking-requires
-find_stop-lacking-requires c = c.requires
-
-pub find_stop-over-requires : goal.find_stop-over-requires
-find_stop-over-requires c = c.requires
-
-pub find_stop-inhibited-requires : goal.find_stop-inhibited-requires
-find_stop-inhibited-requires c = c.requires
-
-pub find_stop-requires : goal.find_stop-requires
-find_stop-requires c = c.requires
+    goes_on _ _ (c.in_ok-find_stop.ensures t own)
+    (goes_on _ _ (c.in_ok-find_stop-2.ensures t own)
+    (goes_on _ _ (c.in_ok-find_stop-3.ensures t own) (c.find_stop-4.ensures t own)))
+    ∙ ap answer (in_order_lem _ _ _ t)

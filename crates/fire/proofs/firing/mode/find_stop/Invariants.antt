@@ -8,8 +8,4 @@ use Rattle.fire.specs.firing.AtMode.{stop_at}
 use Rattle.fire.proofs.firing.mode.find_stop.Given as goal
 
 abbrev pub invariant-loop-i : goal.invariant-loop-i
-invariant-loop-i l =
-    (l.i ≤ l.count) × (first l.i (λ k. stop_at l.thing l.why (net_of l.s) l.marking (l.arcs.start + k)) ≡ none)
-
-abbrev pub decreases-loop-i : goal.decreases-loop-i
-decreases-loop-i l = l.count - l.i
+invariant-loop-i l = (first l.i (λ k. stop_at l.thing l.why (net_of l.net.sheet.now) l.marking (l.arcs.start + k)) ≡ none)

@@ -8,7 +8,7 @@ use Rattle.fire.proofs.firing.mode.write_arc.Goals as goal
 
 pub bounds-marking-p : goal.bounds-marking-p
 bounds-marking-p c =
-    omega (arith, (sizes c.requires.fact).pairs)
+    omega (arith, (sizes c.args.net.now.is_open).pairs)
 
 pub moved-requires : goal.moved-requires
 moved-requires c =
@@ -17,7 +17,7 @@ moved-requires c =
 
 pub bounds-marking-p-2 : goal.bounds-marking-p-2
 bounds-marking-p-2 c =
-    omega (arith, (sizes c.requires.fact).pairs)
+    omega (arith, (sizes c.args.net.now.is_open).pairs)
 
 pub returns : goal.returns
 returns c = written_is _ _ _ _ c.arc-arc.ensures.is c.moved.ensures

@@ -7,22 +7,22 @@ use Rattle.fire.proofs.firing.mode.write_arcs.Goals as goal
 
 pub loop-i-init : goal.loop-i-init
 unfolding write_arcs
-loop-i-init c = (search rules, refl)
+loop-i-init c = refl
 
 pub write_arc-requires : goal.write_arc-requires
 write_arc-requires c = let l = c.loop-i in
-    let pre = c.requires in record { fact = pre.opened; own_arc = search rules; writable = rw l.invariant.1 (writable pre _ pre.own l.i c.loop-i-test.true) }
+    let pre = c.requires in record { own_arc = search rules; writable = rw l.invariant (writable pre _ pre.own l.i c.loop-i-test.true) }
 
 pub loop-i-preserved : goal.loop-i-preserved
 loop-i-preserved c =
     let l = c.loop-i in
     let pre = c.requires in
-    (search rules, c.write_arc.ensures ∙ rw l.invariant.1 (written_next pre _ pre.own l.i))
+    c.write_arc.ensures ∙ rw l.invariant (written_next pre _ pre.own l.i)
 
 pub shape_of-marking : goal.shape_of-marking
-shape_of-marking c = ap length c.loop-i.invariant.1 ∙ write_length _ _ c.loop-i.i
+shape_of-marking c = ap length c.loop-i.invariant ∙ write_length _ _ c.loop-i.i
 
 pub returns : goal.returns
 returns c = λ t own.
-    c.loop-i.invariant.1
-    ∙ fires c.requires t own c.loop-i.i c.loop-i.invariant.0 c.loop-i-test.false
+    c.loop-i.invariant
+    ∙ fires c.requires t own c.loop-i.i c.loop-i.auto.i-end c.loop-i-test.false

@@ -7,8 +7,4 @@ use Rattle.sheets.specs.Decoded.{net_of}
 use Rattle.fire.proofs.firing.mode.write_arcs.Given as goal
 
 abbrev pub invariant-loop-i : goal.invariant-loop-i
-invariant-loop-i l =
-    (l.i ≤ l.count) × (l.marking ≡ write_arcs (λ k. arc_no (net_of l.s).arcs (l.arcs.start + k)) l.i l.initial.marking)
-
-abbrev pub decreases-loop-i : goal.decreases-loop-i
-decreases-loop-i l = l.count - l.i
+invariant-loop-i l = (l.marking ≡ write_arcs (λ k. arc_no (net_of l.net.sheet.now).arcs (l.arcs.start + k)) l.i l.initial.marking)

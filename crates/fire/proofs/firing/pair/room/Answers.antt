@@ -1,8 +1,6 @@
--- Each rule's own.
+-- K, or K + Pre.
+use Rattle.fire.proofs.firing.AtBounds.{bound-more}
 use Rattle.fire.proofs.firing.pair.room.Goals as goal
 
-pub returns-in-Strong : goal.returns-in-Strong
-returns-in-Strong c = rw c.in-Strong.is
-
 pub returns-in-Weak : goal.returns-in-Weak
-returns-in-Weak c = rw c.in-Weak.is c.with_pre.ensures
+returns-in-Weak c = rw (c.in-Weak.is, c.saturating_add.ensures) (bound-more _ _ c.requires)

@@ -1,12 +1,9 @@
 -- 4, or what the members give.
-use Rattle.fire.proofs.step.Summing.{empty-step, long-step, fair_step}
+use Rattle.fire.proofs.step.Summing.{unfair_step, fair_step}
 use Rattle.fire.proofs.step.members.members_answer.Goals as goal
 
-pub returns-then-modes-eq0 : goal.returns-then-modes-eq0
-returns-then-modes-eq0 c = empty-step _ _ c.if-modes-eq0.true c.refused.ensures
-
-pub returns-then-modes-gt64 : goal.returns-then-modes-gt64
-returns-then-modes-gt64 c = long-step _ _ c.if-modes-gt64.true c.refused-then-modes-gt64.ensures
+pub returns-then-is_empty : goal.returns-then-is_empty
+returns-then-is_empty c = unfair_step _ _ c.is_empty.ensures c.then-is_empty.either c.refused.ensures
 
 pub returns : goal.returns
-returns c = fair_step _ _ c.if-modes-eq0.false c.if-modes-gt64.false c.each_member.ensures
+returns c = fair_step _ _ c.is_empty.ensures c.if-is_empty.false c.if-modes-gt64.false c.each_member.ensures

@@ -7,7 +7,4 @@ use Rattle.fire.proofs.step.AtPairs.{Moved}
 use Rattle.fire.proofs.step.pairs.write_pairs.Given as goal
 
 abbrev pub invariant-loop-p : goal.invariant-loop-p
-invariant-loop-p l = (l.p ≤ l.pairs) × (length l.marking ≡ length l.initial.marking) × Moved (sums_at l.pre l.post l.low) l.p l.initial.marking l.marking
-
-abbrev pub decreases-loop-p : goal.decreases-loop-p
-decreases-loop-p l = l.pairs - l.p
+invariant-loop-p l = Moved (sums_at l.pre l.post l.low) l.p l.initial.marking l.marking

@@ -6,7 +6,7 @@ use Rattle.fire.proofs.step.sums.add_arc.Goals as goal
 pub returns : goal.returns
 returns c =
     let a = c.args in
-    arc-added a.arc a.pre.now a.post.now a.low.now c.requires.addable.inside c.requires.tabled c.least.ensures (omega arith)
+    arc-added a.arc a.pre.now a.post.now a.low.now c.requires.addable.inside c.requires.tabled c.min.ensures (omega arith)
 
 pub overflow_cast-p : goal.overflow_cast-p
 overflow_cast-p c = record { fits = omega (arith, c.requires.addable.inside) }
@@ -20,12 +20,6 @@ bounds-pre-p c = c.requires.addable.inside
 pub overflow_add-pre : goal.overflow_add-pre
 overflow_add-pre c = record { fits = omega (arith, c.requires.addable.pre) }
 
-pub offset_bounds-pre-p-2 : goal.offset_bounds-pre-p-2
-offset_bounds-pre-p-2 c = record { fits = omega (arith, c.requires.addable.inside) }
-
-pub bounds-pre-p-2 : goal.bounds-pre-p-2
-bounds-pre-p-2 c = c.requires.addable.inside
-
 pub offset_bounds-post-p : goal.offset_bounds-post-p
 offset_bounds-post-p c = record { fits = omega (arith, c.requires.addable.inside) }
 
@@ -34,12 +28,6 @@ bounds-post-p c = c.requires.addable.inside
 
 pub overflow_add-post : goal.overflow_add-post
 overflow_add-post c = record { fits = omega (arith, c.requires.addable.post) }
-
-pub offset_bounds-post-p-2 : goal.offset_bounds-post-p-2
-offset_bounds-post-p-2 c = record { fits = omega (arith, c.requires.addable.inside) }
-
-pub bounds-post-p-2 : goal.bounds-post-p-2
-bounds-post-p-2 c = c.requires.addable.inside
 
 pub offset_bounds-low-p : goal.offset_bounds-low-p
 offset_bounds-low-p c = record { fits = omega (arith, c.requires.addable.inside) }

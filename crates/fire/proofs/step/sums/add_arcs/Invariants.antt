@@ -8,7 +8,4 @@ use Rattle.fire.proofs.step.sums.add_arcs.Given as goal
 
 abbrev pub invariant-loop-i : goal.invariant-loop-i
 invariant-loop-i l =
-    (l.i ≤ l.count) × Tabled l.pre l.post l.low × AddedArcs (λ k. arc_no (net_of l.s).arcs (l.arcs.start + k)) l.i (sums_at l.initial.pre l.initial.post l.initial.low) (sums_at l.pre l.post l.low)
-
-abbrev pub decreases-loop-i : goal.decreases-loop-i
-decreases-loop-i l = l.count - l.i
+    Tabled l.pre l.post l.low × AddedArcs (λ k. arc_no (net_of l.net.sheet.now).arcs (l.arcs.start + k)) l.i (sums_at l.initial.pre l.initial.post l.initial.low) (sums_at l.pre l.post l.low)

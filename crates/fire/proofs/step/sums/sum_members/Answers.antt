@@ -6,19 +6,19 @@ use Rattle.opened.proofs.Shapes.{sizes}
 use Rattle.fire.proofs.step.Summing.{sums-more, sums-below}
 use Rattle.fire.proofs.step.sums.sum_members.Goals as goal
 
-pub loop-i-init : goal.loop-i-init
-loop-i-init c = let pre = c.requires in (search rules, pre.tabled, pre.sums_are)
+pub loop-mode-init : goal.loop-mode-init
+loop-mode-init c = let pre = c.requires in (pre.tabled, pre.sums_are)
 
 pub add_member-requires : goal.add_member-requires
-add_member-requires c = let l = c.loop-i in
-    let members = c.requires.members in record { fact = c.requires.fact; starts_are = c.starts-starts.ensures; mode_lt_modes = members.each l.i c.loop-i-test.true; below = sums-below c.args.modes.now 63 (sizes c.requires.fact).well_formed (omega arith) l.invariant.2; tabled = l.invariant.1 }
+add_member-requires c = let l = c.loop-mode in
+    let members = c.requires.members in record { starts_are = c.starts-starts.ensures; mode_lt_modes = members.each l.mode-index c.loop-mode-test.true; below = sums-below c.args.modes.now 63 (sizes c.args.net.now.is_open).well_formed (omega arith) l.invariant.1; tabled = l.invariant.0 }
 
-pub loop-i-preserved : goal.loop-i-preserved
-loop-i-preserved c =
-    (search rules, c.add_member.ensures.0, sums-more c.args.modes.now c.loop-i-test.true c.loop-i.invariant.2 c.add_member.ensures.1)
+pub loop-mode-preserved : goal.loop-mode-preserved
+loop-mode-preserved c =
+    (c.add_member.ensures.0, sums-more c.args.modes.now c.loop-mode-test.true c.loop-mode.invariant.1 c.add_member.ensures.1)
 
 pub returns : goal.returns
 returns c =
-    let l = c.loop-i in
-    let e : l.i ≡ length c.args.modes.now = omega arith in
-    rw e at l.invariant.2
+    let l = c.loop-mode in
+    let e : l.mode-index ≡ length c.args.modes.now = omega arith in
+    rw e at l.invariant.1

@@ -1,25 +1,19 @@
 -- The mode is a constant, the pair one of a range.
 use native.Mathlib.Omega.{arith}
 use Rattle.pnml.specs.Pnml.{three}
+use Rattle.grammar.proofs.HandedOn.{handed_on}
 use Rattle.grammar.proofs.parts.Literals.{◌and◌}
 use Rattle.grammar.proofs.parts.Joints.{const_part}
-use Rattle.grammar.proofs.parts.Values.{whole_of, part_of, const_reads, whole-within}
+use Rattle.grammar.proofs.parts.Values.{reads-stop, const_reads}
 use Rattle.import.proofs.scan.arc.read_pair.Goals as goal
 
-pub read_three-requires : goal.read_three-requires
-read_three-requires c =
+pub returns-in_err-next : goal.returns-in_err-next
+returns-in_err-next c =
     let pre = c.requires in
-    let w = whole_of (c.then_three-number.ensures.how pre.0 and c.then_bytes-before.ensures) c.in-Whole.is in
-    (whole-within w, pre.2, pre.3)
+    let w = c.then_three-number.ensures.how pre.0 and c.in_err-next.ensures in
+    reads-stop (handed_on c.from_residual.ensures) (const_part three _ w.how _ (omega arith, pre.2))
 
-pub returns-in-Part : goal.returns-in-Part
-returns-in-Part c =
-    let pre = c.requires in
-    let w = part_of (c.then_three-number.ensures.how pre.0 and c.then_bytes-before.ensures) c.in-Part.is in
-    record { how = const_part three _ w _ (omega arith, pre.2) }
-
-pub returns-in-Whole : goal.returns-in-Whole
-returns-in-Whole c =
-    let pre = c.requires in
-    let w = whole_of (c.then_three-number.ensures.how pre.0 and c.then_bytes-before.ensures) c.in-Whole.is in
-    const_reads _ _ w c.read_three.ensures
+pub returns : goal.returns
+returns c =
+    let w = c.then_three-number.ensures.how c.requires.0 and c.in_ok-next.ensures in
+    const_reads _ _ w.how c.read_three.ensures

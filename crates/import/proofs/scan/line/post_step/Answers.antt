@@ -1,23 +1,24 @@
 -- A Post arc after its head.
 use native.Mathlib.Omega.{arith}
-use Rattle.import.proofs.scan.LineKinds.{post_bounds, post-stands, post-stops, arc-is, arc_not}
+use Rattle.grammar.proofs.HandedOn.{handed_on}
+use Rattle.import.proofs.scan.LineKinds.{post_bounds, post-stands, post-stops, step-not}
 use Rattle.import.proofs.scan.line.post_step.Goals as goal
 
 pub overflow_sub-q : goal.overflow_sub-q
 overflow_sub-q c = let pre = c.requires in (post_bounds pre.1 pre.2).0
 
-pub read_arc-arc-requires : goal.read_arc-arc-requires
-read_arc-arc-requires c =
+pub read_arc-requires : goal.read_arc-requires
+read_arc-requires c =
     let pre = c.requires in
     let e = post_bounds pre.1 pre.2 in
-    (pre.0, omega (arith, pre.1.modes), omega (arith, e.1, c.up_to-high.ensures, c.from_post-low.ensures), omega (arith, e.2, c.up_to-high.ensures))
+    (pre.0, omega (arith, pre.1.modes), omega (arith, e.1, c.up_to.ensures, c.from_post.ensures), omega (arith, e.2, c.up_to.ensures))
 
-pub returns-in-NoArc : goal.returns-in-NoArc
-returns-in-NoArc c =
-    let y = arc_not c.read_arc-arc.ensures c.in-NoArc.is in
-    record { rest = λ at x. record { how = post-stops c.requires.1 x (rw (c.up_to-high.ensures, c.from_post-low.ensures) at y) } }
+pub returns-in_err-pair : goal.returns-in_err-pair
+returns-in_err-pair c =
+    let y = c.in_err-pair.ensures.how in
+    record { rest = λ at x. step-not (handed_on c.from_residual.ensures) (post-stops c.requires.1 x (rw (c.up_to.ensures, c.from_post.ensures) at y)) }
 
-pub returns-in-Arc : goal.returns-in-Arc
-returns-in-Arc c =
-    let y = arc-is c.read_arc-arc.ensures c.in-Arc.is in
-    record { rest = λ at x. record { how = post-stands c.requires.1 x (rw (c.up_to-high.ensures, c.from_post-low.ensures) at y) } }
+pub returns : goal.returns
+returns c =
+    let y = c.in_ok-pair.ensures.how in
+    record { rest = λ at x. record { how = post-stands c.requires.1 x (rw (c.up_to.ensures, c.from_post.ensures) at y) } }

@@ -1,23 +1,22 @@
 use native.Mathlib.Omega.{arith}
-use Rattle.import.proofs.scan.Onward.{onward-start, onward-line, farther, all-stop, all_end, moved_as}
+use Rattle.grammar.proofs.HandedOn.{handed_on}
+use Rattle.import.proofs.scan.Onward.{onward-start, onward-line, farther, all-stop, all_end, lines-not}
 use Rattle.import.proofs.scan.lines.read_lines.Goals as goal
 
-pub loop-p-init : goal.loop-p-init
-loop-p-init c = onward-start _ _ c.requires
+pub loop-after-init : goal.loop-after-init
+loop-after-init c = onward-start _ _ c.requires
 
-pub advance-moved-requires : goal.advance-moved-requires
-advance-moved-requires c = let l = c.loop-p.invariant in (l.in_run, l.sound)
+pub returns-in_err-after : goal.returns-in_err-after
+returns-in_err-after c = lines-not (handed_on c.from_residual.ensures) (all-stop c.loop-after.invariant c.in_err-after.ensures.how)
 
-pub returns-in-Nowhere : goal.returns-in-Nowhere
-returns-in-Nowhere c = record { how = all-stop c.loop-p.invariant (moved_as c.advance-moved.ensures c.in-Nowhere.is) }
+pub returns-in_default : goal.returns-in_default
+returns-in_default c = let x = c.in_ok-after.ensures.how in record { how = all_end c.loop-after.invariant (rw c.in_default.is at x) }
 
-pub returns-in-AtEnd : goal.returns-in-AtEnd
-returns-in-AtEnd c = record { how = all_end c.loop-p.invariant (moved_as c.advance-moved.ensures c.in-AtEnd.is) }
+pub loop-after-smaller : goal.loop-after-smaller
+loop-after-smaller c =
+    let y = c.in_ok-after.ensures.how in
+    let x = rw c.in-Some.is at y in
+    omega (arith, farther c.loop-after.invariant x, (onward-line c.loop-after.invariant x).in_run)
 
-pub loop-p-smaller : goal.loop-p-smaller
-loop-p-smaller c =
-    let x = moved_as c.advance-moved.ensures c.in-On.is in
-    omega (arith, farther c.loop-p.invariant x, (onward-line c.loop-p.invariant x).in_run)
-
-pub loop-p-preserved : goal.loop-p-preserved
-loop-p-preserved c = onward-line c.loop-p.invariant (moved_as c.advance-moved.ensures c.in-On.is)
+pub loop-after-preserved : goal.loop-after-preserved
+loop-after-preserved c = let x = c.in_ok-after.ensures.how in onward-line c.loop-after.invariant (rw c.in-Some.is at x)

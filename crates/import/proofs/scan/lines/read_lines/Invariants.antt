@@ -4,8 +4,8 @@ use lib.ListN.{length}
 use Rattle.import.proofs.scan.Onward.{Onward}
 use Rattle.import.proofs.scan.lines.read_lines.Given as goal
 
-abbrev pub invariant-loop-p : goal.invariant-loop-p
-invariant-loop-p l = Onward l.s l.first l.q l.at
+abbrev pub invariant-loop-after : goal.invariant-loop-after
+invariant-loop-after l = Onward l.s l.first l.q l.at
 
-abbrev pub decreases-loop-p : goal.decreases-loop-p
-decreases-loop-p l = length l.s - l.at
+abbrev pub decreases-loop-after : goal.decreases-loop-after
+decreases-loop-after l = length l.s - l.at

@@ -7,25 +7,22 @@ use Rattle.run.proofs.salvage.Answers.{tells}
 use Rattle.run.proofs.salvage.trial.run_from_first.Goals as goal
 
 pub write_numbers-requires : goal.write_numbers-requires
-write_numbers-requires c = record { fact = c.requires.fact; starts_are = c.starts-starts.ensures; numbers_len = refl }
+write_numbers-requires c = record { starts_are = c.starts-starts.ensures; numbers_len = refl }
 
 pub run_modes-requires : goal.run_modes-requires
 run_modes-requires c =
     let pre = c.requires in
     let there = modes-there c.args.damaged.now pre.legible.there in
     record {
-      tables = record { numbered = record { opened = pre.fact; numbers_are = λ l. c.write_numbers.ensures }; starts_hold = c.starts-starts.ensures };
+      tables = record { numbered = record { opened = c.args.net.now.is_open; numbers_are = λ l. c.write_numbers.ensures }; starts_hold = c.starts-starts.ensures };
       modes_stand = omega (arith, c.movements_at.ensures, pre.count_value, there);
       count_le_most_movements = omega (arith, pre.count_value, most-considered c.args.damaged.now);
-      marking = rw c.write_start.ensures (sizes pre.fact).well_formed.start;
+      marking = rw c.write_start.ensures (sizes c.args.net.now.is_open).well_formed.start;
     }
 
 pub returns : goal.returns
 returns c =
-    tells c.args.s.now c.args.damaged.now _ _ c.movements_at.ensures c.requires.count_value c.write_start.ensures c.run_modes.ensures
+    tells c.args.net.now.sheet.now c.args.damaged.now _ _ c.movements_at.ensures c.requires.count_value c.write_start.ensures c.run_modes.ensures
 
 pub write_start-requires : goal.write_start-requires
-write_start-requires c = record { fact = c.requires.fact; marking_len = c.requires.marking_len }
-
-pub starts-starts-requires : goal.starts-starts-requires
-starts-starts-requires c = c.requires.fact
+write_start-requires c = record { marking_len = c.requires.marking_len }

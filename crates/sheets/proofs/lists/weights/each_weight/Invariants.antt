@@ -8,7 +8,4 @@ use Rattle.sheets.specs.lists.Weights.{weight_refusal}
 use Rattle.sheets.proofs.lists.weights.each_weight.Given as goal
 
 abbrev pub invariant-loop-p : goal.invariant-loop-p
-invariant-loop-p l = (l.p ≤ l.count) × (first l.p (λ q. weight_refusal l.s (weight_at q)) ≡ none)
-
-abbrev pub decreases-loop-p : goal.decreases-loop-p
-decreases-loop-p l = l.count - l.p
+invariant-loop-p l = (first l.p (λ q. weight_refusal l.sheet.bytes.now (weight_at q)) ≡ none)

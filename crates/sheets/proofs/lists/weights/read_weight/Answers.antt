@@ -11,17 +11,17 @@ pub returns-then-sheet_end-at : goal.returns-then-sheet_end-at
 unfolding weight_refusal ◌▸◌
 returns-then-sheet_end-at c =
     let a = c.args in
-    simp (lt-ltb (sheet_end a.s.now) (a.at + 4) (omega arith)) c.refused.ensures
+    simp (lt-ltb (sheet_end a.sheet.now.bytes.now) (a.at + 4) (omega arith)) c.refused.ensures
 
 pub returns-then-too_heavy : goal.returns-then-too_heavy
 unfolding weight_refusal ◌▸◌
 returns-then-too_heavy c =
     let a = c.args in
-    simp (le-ltb (sheet_end a.s.now) (a.at + 4) (omega arith), ← c.u32_at.ensures.0, ← c.too_heavy.ensures, c.if-too_heavy.true)
+    simp (le-ltb (sheet_end a.sheet.now.bytes.now) (a.at + 4) (omega arith), ← c.u32_at.ensures.0, ← c.too_heavy.ensures, c.if-too_heavy.true)
     c.refused-then-too_heavy.ensures
 
 pub returns : goal.returns
 unfolding weight_refusal ◌▸◌
 returns c =
     let a = c.args in
-    simp (le-ltb (sheet_end a.s.now) (a.at + 4) (omega arith), ← c.u32_at.ensures.0, ← c.too_heavy.ensures, c.if-too_heavy.false)
+    simp (le-ltb (sheet_end a.sheet.now.bytes.now) (a.at + 4) (omega arith), ← c.u32_at.ensures.0, ← c.too_heavy.ensures, c.if-too_heavy.false)

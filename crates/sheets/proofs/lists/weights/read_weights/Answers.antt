@@ -1,16 +1,16 @@
 -- The head, then the fields.
-use Rattle.model.proofs.Refusals.{answer-none, answer-stops, answer-goes-on}
+use Rattle.model.proofs.Asking.{goes_on, no_refusal, stops}
 use Rattle.sheets.specs.lists.Weights.{weights_refusal}
 use Rattle.heads.proofs.Heads.{head-holds}
 use Rattle.sheets.proofs.lists.weights.read_weights.Goals as goal
 
-pub returns-in-Refused : goal.returns-in-Refused
+pub returns-in_err-read_head : goal.returns-in_err-read_head
 unfolding weights_refusal
-returns-in-Refused c = answer-stops _ _ c.read_head-head.ensures c.in-Refused.is
+returns-in_err-read_head c = stops _ _ c.in_err-read_head.ensures c.from_residual.ensures
 
-pub weight_fields-requires : goal.weight_fields-requires
-weight_fields-requires c = head-holds _ _ (answer-none _ c.read_head-head.ensures c.in_default.is)
+pub invariant_of-weight_fields : goal.invariant_of-weight_fields
+invariant_of-weight_fields c = record { headed = head-holds _ _ (no_refusal _ c.in_ok-read_head.ensures) }
 
 pub returns : goal.returns
 unfolding weights_refusal
-returns c = answer-goes-on _ _ c.read_head-head.ensures c.in_default.is c.weight_fields.ensures
+returns c = goes_on _ _ c.in_ok-read_head.ensures c.weight_fields.ensures

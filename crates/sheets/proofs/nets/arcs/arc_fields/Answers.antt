@@ -1,28 +1,28 @@
 -- The arc count, then each arc, then what is left over.
 use native.Mathlib.Omega.{arith}
-use Rattle.model.proofs.Refusals.{answer-none, answer-stops, answer-goes-on}
+use Rattle.model.proofs.Asking.{goes_on, no_refusal, stops}
 use Rattle.sheets.specs.nets.Nets.{arc_fields}
 use Rattle.fields.proofs.RunningTotals.{count-holds}
 use Rattle.sheets.proofs.nets.arcs.arc_fields.Goals as goal
 
-pub returns-in-Refused : goal.returns-in-Refused
+pub returns-in_err-read_count : goal.returns-in_err-read_count
 unfolding arc_fields
-returns-in-Refused c = answer-stops _ _ c.read_count-count.ensures c.in-Refused.is
+returns-in_err-read_count c = stops _ _ c.in_err-read_count.ensures c.from_residual.ensures
 
 pub count_at-n-requires : goal.count_at-n-requires
 count_at-n-requires c =
-    omega (arith, (count-holds _ _ _ 0 2048 (answer-none _ c.read_count-count.ensures c.in_default.is)).there)
+    omega (arith, (count-holds _ _ _ 0 2048 (no_refusal _ c.in_ok-read_count.ensures)).there)
 
-pub returns-in-Refused-arcs : goal.returns-in-Refused-arcs
+pub returns-in_err-read_arcs : goal.returns-in_err-read_arcs
 unfolding arc_fields
-returns-in-Refused-arcs c =
-    answer-goes-on _ _ c.read_count-count.ensures c.in_default.is
-    (answer-stops _ _ (rw c.count_at-n.ensures.0 at c.read_arcs-arcs.ensures) c.in-Refused-arcs.is)
+returns-in_err-read_arcs c =
+    goes_on _ _ c.in_ok-read_count.ensures
+    (stops _ _ (rw c.count_at-n.ensures.0 at c.in_err-read_arcs.ensures) c.from_residual-in_err-read_arcs.ensures)
 
 pub returns : goal.returns
 unfolding arc_fields
 returns c =
     let n = c.count_at-n.ensures.0 in
-    answer-goes-on _ _ c.read_count-count.ensures c.in_default.is
-    (answer-goes-on _ _ (rw n at c.read_arcs-arcs.ensures) c.in_default-arcs.is
+    goes_on _ _ c.in_ok-read_count.ensures
+    (goes_on _ _ (rw n at c.in_ok-read_arcs.ensures)
     (rw n at c.left_over.ensures))

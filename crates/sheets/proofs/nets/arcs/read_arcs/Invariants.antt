@@ -7,7 +7,4 @@ use Rattle.sheets.specs.nets.Nets.{arc_refusal}
 use Rattle.sheets.proofs.nets.arcs.read_arcs.Given as goal
 
 abbrev pub invariant-loop-k : goal.invariant-loop-k
-invariant-loop-k l = (l.k ≤ l.n) × (first l.k (arc_refusal l.s l.modes l.pairs l.start) ≡ none)
-
-abbrev pub decreases-loop-k : goal.decreases-loop-k
-decreases-loop-k l = l.n - l.k
+invariant-loop-k l = (first l.k (arc_refusal l.sheet.bytes.now l.modes l.pairs l.start) ≡ none)

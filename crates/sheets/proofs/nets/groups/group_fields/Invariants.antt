@@ -8,8 +8,4 @@ use Rattle.sheets.specs.nets.Groups.{group_refusal}
 use Rattle.sheets.proofs.nets.groups.group_fields.Given as goal
 
 abbrev pub invariant-loop-t : goal.invariant-loop-t
-invariant-loop-t l =
-    (l.t ≤ l.modes) × (first l.t (group_refusal l.s l.pairs l.base) ≡ none) × (l.k ≡ arcs_before l.s l.base l.t) × (l.k ≤ 2048)
-
-abbrev pub decreases-loop-t : goal.decreases-loop-t
-decreases-loop-t l = l.modes - l.t
+invariant-loop-t l = (first l.t (group_refusal l.sheet.bytes.now l.pairs l.base) ≡ none) × (l.k ≡ arcs_before l.sheet.bytes.now l.base l.t) × (l.k ≤ 2048)

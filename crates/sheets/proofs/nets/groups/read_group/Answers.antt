@@ -12,7 +12,7 @@ pub returns-then-sheet_end-at : goal.returns-then-sheet_end-at
 unfolding group_refusal
 returns-then-sheet_end-at c =
     let a = c.args in
-    rw (← c.requires.k_value) (answer_fails _ (lt-ltb (sheet_end a.s.now) (a.base + 2 * a.t + 14 * a.k + 2) (omega arith)) c.refused.ensures)
+    rw (← c.requires.k_value) (answer_fails _ (lt-ltb (sheet_end a.sheet.now.bytes.now) (a.base + 2 * a.t + 14 * a.k + 2) (omega arith)) c.refused.ensures)
 
 pub returns-then-k-count-gt2048 : goal.returns-then-k-count-gt2048
 unfolding group_refusal
@@ -20,8 +20,8 @@ returns-then-k-count-gt2048 c =
     let a = c.args in
     let at = a.base + 2 * a.t + 14 * a.k in
     rw (← c.requires.k_value)
-    (answer-passes _ _ (le-ltb (sheet_end a.s.now) (at + 2) (omega arith))
-    (answer_fails _ (lt-ltb 2048 (a.k + u16_at a.s.now at) (omega arith)) c.refused-then-k-count-gt2048.ensures))
+    (answer-passes _ _ (le-ltb (sheet_end a.sheet.now.bytes.now) (at + 2) (omega arith))
+    (answer_fails _ (lt-ltb 2048 (a.k + u16_at a.sheet.now.bytes.now at) (omega arith)) c.refused-then-k-count-gt2048.ensures))
 
 pub returns : goal.returns
 unfolding group_refusal
@@ -29,5 +29,5 @@ returns c =
     let a = c.args in
     let at = a.base + 2 * a.t + 14 * a.k in
     rw (← c.requires.k_value)
-    (answer-passes _ _ (le-ltb (sheet_end a.s.now) (at + 2) (omega arith))
-    (answer-passes _ _ (le-ltb 2048 (a.k + u16_at a.s.now at) (omega arith)) (rw c.count_at-count.ensures.0 at c.read_group_arcs.ensures)))
+    (answer-passes _ _ (le-ltb (sheet_end a.sheet.now.bytes.now) (at + 2) (omega arith))
+    (answer-passes _ _ (le-ltb 2048 (a.k + u16_at a.sheet.now.bytes.now at) (omega arith)) (rw c.count_at-count.ensures.0 at c.read_group_arcs.ensures)))

@@ -2,7 +2,8 @@
 use borrow.Author.Tests.{lt-ltb, le-ltb}
 use Prim.Native.Nat.{◌+◌}
 use native.Mathlib.Omega.{arith}
-use Rattle.model.proofs.Refusals.{answer-passes, answer_fails, answer-stops, answer-goes-on}
+use Rattle.model.proofs.Refusals.{answer-passes, answer_fails}
+use Rattle.model.proofs.Asking.{goes_on, stops}
 use Rattle.heads.specs.Layout.{sheet_end, group_arc_at}
 use Rattle.sheets.specs.nets.Groups.{group_arc_refusal}
 use Rattle.sheets.proofs.nets.groups.read_group_arc.Goals as goal
@@ -11,18 +12,18 @@ pub returns-then-sheet_end-at : goal.returns-then-sheet_end-at
 unfolding group_arc_refusal
 returns-then-sheet_end-at c =
     let a = c.args in
-    answer_fails _ (lt-ltb (sheet_end a.s.now) (group_arc_at a.start a.i + 14) (omega arith)) c.refused.ensures
+    answer_fails _ (lt-ltb (sheet_end a.sheet.now.bytes.now) (group_arc_at a.start a.i + 14) (omega arith)) c.refused.ensures
 
-pub returns-in-Refused : goal.returns-in-Refused
+pub returns-in_err-read_pair_name : goal.returns-in_err-read_pair_name
 unfolding group_arc_refusal
-returns-in-Refused c =
+returns-in_err-read_pair_name c =
     let a = c.args in
-    answer-passes _ _ (le-ltb (sheet_end a.s.now) (group_arc_at a.start a.i + 14) (omega arith))
-    (answer-stops _ _ c.read_pair_name-name.ensures c.in-Refused.is)
+    answer-passes _ _ (le-ltb (sheet_end a.sheet.now.bytes.now) (group_arc_at a.start a.i + 14) (omega arith))
+    (stops _ _ c.in_err-read_pair_name.ensures c.from_residual.ensures)
 
 pub returns : goal.returns
 unfolding group_arc_refusal
 returns c =
     let a = c.args in
-    answer-passes _ _ (le-ltb (sheet_end a.s.now) (group_arc_at a.start a.i + 14) (omega arith))
-    (answer-goes-on _ _ c.read_pair_name-name.ensures c.in_default.is c.read_numbers.ensures)
+    answer-passes _ _ (le-ltb (sheet_end a.sheet.now.bytes.now) (group_arc_at a.start a.i + 14) (omega arith))
+    (goes_on _ _ c.in_ok-read_pair_name.ensures c.read_numbers.ensures)

@@ -7,7 +7,4 @@ use Rattle.sheets.specs.nets.Groups.{group_arc_refusal}
 use Rattle.sheets.proofs.nets.groups.read_group_arcs.Given as goal
 
 abbrev pub invariant-loop-i : goal.invariant-loop-i
-invariant-loop-i l = (l.i ≤ l.n) × (first l.i (group_arc_refusal l.s l.pairs l.start) ≡ none)
-
-abbrev pub decreases-loop-i : goal.decreases-loop-i
-decreases-loop-i l = l.n - l.i
+invariant-loop-i l = (first l.i (group_arc_refusal l.sheet.bytes.now l.pairs l.start) ≡ none)

@@ -1,25 +1,25 @@
 -- The counts, then the pairs and arcs.
-use Rattle.model.proofs.Refusals.{answer-none, answer-stops, answer-goes-on}
+use Rattle.model.proofs.Asking.{goes_on, no_refusal, stops}
 use Rattle.sheets.specs.nets.Nets.{net_fields}
 use Rattle.fields.proofs.RunningTotals.{counted}
 use Rattle.sheets.proofs.nets.net.net_fields.Goals as goal
 
-pub returns-in-Refused : goal.returns-in-Refused
+pub returns-in_err-rule_field : goal.returns-in_err-rule_field
 unfolding net_fields
-returns-in-Refused c = answer-stops _ _ c.rule_field-rule.ensures c.in-Refused.is
+returns-in_err-rule_field c = stops _ _ c.in_err-rule_field.ensures c.from_residual.ensures
 
-pub returns-in-Refused-counts : goal.returns-in-Refused-counts
+pub returns-in_err-count_fields : goal.returns-in_err-count_fields
 unfolding net_fields
-returns-in-Refused-counts c =
-    answer-goes-on _ _ c.rule_field-rule.ensures c.in_default.is
-    (answer-stops _ _ c.count_fields-counts.ensures c.in-Refused-counts.is)
+returns-in_err-count_fields c =
+    goes_on _ _ c.in_ok-rule_field.ensures
+    (stops _ _ c.in_err-count_fields.ensures c.from_residual-in_err-count_fields.ensures)
 
 pub pair_and_arc_fields-requires : goal.pair_and_arc_fields-requires
 pair_and_arc_fields-requires c =
-    counted _ c.requires (answer-none _ c.count_fields-counts.ensures c.in_default-counts.is)
+    counted _ c.args.sheet.now.headed (no_refusal _ c.in_ok-count_fields.ensures)
 
 pub returns : goal.returns
 unfolding net_fields
 returns c =
-    answer-goes-on _ _ c.rule_field-rule.ensures c.in_default.is
-    (answer-goes-on _ _ c.count_fields-counts.ensures c.in_default-counts.is c.pair_and_arc_fields.ensures)
+    goes_on _ _ c.in_ok-rule_field.ensures
+    (goes_on _ _ c.in_ok-count_fields.ensures c.pair_and_arc_fields.ensures)

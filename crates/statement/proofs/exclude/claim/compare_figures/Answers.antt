@@ -8,10 +8,10 @@ use Rattle.statement.proofs.exclude.Bits.{bits_equal, bits_differ}
 use Rattle.statement.proofs.exclude.claim.compare_figures.Goals as goal
 
 pub figure_of-first-requires : goal.figure_of-first-requires
-figure_of-first-requires c = let pre = c.requires in record { fact = pre.fact; weights_value = pre.weights_value; marking = rw c.write_start.ensures (sizes pre.fact).well_formed.start }
+figure_of-first-requires c = let pre = c.requires in record { weights_value = pre.weights_value; marking = rw c.write_start.ensures (sizes c.args.net.now.is_open).well_formed.start }
 
 pub figure_of-claimed-requires : goal.figure_of-claimed-requires
-figure_of-claimed-requires c = let pre = c.requires in record { fact = pre.fact; weights_value = pre.weights_value; marking = pre.marking }
+figure_of-claimed-requires c = let pre = c.requires in record { weights_value = pre.weights_value; marking = pre.marking }
 
 pub returns-then-claimed-first : goal.returns-then-claimed-first
 unfolding same_figure

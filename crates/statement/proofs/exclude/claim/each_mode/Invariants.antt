@@ -1,5 +1,4 @@
 -- No mode before t is unbalanced.
-use Prim.Native.Nat.{◌≤◌, ◌-◌}
 use mathlib.Core.Path.{◌≡◌}
 use mathlib.Core.Option.{none}
 use Rattle.model.specs.First.{first}
@@ -8,7 +7,4 @@ use Rattle.sheets.specs.Decoded.{net_of, weights_of}
 use Rattle.statement.proofs.exclude.claim.each_mode.Given as goal
 
 abbrev pub invariant-loop-t : goal.invariant-loop-t
-invariant-loop-t l = (l.t ≤ l.modes) × (first l.t (unbalanced_at (net_of l.s) (weights_of l.weights)) ≡ none)
-
-abbrev pub decreases-loop-t : goal.decreases-loop-t
-decreases-loop-t l = l.modes - l.t
+invariant-loop-t l = (first l.t (unbalanced_at (net_of l.net.sheet.now) (weights_of l.weights)) ≡ none)

@@ -9,7 +9,7 @@ use Rattle.statement.proofs.exclude.Bits.{bits_equal, bits_differ}
 use Rattle.statement.proofs.exclude.claim.mode_answer.Goals as goal
 
 pub overflow_cast-mode : goal.overflow_cast-mode
-overflow_cast-mode c = let pre = c.requires in record { fits = omega (arith, pre.t_lt_modes, (sizes pre.fact).modes_within) }
+overflow_cast-mode c = let pre = c.requires in record { fits = omega (arith, pre.t_lt_modes, (sizes c.args.net.now.is_open).modes_within) }
 
 pub returns-then-change_of-ne0 : goal.returns-then-change_of-ne0
 returns-then-change_of-ne0 c =

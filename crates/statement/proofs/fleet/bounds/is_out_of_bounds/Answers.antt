@@ -9,4 +9,4 @@ pub returns : goal.returns
 returns c =
     let added : SFits w64 c.args.found.added = search rules in
     let removed : SFits w64 c.args.found.removed = search rules in
-    rw (c.is_outside-added.ensures, c.is_outside-removed.ensures, to_z-of_z added, to_z-of_z removed)
+    rw (c.is_outside.ensures, c.is_outside-2.ensures, to_z-of_z added, to_z-of_z removed)

@@ -5,10 +5,10 @@ use Rattle.statement.proofs.fleet.Weighing.{along-none, along-more, along-ends, 
 use Rattle.statement.proofs.fleet.voyage.weigh_run.Goals as goal
 
 pub write_changes-requires : goal.write_changes-requires
-write_changes-requires c = let pre = c.requires in record { fact = pre.read.opened; starts_are = pre.starts_are; weights_value = pre.read.weighed; changes_len = refl }
+write_changes-requires c = let pre = c.requires in record { starts_are = pre.starts_are; weights_value = pre.read.weighed; changes_len = refl }
 
 pub loop-k-init : goal.loop-k-init
-loop-k-init c = (search rules, along-none _ _ _)
+loop-k-init c = along-none _ _ _
 
 pub movement-mode-requires : goal.movement-mode-requires
 movement-mode-requires c = let pre = c.requires in record { s_value = pre.read.listed; k_in_bounds = omega (arith, c.loop-k-test.true, counted pre.read pre.run_tells) }
@@ -27,7 +27,7 @@ pub overflow_add-added : goal.overflow_add-added
 overflow_add-added c =
     let pre = c.requires in
     added-fits pre.read pre.run_tells c.loop-k-test.true c.movement-mode.ensures c.write_changes.ensures
-    (search rules) c.loop-k.invariant.1 c.gained-added.type_inv c.gained-added.ensures
+    (search rules) c.loop-k.invariant c.gained-added.type_inv c.gained-added.ensures
 
 pub lost-removed-requires : goal.lost-removed-requires
 lost-removed-requires c =
@@ -39,18 +39,15 @@ pub overflow_add-removed : goal.overflow_add-removed
 overflow_add-removed c =
     let pre = c.requires in
     removed-fits pre.read pre.run_tells c.loop-k-test.true c.movement-mode.ensures c.write_changes.ensures
-    (search rules) c.loop-k.invariant.1 c.lost-removed.type_inv c.lost-removed.ensures
+    (search rules) c.loop-k.invariant c.lost-removed.type_inv c.lost-removed.ensures
 
 pub loop-k-preserved : goal.loop-k-preserved
 loop-k-preserved c =
     let pre = c.requires in
-    let h = c.loop-k-test.true in (
-      omega (arith, h),
-      along-more pre.read pre.run_tells h c.movement-mode.ensures c.write_changes.ensures (search rules) c.loop-k.invariant.1
-          c.gained-added.type_inv c.gained-added.ensures c.lost-removed.type_inv c.lost-removed.ensures,
-    )
+    along-more pre.read pre.run_tells c.loop-k-test.true c.movement-mode.ensures c.write_changes.ensures (search rules) c.loop-k.invariant
+    c.gained-added.type_inv c.gained-added.ensures c.lost-removed.type_inv c.lost-removed.ensures
 
 pub returns : goal.returns
 returns c =
     let pre = c.requires in
-    along-ends pre.read pre.run_tells c.loop-k.invariant.1 c.loop-k.invariant.0 c.loop-k-test.false
+    along-ends pre.read pre.run_tells c.loop-k.invariant c.loop-k.auto.k-end c.loop-k-test.false

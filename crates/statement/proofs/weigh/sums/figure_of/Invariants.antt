@@ -1,5 +1,4 @@
 -- The sum so far is that of the first p pairs.
-use Prim.Native.Nat.{◌≤◌, ◌-◌}
 use mathlib.Core.Path.{◌≡◌}
 use lib.IntN.{pos, ◌*ℤ◌}
 use Rattle.model.specs.Nets.{count}
@@ -8,7 +7,4 @@ use Rattle.sheets.specs.Decoded.{weights_of}
 use Rattle.statement.proofs.weigh.sums.figure_of.Given as goal
 
 abbrev pub invariant-loop-p : goal.invariant-loop-p
-invariant-loop-p l = (l.p ≤ l.pairs) × (l.sum ≡ sum_to l.p (λ q. weight (weights_of l.weights) q *ℤ pos (count l.marking q)))
-
-abbrev pub decreases-loop-p : goal.decreases-loop-p
-decreases-loop-p l = l.pairs - l.p
+invariant-loop-p l = (l.sum ≡ sum_to l.p (λ q. weight (weights_of l.weights) q *ℤ pos (count l.marking q)))

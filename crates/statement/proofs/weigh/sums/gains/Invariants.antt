@@ -1,5 +1,5 @@
 -- The sum so far is that of the first i arcs.
-use Prim.Native.Nat.{◌+◌, ◌≤◌, ◌-◌}
+use Prim.Native.Nat.{◌+◌}
 use mathlib.Core.Path.{◌≡◌}
 use Rattle.model.specs.Nets.{arc_no}
 use Rattle.movement.specs.Figures.{sum as sum_to}
@@ -8,8 +8,4 @@ use Rattle.sheets.specs.Decoded.{net_of, weights_of}
 use Rattle.statement.proofs.weigh.sums.gains.Given as goal
 
 abbrev pub invariant-loop-i : goal.invariant-loop-i
-invariant-loop-i l =
-    (l.i ≤ l.count) × (l.sum ≡ sum_to l.i (λ k. gain (weights_of l.weights) (arc_no (net_of l.s).arcs (l.arcs.start + k))))
-
-abbrev pub decreases-loop-i : goal.decreases-loop-i
-decreases-loop-i l = l.count - l.i
+invariant-loop-i l = (l.sum ≡ sum_to l.i (λ k. gain (weights_of l.weights) (arc_no (net_of l.net.sheet.now).arcs (l.arcs.start + k))))
