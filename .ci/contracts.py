@@ -183,10 +183,13 @@ def says(tokens, subject, declared):
 
 
 def equates(case):
-    """Whether what is said of a case of a result, under its λ, has an equation of two things."""
-    body = case[next((i + 1 for i, word in enumerate(case) if word.endswith('.')), 0):]
-    sides = [split(bare(part), '≡') for part in split(bare(body), '×')]
-    return case[0] == 'λ' and any(len(two) == 2 and two[0] != two[1] for two in sides)
+    """Whether what is said of a case of a result, under its λ, has an equation of which one side alone speaks of what the λ binds."""
+    at = next((i + 1 for i, word in enumerate(case) if word.endswith('.')), 0)
+    if case[0] != 'λ' or at < 2:
+        return False
+    bound = rf'(?<!\S){re.escape(" ".join(case[1:at]).rstrip("."))}(?:\.\S+)?(?!\S)'
+    sides = [split(bare(part), '≡') for part in split(bare(case[at:]), '×')]
+    return any(len(two) == 2 and speaks(two[0], bound) != speaks(two[1], bound) for two in sides)
 
 
 def shared_part(f, declared):
@@ -356,7 +359,7 @@ PartAllows s out o = o ≡ put s out
         (say % 'Rises out.old result', 1), (say % 'result.0 ≡ end s', 1), (say % 'result.0 ≡ result.1', 2), (say % 'results ≡ end s', 2), (say % 'Rises (result, out.new)', 1),
         (say % 'OfEach (λ t. result ≡ result)', 2), (say % 'OfEach (λ t. (result ≡ end t) × (out.new ≡ put t))', 0),
         (say % 'OfEach (λ t u. result ≡ result)', 2), (say % 'OfEach (λ t u. (result ≡ end t) × (out.new ≡ put u))', 0),
-        (say % '(MatchResult result (λ n. n ≡ end s) (λ r. end s ≡ some r)) × (out.new ≡ put s)', 0), (say % 'MatchResult result (λ n. n ≡ n) (λ r. end s ≡ some r)', 2),
+        (say % '(MatchResult result (λ n. n ≡ end s) (λ r. end s ≡ some r)) × (out.new ≡ put s)', 0), (say % 'MatchResult result (λ n. n ≡ n) (λ r. end s ≡ some r)', 2), (say % 'MatchResult result (λ n. end s ≡ 0) (λ r. end s ≡ some r)', 2),
         (say % 'MatchResult result (λ n. (end s ≡ 0) × (n ≡ s)) (λ r. ⊤)', 2), (say % 'MatchResult s (λ n. n ≡ end s) (λ r. end s ≡ some r)', 2),
         (two % ('result ≡ end s', 'out.new ≡ put s'), 0), (two % ('result ≡ end s', '⊤'), 1), (two % ('⊤', 'out.new ≡ put s'), 1),
         (free % whole, 0), (free % whole.replace(' out.old', ''), 1), (free % whole.replace('(result, out.new)', 'result'), 1), (free % both, 1),

@@ -6,26 +6,23 @@ ghost use Rattle.std.specs.Prelude.{◌≡◌};
 ghost use Rattle.both_forms.specs.Audit.{audited, audit_refusal};
 ghost use Rattle.sheets.specs.Decoded.{net_of};
 ghost use Rattle.opened.specs.Shape.{arc_offset};
-ghost use Rattle.halves.specs.Bounded.{BelowAre};
 ghost use Rattle.complement.specs.audit.Audits.{finds, found};
 ghost use Rattle.complement.specs.audit.Parts.{OneEach};
 ghost use Rattle.complement.specs.audit.Allowed.{AuditAllows};
 
 use crate::audit::excess::pair_excess;
 use crate::audit::refusals::audit_answer;
-use crate::sections::bounded::bounded_below;
+use crate::sections::bounded::{Bounded, bounded_below};
 use model::{Pair, Refusal};
-use opened::open::OpenNet;
 use opened::open_net;
 
 // An excess is 0 exactly where a pair is in step.
-fn find(net: &OpenNet, below: &[u16; 257], marking: &[u32], beside: &[u32]) -> Option<(Pair, i64)>
-    requires below_are { BelowAre (net_of net.now.sheet.now) below.now }
-    requires one_each { OneEach (net_of net.now.sheet.now) marking.now beside.now }
-    ensures { result ≡ found (audited (net_of net.now.sheet.now) marking.now beside.now) }
+fn find(bounded: &Bounded, marking: &[u32], beside: &[u32]) -> Option<(Pair, i64)>
+    requires one_each { OneEach (net_of bounded.now.net.now.sheet.now) marking.now beside.now }
+    ensures { result ≡ found (audited (net_of bounded.now.net.now.sheet.now) marking.now beside.now) }
 {
-    for p in 0..net.shape.pairs {
-        let excess = pair_excess(net, below, marking, beside, p);
+    for p in 0..bounded.net.shape.pairs {
+        let excess = pair_excess(bounded, marking, beside, p);
         if excess != 0 {
             return Some((Pair(p as u16), excess));
         }
@@ -34,20 +31,19 @@ fn find(net: &OpenNet, below: &[u16; 257], marking: &[u32], beside: &[u32]) -> O
 }
 
 fn audit_open(
-    net: &OpenNet,
+    bounded: &Bounded,
     marking: &[u32],
     beside: &[u32],
 ) -> Result<Option<(Pair, i64)>, Refusal>
-    ensures { result ≡ finds (audit_refusal (net_of net.now.sheet.now) marking.now beside.now (arc_offset net.now.sheet.now)) (audited (net_of net.now.sheet.now) marking.now beside.now) }
+    ensures { result ≡ finds (audit_refusal (net_of bounded.now.net.now.sheet.now) marking.now beside.now (arc_offset bounded.now.net.now.sheet.now)) (audited (net_of bounded.now.net.now.sheet.now) marking.now beside.now) }
 {
-    let below = bounded_below(net);
-    audit_answer(net, &below, marking, beside)?;
-    Ok(find(net, &below, marking, beside))
+    audit_answer(bounded, marking, beside)?;
+    Ok(find(bounded, marking, beside))
 }
 
 pub fn audit(net: &[u8], marking: &[u32], beside: &[u32]) -> Result<Option<(Pair, i64)>, Refusal>
     ensures { AuditAllows net.now marking.now beside.now result }
 {
     let net = open_net(net)?;
-    audit_open(&net, marking, beside)
+    audit_open(&bounded_below(&net), marking, beside)
 }

@@ -15,25 +15,23 @@ ghost use Rattle.complement.specs.Complemented.{complement_sheet, room_refusal};
 ghost use Rattle.complement.specs.Allowed.{ComplementAllows};
 
 use crate::room::complement_answer;
-use crate::sections::bounded::bounded_below;
+use crate::sections::bounded::{Bounded, bounded_below};
 use crate::sections::survey::survey;
 use crate::sheet::{complement_sizes, put_sheet};
 use model::Refusal;
-use opened::open::OpenNet;
 use opened::open_net;
 use opened::starts::starts;
 
-fn complement_open(net: &OpenNet, out: &mut [u8]) -> Result<usize, Refusal>
-    ensures value { result ≡ emitted (room_refusal net.now.sheet.now (length out.old)) (length (complement_sheet net.now.sheet.now)) }
-    ensures out_after { out.new ≡ output (room_refusal net.now.sheet.now (length out.old)) (complement_sheet net.now.sheet.now) out.old }
+fn complement_open(bounded: &Bounded, out: &mut [u8]) -> Result<usize, Refusal>
+    ensures value { result ≡ emitted (room_refusal bounded.now.net.now.sheet.now (length out.old)) (length (complement_sheet bounded.now.net.now.sheet.now)) }
+    ensures out_after { out.new ≡ output (room_refusal bounded.now.net.now.sheet.now (length out.old)) (complement_sheet bounded.now.net.now.sheet.now) out.old }
 {
-    let starts = starts(net);
-    let below = bounded_below(net);
+    let starts = starts(bounded.net);
     let mut dead = [false; 256];
-    let clear = survey(net, &starts, &mut dead);
-    let most = complement_sizes(net, &below, 2 * net.shape.arcs);
-    complement_answer(net, &starts, &below, &dead, clear, most, out.len())?;
-    Ok(put_sheet(net, &starts, &below, &dead, most, out))
+    let clear = survey(bounded.net, &starts, &mut dead);
+    let most = complement_sizes(bounded, 2 * bounded.net.shape.arcs);
+    complement_answer(bounded, &starts, &dead, clear, most, out.len())?;
+    Ok(put_sheet(bounded, &starts, &dead, most, out))
 }
 
 // Writes the sheet of the net's complement from the first byte of `out` on.
@@ -41,5 +39,5 @@ pub fn complement(net: &[u8], out: &mut [u8]) -> Result<usize, Refusal>
     ensures { ComplementAllows net.now out.old (result, out.new) }
 {
     let net = open_net(net)?;
-    complement_open(&net, out)
+    complement_open(&bounded_below(&net), out)
 }

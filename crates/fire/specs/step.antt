@@ -1,4 +1,5 @@
 pub mod Calls
+pub mod Tabled
 pub mod Sums
 pub mod Parts
 pub mod Allowed

@@ -14,6 +14,7 @@ use crate::marking::marking_answer;
 use crate::step::members::members_answer;
 use crate::step::pairs::{find_refusal, write_pairs};
 use crate::step::sums::sum_members;
+use crate::step::tables::Sums;
 use model::Answer;
 use opened::open::OpenNet;
 use opened::open_net;
@@ -21,17 +22,20 @@ use opened::open_net;
 mod members;
 mod pairs;
 mod sums;
+mod tables;
 
 fn test_members(net: &OpenNet, marking: &[u32], modes: &[u16]) -> Answer
     requires marking { Marking (net_of net.now.sheet.now) marking.now }
     requires members { Members net.now.shape.modes modes.now }
     ensures { result ≡ answer (sums_refusal (net_of net.now.sheet.now) modes.now marking.now) }
 {
-    let mut pre = [0u32; 256];
-    let mut post = [0u32; 256];
-    let mut low = [0xffff_ffffu32; 256];
-    sum_members(net, modes, &mut pre, &mut post, &mut low);
-    find_refusal(net, &pre, &post, &low, marking)
+    let mut sums = Sums {
+        pre: [0; 256],
+        post: [0; 256],
+        low: [0xffff_ffff; 256],
+    };
+    sum_members(net, modes, &mut sums);
+    find_refusal(net, &sums, marking)
 }
 
 fn test_open(net: &OpenNet, marking: &[u32], modes: &[u16]) -> Answer
@@ -56,12 +60,14 @@ fn fire_members(net: &OpenNet, marking: &mut [u32], modes: &[u16]) -> Answer
     requires members { Members net.now.shape.modes modes.now }
     ensures { Leaves (sums_refusal (net_of net.now.sheet.now) modes.now marking.old) (fired_together (net_of net.now.sheet.now) (step_modes modes.now) marking.old) marking.old result marking.new }
 {
-    let mut pre = [0u32; 256];
-    let mut post = [0u32; 256];
-    let mut low = [0xffff_ffffu32; 256];
-    sum_members(net, modes, &mut pre, &mut post, &mut low);
-    find_refusal(net, &pre, &post, &low, marking)?;
-    write_pairs(net, &pre, &post, &low, marking);
+    let mut sums = Sums {
+        pre: [0; 256],
+        post: [0; 256],
+        low: [0xffff_ffff; 256],
+    };
+    sum_members(net, modes, &mut sums);
+    find_refusal(net, &sums, marking)?;
+    write_pairs(net, &sums, marking);
     Ok(())
 }
 

@@ -6,6 +6,7 @@ mod bytes;
 pub mod dead;
 pub mod finite;
 mod groups;
+pub mod list;
 pub mod listed;
 pub mod open;
 mod rule;

@@ -5,11 +5,11 @@ ghost use Rattle.model.specs.Numbers.{limit};
 ghost use Rattle.model.specs.Nets.{mode_no};
 ghost use Rattle.movement.specs.Figures.{weight as weight_of};
 ghost use Rattle.heads.specs.Layout.{movements_at};
-ghost use Rattle.sheets.specs.lists.Movements.{movements_refusal};
 ghost use Rattle.sheets.specs.lists.Weights.{signed, weights_refusal};
 ghost use Rattle.sheets.specs.Decoded.{movements_of, weights_of};
 ghost use Rattle.sheets.specs.Listed.{mode_at, ModesStand};
 
+use crate::list::MovementList;
 use heads::bytes::{u16_at, u32_at};
 use model::{Mode, Pair};
 
@@ -28,12 +28,11 @@ pub fn movements_at() -> usize
     5
 }
 
-pub fn movement(s: &[u8], k: usize) -> Mode
-    requires s_value { movements_refusal s.now ≡ none }
-    requires k_in_bounds { k < length (movements_of s.now) }
-    ensures { result ≡ get_or (movements_of s.now) k (mode_no 0) }
+pub fn movement(list: &MovementList, k: usize) -> Mode
+    requires k_in_bounds { k < length (movements_of list.now.sheet.now) }
+    ensures { result ≡ get_or (movements_of list.now.sheet.now) k (mode_no 0) }
 {
-    mode_at(s, movements_at(), k)
+    mode_at(list.sheet, movements_at(), k)
 }
 
 // A number of 4 bytes in two's complement.

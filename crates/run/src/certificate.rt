@@ -4,7 +4,6 @@ ghost use Rattle.std.proofs.Math.Option.{none};
 ghost use Rattle.model.specs.First.{first};
 ghost use Rattle.model.specs.Refusals.{answer};
 ghost use Rattle.movement.specs.Runs.{certificate_refusal};
-ghost use Rattle.sheets.specs.lists.Movements.{movements_refusal};
 ghost use Rattle.sheets.specs.Decoded.{net_of, movements_of};
 ghost use Rattle.movement.specs.Runs.{elsewhere, ends_at};
 
@@ -12,6 +11,7 @@ use crate::movements::run_listed;
 use fire::start::write_start;
 use heads::head::refused;
 use model::{Answer, Fault, Pair, Thing};
+use opened::list::MovementList;
 use opened::open::OpenNet;
 use opened::starts::starts;
 
@@ -37,10 +37,9 @@ fn compare(last: &[u32], claim: &[u32], pairs: usize) -> Answer
 }
 
 // The run from the first marking, in counts of the call's own; with no table of numbers, which would not fit a certificate's stack.
-fn end_answer(net: &OpenNet, movements: &[u8], claim: &[u32], counts: &mut [u32]) -> Answer
-    requires movements_value { movements_refusal movements.now ≡ none }
+fn end_answer(net: &OpenNet, movements: &MovementList, claim: &[u32], counts: &mut [u32]) -> Answer
     requires claim_len { (length claim.now ≡ net.now.shape.pairs) × (length counts.old ≡ net.now.shape.pairs) }
-    ensures { result ≡ answer (ends_at (net_of net.now.sheet.now) (movements_of movements.now) claim.now) }
+    ensures { result ≡ answer (ends_at (net_of net.now.sheet.now) (movements_of movements.now.sheet.now) claim.now) }
 {
     write_start(net, counts);
     let starts = starts(net);
@@ -48,9 +47,8 @@ fn end_answer(net: &OpenNet, movements: &[u8], claim: &[u32], counts: &mut [u32]
     compare(counts, claim, net.shape.pairs)
 }
 
-pub(crate) fn certificate_answer(net: &OpenNet, movements: &[u8], claim: &[u32]) -> Answer
-    requires movements_value { movements_refusal movements.now ≡ none }
-    ensures { result ≡ answer (certificate_refusal (net_of net.now.sheet.now) (movements_of movements.now) claim.now) }
+pub(crate) fn certificate_answer(net: &OpenNet, movements: &MovementList, claim: &[u32]) -> Answer
+    ensures { result ≡ answer (certificate_refusal (net_of net.now.sheet.now) (movements_of movements.now.sheet.now) claim.now) }
 {
     if claim.len() != net.shape.pairs {
         return refused(Thing::Argument, Fault::NotOneEach(0));

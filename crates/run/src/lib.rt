@@ -17,6 +17,7 @@ use crate::certificate::certificate_answer;
 use crate::movements::run_sheet;
 use fire::marking::marking_answer;
 use model::{Answer, Refusal};
+use opened::list::MovementList;
 use opened::open::OpenNet;
 use opened::open_net;
 use sheets::whole::whole_movements;
@@ -41,7 +42,8 @@ fn begin_run(net: &[u8], movements: &[u8], marking: &mut [u32]) -> Result<Ran, R
     let net = open_net(net)?;
     whole_movements(movements)?;
     marking_answer(&net, marking)?;
-    Ok(run_sheet(&net, movements, marking))
+    let list = MovementList { sheet: movements };
+    Ok(run_sheet(&net, &list, marking))
 }
 
 // Runs a list of movements from the counts found, up to the first that is refused.
@@ -62,7 +64,8 @@ fn certify_open(net: &OpenNet, movements: &[u8], claim: &[u32]) -> Answer
     ensures { result ≡ answer (whole_movements movements.now ▸ certificate_refusal (net_of net.now.sheet.now) (movements_of movements.now) claim.now) }
 {
     whole_movements(movements)?;
-    certificate_answer(net, movements, claim)
+    let list = MovementList { sheet: movements };
+    certificate_answer(net, &list, claim)
 }
 
 // Whether a list of movements leads from the net's first marking to the claim.

@@ -8,7 +8,7 @@ ghost use Rattle.model.specs.Firing.{mode_refusal};
 ghost use Rattle.movement.specs.Runs.{run};
 ghost use Rattle.both_forms.specs.Visits.{visited};
 ghost use Rattle.sheets.specs.Decoded.{net_of, movements_of};
-ghost use Rattle.sheets.specs.lists.Movements.{most_movements, movements_refusal};
+ghost use Rattle.sheets.specs.lists.Movements.{most_movements};
 ghost use Rattle.opened.specs.Starts.{StartsAre};
 ghost use Rattle.sheets.specs.Listed.{modes_from, ModesStand};
 ghost use Rattle.progress.specs.Progress.{Tables};
@@ -19,6 +19,7 @@ use fire::advance::mode_answer;
 use fire::firing::mode::find_refusal;
 use model::{Answer, Mode, Thing};
 use numbers::write_numbers;
+use opened::list::MovementList;
 use opened::listed::{mode_at, movements_at};
 use opened::open::OpenNet;
 use opened::starts::{arcs_of, starts};
@@ -75,20 +76,19 @@ pub fn run_listed(
     net: &OpenNet,
     starts: &[u16; 257],
     numbers: &[u32],
-    movements: &[u8],
+    movements: &MovementList,
     marking: &mut [u32],
 ) -> Ran
     requires tables { Tables net.now.sheet.now net.now.shape starts.now numbers.now }
-    requires movements_value { movements_refusal movements.now ≡ none }
     requires marking { Marking (net_of net.now.sheet.now) marking.old }
-    ensures { Reports (run (net_of net.now.sheet.now) (movements_of movements.now) marking.old) (visited (net_of net.now.sheet.now) (movements_of movements.now) marking.old) result marking.new }
+    ensures { Reports (run (net_of net.now.sheet.now) (movements_of movements.now.sheet.now) marking.old) (visited (net_of net.now.sheet.now) (movements_of movements.now.sheet.now) marking.old) result marking.new }
 {
-    let count = movement_count(movements);
+    let count = movement_count(movements.sheet);
     run_modes(
         net,
         starts,
         numbers,
-        movements,
+        movements.sheet,
         movements_at(),
         count,
         marking,
@@ -96,10 +96,9 @@ pub fn run_listed(
 }
 
 // The same with both tables made once.
-pub(crate) fn run_sheet(net: &OpenNet, movements: &[u8], marking: &mut [u32]) -> Ran
-    requires movements_value { movements_refusal movements.now ≡ none }
+pub(crate) fn run_sheet(net: &OpenNet, movements: &MovementList, marking: &mut [u32]) -> Ran
     requires marking { Marking (net_of net.now.sheet.now) marking.old }
-    ensures { Reports (run (net_of net.now.sheet.now) (movements_of movements.now) marking.old) (visited (net_of net.now.sheet.now) (movements_of movements.now) marking.old) result marking.new }
+    ensures { Reports (run (net_of net.now.sheet.now) (movements_of movements.now.sheet.now) marking.old) (visited (net_of net.now.sheet.now) (movements_of movements.now.sheet.now) marking.old) result marking.new }
 {
     let starts = starts(net);
     let mut numbers = [0u32; 2048];

@@ -18,6 +18,7 @@ use crate::fleet::bounds::{is_out_of_bounds, is_past};
 use crate::fleet::entry::with_voyage;
 use crate::fleet::voyage::voyage_of;
 use model::{Answer, Fault, Refusal, Thing};
+use opened::list::MovementList;
 use opened::open::OpenNet;
 use opened::open_net;
 use sheets::whole::{whole_movements, whole_weights};
@@ -35,7 +36,8 @@ fn count_open(
 {
     whole_weights(weights, net.shape.pairs)?;
     whole_movements(movements)?;
-    let next = with_voyage(found, voyage_of(net, weights, movements));
+    let list = MovementList { sheet: movements };
+    let next = with_voyage(found, voyage_of(net, weights, &list));
     if is_past(next.added) || is_past(next.removed) {
         return Err(Refusal {
             thing: Thing::Net,

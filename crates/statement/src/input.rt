@@ -12,6 +12,7 @@ use crate::lines::{put_bad, put_start};
 use crate::movements::{put_movements, run_list};
 use crate::weigh::sums::figure_of;
 use fire::start::write_start;
+use opened::list::MovementList;
 use opened::open::OpenNet;
 use opened::shape::shape_of;
 use opened::starts::starts;
@@ -23,14 +24,14 @@ use sheets::whole::{after, whole_movements};
 fn put_run(
     net: &OpenNet,
     weights: &[u8],
-    movements: &[u8],
+    movements: &MovementList,
     marking: &mut [u32],
     out: &mut [u8],
 ) -> usize
-    requires read { Read net.now.sheet.now net.now.shape weights.now movements.now }
+    requires read { Read net.now.sheet.now net.now.shape weights.now movements.now.sheet.now }
     requires marking_len { length marking.old ≡ net.now.shape.pairs }
     requires room_in_bounds { room ≤ length out.old }
-    ensures { Writes room out.old 0 (run_text (net_of net.now.sheet.now) (weights_of weights.now) (movements_of movements.now)) result out.new }
+    ensures { Writes room out.old 0 (run_text (net_of net.now.sheet.now) (weights_of weights.now) (movements_of movements.now.sheet.now)) result out.new }
 {
     write_start(net, marking);
     let figure = figure_of(net, weights, marking);
@@ -61,7 +62,8 @@ fn put_movement_sheet(net: &OpenNet, weights: &[u8], movements: &[u8], out: &mut
         return put_bad(out, 0, refusal);
     }
     let mut counts = [0u32; 256];
-    put_run(net, weights, movements, &mut counts[..net.shape.pairs], out)
+    let list = MovementList { sheet: movements };
+    put_run(net, weights, &list, &mut counts[..net.shape.pairs], out)
 }
 
 fn put_weight_sheet(net: &OpenNet, weights: &[u8], out: &mut [u8]) -> usize

@@ -5,7 +5,6 @@ ghost use Rattle.model.specs.Nets.{mode_no};
 ghost use Rattle.model.specs.Markings.{Marking};
 ghost use Rattle.movement.specs.Figures.{figure as figure_at};
 ghost use Rattle.movement.specs.Runs.{run};
-ghost use Rattle.sheets.specs.lists.Movements.{movements_refusal};
 ghost use Rattle.sheets.specs.Decoded.{net_of, weights_of, movements_of};
 ghost use Rattle.opened.specs.Starts.{StartsAre};
 ghost use Rattle.writes.specs.Writes.{Writes};
@@ -18,6 +17,7 @@ use crate::lines::{put_accepted, put_end, put_refused};
 use crate::weigh::changes::write_changes;
 use model::{Answer, Refusal};
 use numbers::write_numbers;
+use opened::list::MovementList;
 use opened::listed::movement;
 use opened::open::OpenNet;
 use run::Ran;
@@ -29,13 +29,12 @@ use text::twos::Twos;
 pub(crate) fn run_list(
     net: &OpenNet,
     starts: &[u16; 257],
-    movements: &[u8],
+    movements: &MovementList,
     marking: &mut [u32],
 ) -> Ran
     requires starts_are { StartsAre (net_of net.now.sheet.now).arcs starts.now }
-    requires movements_value { movements_refusal movements.now ≡ none }
     requires marking { Marking (net_of net.now.sheet.now) marking.old }
-    ensures { RunTells (run (net_of net.now.sheet.now) (movements_of movements.now) marking.old) result.accepted result.answer }
+    ensures { RunTells (run (net_of net.now.sheet.now) (movements_of movements.now.sheet.now) marking.old) result.accepted result.answer }
 {
     let mut numbers = [0u32; 2048];
     write_numbers(net, starts, &mut numbers);
@@ -44,17 +43,16 @@ pub(crate) fn run_list(
 
 // A refused movement is the last: "Running stops at the first refused movement".
 fn put_stop(
-    movements: &[u8],
+    movements: &MovementList,
     accepted: usize,
     refusal: Refusal,
     out: &mut [u8],
     at: usize,
     figure: i64,
 ) -> usize
-    requires movements_value { movements_refusal movements.now ≡ none }
-    requires accepted_in_bounds { accepted < length (movements_of movements.now) }
+    requires accepted_in_bounds { accepted < length (movements_of movements.now.sheet.now) }
     requires at_in_bounds { at + 159 ≤ length out.old }
-    ensures { Writes 159 out.old at (refused_line (accepted + 1) (get_or (movements_of movements.now) accepted (mode_no 0)) refusal ++ end_line accepted figure) result out.new }
+    ensures { Writes 159 out.old at (refused_line (accepted + 1) (get_or (movements_of movements.now.sheet.now) accepted (mode_no 0)) refusal ++ end_line accepted figure) result out.new }
 {
     let mode = movement(movements, accepted);
     let line = put_refused(out, at, accepted as u64 + 1, mode, refusal);
@@ -66,19 +64,19 @@ pub(crate) fn put_movements(
     net: &OpenNet,
     starts: &[u16; 257],
     weights: &[u8],
-    movements: &[u8],
+    movements: &MovementList,
     accepted: usize,
     answer: Answer,
     out: &mut [u8],
     at: usize,
     first: i64,
 ) -> usize
-    requires read { Read net.now.sheet.now net.now.shape weights.now movements.now }
+    requires read { Read net.now.sheet.now net.now.shape weights.now movements.now.sheet.now }
     requires starts_are { StartsAre (net_of net.now.sheet.now).arcs starts.now }
-    requires run_tells { RunTells (run (net_of net.now.sheet.now) (movements_of movements.now) (net_of net.now.sheet.now).start) accepted answer }
+    requires run_tells { RunTells (run (net_of net.now.sheet.now) (movements_of movements.now.sheet.now) (net_of net.now.sheet.now).start) accepted answer }
     requires first_value { first ≡ figure_at (net_of net.now.sheet.now) (weights_of weights.now) (net_of net.now.sheet.now).start }
     requires at_in_bounds { at + (28 * 8192 + 159) ≤ length out.old }
-    ensures { Writes (28 * 8192 + 159) out.old at (lines_from (net_of net.now.sheet.now) (weights_of weights.now) 0 (movements_of movements.now) (net_of net.now.sheet.now).start) result out.new }
+    ensures { Writes (28 * 8192 + 159) out.old at (lines_from (net_of net.now.sheet.now) (weights_of weights.now) 0 (movements_of movements.now.sheet.now) (net_of net.now.sheet.now).start) result out.new }
 {
     let twos = Twos::new();
     let mut changes = [0i64; 256];

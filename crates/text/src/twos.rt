@@ -12,8 +12,8 @@ use writes::write_byte;
 // "00" to "99".
 #[derive(Drop)]
 pub struct Twos {
-    digits: [u8; 200],
-    ghost digits_are: { TwosAre 100 digits },
+    pub digits: [u8; 200],
+    pub ghost digits_are: { TwosAre 100 digits },
 }
 
 impl Twos {

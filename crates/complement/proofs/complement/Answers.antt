@@ -12,4 +12,4 @@ returns-in_err-net c = rw (handed_on c.from_residual.ensures) (refused _ _ _ (so
 
 pub returns : goal.returns
 unfolding complementing_refusal
-returns c = rw (none_then c.in_ok-net.ensures.0 refl, ← c.in_ok-net.ensures.1) (c.complement_open.ensures.value, c.complement_open.ensures.out_after)
+returns c = rw (none_then c.in_ok-net.ensures.0 refl, ← c.in_ok-net.ensures.1, ← c.bounded_below.ensures) (c.complement_open.ensures.value, c.complement_open.ensures.out_after)

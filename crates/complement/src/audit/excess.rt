@@ -3,13 +3,11 @@ ghost use Rattle.std.specs.Prelude.{◌≡◌, ◌≤◌, ◌<◌, pos, ◌-ℤ�
 ghost use Rattle.model.specs.Numbers.{fin};
 ghost use Rattle.both_forms.specs.Audit.{excess_of, excess};
 ghost use Rattle.sheets.specs.Decoded.{net_of};
-ghost use Rattle.halves.specs.Bounded.{BelowAre};
 ghost use Rattle.complement.specs.audit.Parts.{OneEach};
 
-use crate::sections::bounded::complement_pair;
+use crate::sections::bounded::{Bounded, complement_pair};
 use model::Pair;
 use opened::finite::is_finite;
-use opened::open::OpenNet;
 use opened::shape::capacity;
 
 // What the two markings differ by.
@@ -32,24 +30,17 @@ fn bounded_excess(capacity: u32, count: u32, same: u32, room: u32) -> i64
     }
 }
 
-pub(crate) fn pair_excess(
-    net: &OpenNet,
-    below: &[u16; 257],
-    marking: &[u32],
-    beside: &[u32],
-    p: usize,
-) -> i64
-    requires below_are { BelowAre (net_of net.now.sheet.now) below.now }
-    requires one_each { OneEach (net_of net.now.sheet.now) marking.now beside.now }
-    requires p_lt_pairs { (p < net.now.shape.pairs) × (net.now.shape.pairs ≤ 256) }
-    ensures { result ≡ excess (net_of net.now.sheet.now) marking.now beside.now p }
+pub(crate) fn pair_excess(bounded: &Bounded, marking: &[u32], beside: &[u32], p: usize) -> i64
+    requires one_each { OneEach (net_of bounded.now.net.now.sheet.now) marking.now beside.now }
+    requires p_lt_pairs { (p < bounded.now.net.now.shape.pairs) × (bounded.now.net.now.shape.pairs ≤ 256) }
+    ensures { result ≡ excess (net_of bounded.now.net.now.sheet.now) marking.now beside.now p }
 {
     let pair = Pair(p as u16);
-    let most = capacity(net, pair);
+    let most = capacity(bounded.net, pair);
     let count = marking[p];
     let same = beside[p];
     if is_finite(most) {
-        let other = complement_pair(net.shape.pairs, below, pair).0 as usize;
+        let other = complement_pair(bounded, pair).0 as usize;
         bounded_excess(most, count, same, beside[other])
     } else {
         differ_by(count, same)

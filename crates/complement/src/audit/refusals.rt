@@ -8,41 +8,31 @@ ghost use Rattle.second_form.specs.Complement.{complement};
 ghost use Rattle.both_forms.specs.Audit.{audit_refusal};
 ghost use Rattle.sheets.specs.Decoded.{net_of};
 ghost use Rattle.opened.specs.Shape.{arc_offset};
-ghost use Rattle.halves.specs.Bounded.{BelowAre};
 
 use crate::check::check_net;
-use crate::sections::bounded::bounded_between;
+use crate::sections::bounded::{Bounded, bounded_between};
 use heads::head::refused;
 use model::{Answer, Fault, Thing};
-use opened::open::OpenNet;
 
 // How many pairs the complement has.
-fn pairs_beside(net: &OpenNet, below: &[u16; 257]) -> usize
-    requires below_are { BelowAre (net_of net.now.sheet.now) below.now }
-    ensures { result ≡ pairs (complement (net_of net.now.sheet.now)) }
+fn pairs_beside(bounded: &Bounded) -> usize
+    ensures { result ≡ pairs (complement (net_of bounded.now.net.now.sheet.now)) }
 {
-    net.shape.pairs + bounded_between(below, 0, net.shape.pairs)
+    bounded.net.shape.pairs + bounded_between(bounded, 0, bounded.net.shape.pairs)
 }
 
-fn markings_answer(net: &OpenNet, below: &[u16; 257], marking: &[u32], beside: &[u32]) -> Answer
-    requires below_are { BelowAre (net_of net.now.sheet.now) below.now }
-    ensures { result ≡ answer (unequal (net_of net.now.sheet.now) marking.now ▸ unequal (complement (net_of net.now.sheet.now)) beside.now) }
+fn markings_answer(bounded: &Bounded, marking: &[u32], beside: &[u32]) -> Answer
+    ensures { result ≡ answer (unequal (net_of bounded.now.net.now.sheet.now) marking.now ▸ unequal (complement (net_of bounded.now.net.now.sheet.now)) beside.now) }
 {
-    if marking.len() != net.shape.pairs || beside.len() != pairs_beside(net, below) {
+    if marking.len() != bounded.net.shape.pairs || beside.len() != pairs_beside(bounded) {
         return refused(Thing::Argument, Fault::NotOneEach(0));
     }
     Ok(())
 }
 
-pub(crate) fn audit_answer(
-    net: &OpenNet,
-    below: &[u16; 257],
-    marking: &[u32],
-    beside: &[u32],
-) -> Answer
-    requires below_are { BelowAre (net_of net.now.sheet.now) below.now }
-    ensures { result ≡ answer (audit_refusal (net_of net.now.sheet.now) marking.now beside.now (arc_offset net.now.sheet.now)) }
+pub(crate) fn audit_answer(bounded: &Bounded, marking: &[u32], beside: &[u32]) -> Answer
+    ensures { result ≡ answer (audit_refusal (net_of bounded.now.net.now.sheet.now) marking.now beside.now (arc_offset bounded.now.net.now.sheet.now)) }
 {
-    check_net(net, below)?;
-    markings_answer(net, below, marking, beside)
+    check_net(bounded)?;
+    markings_answer(bounded, marking, beside)
 }

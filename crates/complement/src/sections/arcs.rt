@@ -9,10 +9,9 @@ ghost use Rattle.sheets.specs.written.Written.{bytes16, mode_bytes, arc_bytes};
 ghost use Rattle.sheets.specs.written.Puts.{Put, Room, Puts, mode_size};
 ghost use Rattle.halves.specs.declared.half.Half.TheVariants.{Original, Complement};
 ghost use Rattle.complement.specs.sections.DeadModes.{DeadAre};
-ghost use Rattle.halves.specs.Bounded.{BelowAre};
 ghost use Rattle.complement.specs.sections.Arcs.{kept_bytes, half_arc, half_bytes, row_arcs, row_bytes};
 
-use crate::sections::bounded::complement_pair;
+use crate::sections::bounded::{Bounded, complement_pair};
 use crate::sections::entry::{is_blank, original_arc};
 use halves::entry::complement_arc;
 use halves::half::Half;
@@ -24,28 +23,20 @@ use opened::starts::{Segment, arcs_of};
 use sheets::written::{mode_size, own_size, put_own, put16, put32};
 
 // A half of what the i-th arc of a mode becomes, dead or not.
-pub(crate) fn half_arc(
-    net: &OpenNet,
-    below: &[u16; 257],
-    dead: bool,
-    half: Half,
-    arcs: Segment,
-    i: usize,
-) -> Arc
-    requires below_are { BelowAre (net_of net.now.sheet.now) below.now }
-    requires own_arc { OwnArc (net_of net.now.sheet.now).arcs arcs i }
-    requires dead_value { dead ≡ is_dead (net_of net.now.sheet.now) arcs.mode }
-    ensures { net_arc result ≡ half_arc (net_of net.now.sheet.now) half (arcs.start + i) }
+pub(crate) fn half_arc(bounded: &Bounded, dead: bool, half: Half, arcs: Segment, i: usize) -> Arc
+    requires own_arc { OwnArc (net_of bounded.now.net.now.sheet.now).arcs arcs i }
+    requires dead_value { dead ≡ is_dead (net_of bounded.now.net.now.sheet.now) arcs.mode }
+    ensures { net_arc result ≡ half_arc (net_of bounded.now.net.now.sheet.now) half (arcs.start + i) }
 {
-    let a = arc(net, arcs, i);
+    let a = arc(bounded.net, arcs, i);
     match half {
         Half::Original => original_arc(a),
         Half::Complement => complement_arc(
             a,
-            net.shape.rule,
+            bounded.net.shape.rule,
             dead,
-            capacity(net, a.pair),
-            complement_pair(net.shape.pairs, below, a.pair),
+            capacity(bounded.net, a.pair),
+            complement_pair(bounded, a.pair),
         ),
     }
 }
@@ -77,34 +68,24 @@ fn put_original(net: &OpenNet, arcs: Segment, i: usize, out: &mut [u8], at: usiz
 
 // What it puts at the complement pair, already worked out. Pre first, then the rest, with a look into the sheet before Post and one into the
 // table before the others: Pre and Post are then stored as one number each (docs/SPEED.md).
-fn put_new(
-    net: &OpenNet,
-    below: &[u16; 257],
-    arcs: Segment,
-    i: usize,
-    new: Arc,
-    out: &mut [u8],
-    at: usize,
-) -> usize
-    requires below_are { BelowAre (net_of net.now.sheet.now) below.now }
-    requires own_arc { OwnArc (net_of net.now.sheet.now).arcs arcs i }
-    requires value { net_arc new ≡ half_arc (net_of net.now.sheet.now) Complement (arcs.start + i) }
-    requires version_in_bounds { at + (mode_size net.now.shape.version + 14) ≤ length out.old }
-    ensures { Put out.old at (mode_size net.now.shape.version + 14) (arc_bytes net.now.shape.version (net_arc new)) out.new result }
+fn put_new(bounded: &Bounded, arcs: Segment, i: usize, new: Arc, out: &mut [u8], at: usize) -> usize
+    requires own_arc { OwnArc (net_of bounded.now.net.now.sheet.now).arcs arcs i }
+    requires value { net_arc new ≡ half_arc (net_of bounded.now.net.now.sheet.now) Complement (arcs.start + i) }
+    requires version_in_bounds { at + (mode_size bounded.now.net.now.shape.version + 14) ≤ length out.old }
+    ensures { Put out.old at (mode_size bounded.now.net.now.shape.version + 14) (arc_bytes bounded.now.net.now.shape.version (net_arc new)) out.new result }
 {
-    let to_post = put32(out, at + mode_size(net.shape.version) + 2, new.pre);
-    let a = arc(net, arcs, i);
+    let to_post = put32(out, at + mode_size(bounded.net.shape.version) + 2, new.pre);
+    let a = arc(bounded.net, arcs, i);
     let to_inhibitor = put32(out, to_post, new.post);
-    let pair = complement_pair(net.shape.pairs, below, a.pair);
+    let pair = complement_pair(bounded, a.pair);
     let end = put32(out, to_inhibitor, new.inhibitor);
-    put_names(out, at, net.shape.version, new.mode.0, pair.0);
+    put_names(out, at, bounded.net.shape.version, new.mode.0, pair.0);
     end
 }
 
 // "Blank arcs are left out."
 fn put_half_arc(
-    net: &OpenNet,
-    below: &[u16; 257],
+    bounded: &Bounded,
     dead: bool,
     half: Half,
     arcs: Segment,
@@ -112,110 +93,88 @@ fn put_half_arc(
     out: &mut [u8],
     at: usize,
 ) -> usize
-    requires below_are { BelowAre (net_of net.now.sheet.now) below.now }
-    requires own_arc { OwnArc (net_of net.now.sheet.now).arcs arcs i }
-    requires dead_value { dead ≡ is_dead (net_of net.now.sheet.now) arcs.mode }
-    requires room { Room out.old at (kept_bytes net.now.shape.version (half_arc (net_of net.now.sheet.now) half (arcs.start + i))) }
-    ensures { Puts out.old at (kept_bytes net.now.shape.version (half_arc (net_of net.now.sheet.now) half (arcs.start + i))) out.new result }
+    requires own_arc { OwnArc (net_of bounded.now.net.now.sheet.now).arcs arcs i }
+    requires dead_value { dead ≡ is_dead (net_of bounded.now.net.now.sheet.now) arcs.mode }
+    requires room { Room out.old at (kept_bytes bounded.now.net.now.shape.version (half_arc (net_of bounded.now.net.now.sheet.now) half (arcs.start + i))) }
+    ensures { Puts out.old at (kept_bytes bounded.now.net.now.shape.version (half_arc (net_of bounded.now.net.now.sheet.now) half (arcs.start + i))) out.new result }
 {
-    let found = half_arc(net, below, dead, half, arcs, i);
+    let found = half_arc(bounded, dead, half, arcs, i);
     if is_blank(found) {
         return at;
     }
     match half {
-        Half::Original => put_original(net, arcs, i, out, at),
-        Half::Complement => put_new(net, below, arcs, i, found, out, at),
+        Half::Original => put_original(bounded.net, arcs, i, out, at),
+        Half::Complement => put_new(bounded, arcs, i, found, out, at),
     }
 }
 
 // A half of what the arcs of a mode become.
 fn put_half_arcs(
-    net: &OpenNet,
-    below: &[u16; 257],
+    bounded: &Bounded,
     dead: bool,
     half: Half,
     arcs: Segment,
     out: &mut [u8],
     at: usize,
 ) -> usize
-    requires below_are { BelowAre (net_of net.now.sheet.now) below.now }
-    requires mode_arcs { ModeArcs (net_of net.now.sheet.now).arcs arcs.mode arcs.start arcs.count }
-    requires dead_value { dead ≡ is_dead (net_of net.now.sheet.now) arcs.mode }
-    requires room { Room out.old at (joined arcs.count (half_bytes (net_of net.now.sheet.now) net.now.shape.version half arcs.start)) }
-    ensures { Puts out.old at (joined arcs.count (half_bytes (net_of net.now.sheet.now) net.now.shape.version half arcs.start)) out.new result }
+    requires mode_arcs { ModeArcs (net_of bounded.now.net.now.sheet.now).arcs arcs.mode arcs.start arcs.count }
+    requires dead_value { dead ≡ is_dead (net_of bounded.now.net.now.sheet.now) arcs.mode }
+    requires room { Room out.old at (joined arcs.count (half_bytes (net_of bounded.now.net.now.sheet.now) bounded.now.net.now.shape.version half arcs.start)) }
+    ensures { Puts out.old at (joined arcs.count (half_bytes (net_of bounded.now.net.now.sheet.now) bounded.now.net.now.shape.version half arcs.start)) out.new result }
 {
     let mut next = at;
     for i in 0..arcs.count {
-        next = put_half_arc(net, below, dead, half, arcs, i, out, next);
+        next = put_half_arc(bounded, dead, half, arcs, i, out, next);
     }
     next
 }
 
 // "arcs rise strictly by mode, then pair": a mode's arcs on complement pairs follow its originals. A loop over both, so that the
 // inner one has one caller and is inlined (docs/SPEED.md).
-fn put_halves(
-    net: &OpenNet,
-    below: &[u16; 257],
-    dead: bool,
-    arcs: Segment,
-    out: &mut [u8],
-    at: usize,
-) -> usize
-    requires below_are { BelowAre (net_of net.now.sheet.now) below.now }
-    requires mode_arcs { ModeArcs (net_of net.now.sheet.now).arcs arcs.mode arcs.start arcs.count }
-    requires dead_value { dead ≡ is_dead (net_of net.now.sheet.now) arcs.mode }
-    requires room { Room out.old at (flat_map (arc_bytes net.now.shape.version) (row_arcs (net_of net.now.sheet.now) arcs.mode.0)) }
-    ensures { Puts out.old at (flat_map (arc_bytes net.now.shape.version) (row_arcs (net_of net.now.sheet.now) arcs.mode.0)) out.new result }
+fn put_halves(bounded: &Bounded, dead: bool, arcs: Segment, out: &mut [u8], at: usize) -> usize
+    requires mode_arcs { ModeArcs (net_of bounded.now.net.now.sheet.now).arcs arcs.mode arcs.start arcs.count }
+    requires dead_value { dead ≡ is_dead (net_of bounded.now.net.now.sheet.now) arcs.mode }
+    requires room { Room out.old at (flat_map (arc_bytes bounded.now.net.now.shape.version) (row_arcs (net_of bounded.now.net.now.sheet.now) arcs.mode.0)) }
+    ensures { Puts out.old at (flat_map (arc_bytes bounded.now.net.now.shape.version) (row_arcs (net_of bounded.now.net.now.sheet.now) arcs.mode.0)) out.new result }
 {
     let mut next = at;
     for half in [Half::Original, Half::Complement] {
-        next = put_half_arcs(net, below, dead, half, arcs, out, next);
+        next = put_half_arcs(bounded, dead, half, arcs, out, next);
     }
     next
 }
 
 // In version 2 a mode's arcs follow their count, which is known when they are put: they have 14 bytes each.
-fn put_mode(
-    net: &OpenNet,
-    below: &[u16; 257],
-    dead: bool,
-    arcs: Segment,
-    out: &mut [u8],
-    at: usize,
-) -> usize
-    requires below_are { BelowAre (net_of net.now.sheet.now) below.now }
-    requires mode_arcs { ModeArcs (net_of net.now.sheet.now).arcs arcs.mode arcs.start arcs.count }
-    requires dead_value { dead ≡ is_dead (net_of net.now.sheet.now) arcs.mode }
-    requires room { Room out.old at (row_bytes (net_of net.now.sheet.now) net.now.shape.version arcs.mode.0) }
-    ensures { Puts out.old at (row_bytes (net_of net.now.sheet.now) net.now.shape.version arcs.mode.0) out.new result }
+fn put_mode(bounded: &Bounded, dead: bool, arcs: Segment, out: &mut [u8], at: usize) -> usize
+    requires mode_arcs { ModeArcs (net_of bounded.now.net.now.sheet.now).arcs arcs.mode arcs.start arcs.count }
+    requires dead_value { dead ≡ is_dead (net_of bounded.now.net.now.sheet.now) arcs.mode }
+    requires room { Room out.old at (row_bytes (net_of bounded.now.net.now.sheet.now) bounded.now.net.now.shape.version arcs.mode.0) }
+    ensures { Puts out.old at (row_bytes (net_of bounded.now.net.now.sheet.now) bounded.now.net.now.shape.version arcs.mode.0) out.new result }
 {
-    let start = at + own_size(net.shape.version);
-    let next = put_halves(net, below, dead, arcs, out, start);
-    put_own(out, at, net.shape.version, (next - start) / 14);
+    let start = at + own_size(bounded.net.shape.version);
+    let next = put_halves(bounded, dead, arcs, out, start);
+    put_own(out, at, bounded.net.shape.version, (next - start) / 14);
     next
 }
 
 pub(crate) fn put_arcs(
-    net: &OpenNet,
+    bounded: &Bounded,
     starts: &[u16; 257],
-    below: &[u16; 257],
     dead: &[bool; 256],
     out: &mut [u8],
     at: usize,
 ) -> usize
-    requires starts_are { StartsAre (net_of net.now.sheet.now).arcs starts.now }
-    requires below_are { BelowAre (net_of net.now.sheet.now) below.now }
-    requires dead_are { DeadAre (net_of net.now.sheet.now) dead.now }
-    requires room { Room out.old at (joined net.now.shape.modes (row_bytes (net_of net.now.sheet.now) net.now.shape.version)) }
-    ensures { Puts out.old at (joined net.now.shape.modes (row_bytes (net_of net.now.sheet.now) net.now.shape.version)) out.new result }
+    requires starts_are { StartsAre (net_of bounded.now.net.now.sheet.now).arcs starts.now }
+    requires dead_are { DeadAre (net_of bounded.now.net.now.sheet.now) dead.now }
+    requires room { Room out.old at (joined bounded.now.net.now.shape.modes (row_bytes (net_of bounded.now.net.now.sheet.now) bounded.now.net.now.shape.version)) }
+    ensures { Puts out.old at (joined bounded.now.net.now.shape.modes (row_bytes (net_of bounded.now.net.now.sheet.now) bounded.now.net.now.shape.version)) out.new result }
 {
     let mut next = at;
-    for t in 0..net.shape.modes {
+    for t in 0..bounded.net.shape.modes {
         next = put_mode(
-            net,
-            below,
+            bounded,
             dead[t],
-            arcs_of(net, starts, Mode(t as u16)),
+            arcs_of(bounded.net, starts, Mode(t as u16)),
             out,
             next,
         );

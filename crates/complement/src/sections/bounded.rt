@@ -7,31 +7,38 @@ use halves::bounded::one_if_bounded;
 use model::Pair;
 use opened::open::OpenNet;
 
-// The table: entry p is how many pairs below p have a finite K.
-pub(crate) fn bounded_below(net: &OpenNet) -> [u16; 257]
-    ensures { BelowAre (net_of net.now.sheet.now) result }
+// A net beside its table: entry p is how many pairs below p have a finite K.
+#[derive(Clone, Copy)]
+pub(crate) struct Bounded<'a> {
+    pub net: &'a OpenNet<'a>,
+    pub below: [u16; 257],
+    ghost below_are: { BelowAre (net_of net.now.sheet.now) below },
+}
+
+pub(crate) fn bounded_below<'a>(net: &'a OpenNet<'a>) -> Bounded<'a>
+    ensures { result.net.now ≡ net.now }
 {
-    let mut table = [0u16; 257];
+    let mut below = [0u16; 257];
     let mut count = 0;
     for p in 0..net.shape.pairs {
         count += one_if_bounded(net, p);
-        table[p + 1] = count;
+        below[p + 1] = count;
     }
-    table
+    Bounded { net, below }
 }
 
 // "Each pair of finite K gets a complement pair, numbered after all originals in rising order."
-pub(crate) fn complement_pair(pairs: usize, below: &[u16; 257], pair: Pair) -> Pair
-    requires { (pairs ≤ 256) × (pair.0 ≤ 256) × (get_or below.now pair.0 0 ≤ 256) }
-    ensures { result.0 ≡ pairs + get_or below.now pair.0 0 }
+pub(crate) fn complement_pair(bounded: &Bounded, pair: Pair) -> Pair
+    requires { (pair.0 ≤ 256) × (get_or bounded.now.below pair.0 0 ≤ 256) }
+    ensures { result.0 ≡ bounded.now.net.now.shape.pairs + get_or bounded.now.below pair.0 0 }
 {
-    Pair(pairs as u16 + below[pair.0 as usize])
+    Pair(bounded.net.shape.pairs as u16 + bounded.below[pair.0 as usize])
 }
 
 // How many of the pairs from `first` up to `end` have a finite K.
-pub(crate) fn bounded_between(below: &[u16; 257], first: usize, end: usize) -> usize
-    requires { (first ≤ 256) × (end ≤ 256) × (get_or below.now first 0 ≤ get_or below.now end 0) × (get_or below.now end 0 ≤ 256) }
-    ensures { result ≡ get_or below.now end 0 - get_or below.now first 0 }
+pub(crate) fn bounded_between(bounded: &Bounded, first: usize, end: usize) -> usize
+    requires { (first ≤ 256) × (end ≤ 256) × (get_or bounded.now.below first 0 ≤ get_or bounded.now.below end 0) × (get_or bounded.now.below end 0 ≤ 256) }
+    ensures { result ≡ get_or bounded.now.below end 0 - get_or bounded.now.below first 0 }
 {
-    (below[end] - below[first]) as usize
+    (bounded.below[end] - bounded.below[first]) as usize
 }

@@ -9,10 +9,10 @@ ghost use Rattle.sheets.specs.Decoded.{net_of, net_arc};
 ghost use Rattle.opened.specs.Starts.{StartsAre, ModeArcs, OwnArc};
 ghost use Rattle.halves.specs.declared.half.Half.TheVariants.{Original, Complement};
 ghost use Rattle.complement.specs.sections.DeadModes.{DeadAre};
-ghost use Rattle.halves.specs.Bounded.{BelowAre};
 ghost use Rattle.complement.specs.sections.Arcs.{kept, half_arc, row_arcs, clear_at, every};
 
 use crate::sections::arcs::half_arc;
+use crate::sections::bounded::Bounded;
 use crate::sections::entry::is_blank;
 use halves::half::Half;
 use model::{Arc, Mode};
@@ -113,45 +113,41 @@ fn count_kept(arc: Arc) -> usize
 }
 
 // How many arcs the i-th of a mode becomes.
-fn count_halves(net: &OpenNet, below: &[u16; 257], dead: bool, arcs: Segment, i: usize) -> usize
-    requires below_are { BelowAre (net_of net.now.sheet.now) below.now }
-    requires own_arc { OwnArc (net_of net.now.sheet.now).arcs arcs i }
-    requires dead_value { dead ≡ is_dead (net_of net.now.sheet.now) arcs.mode }
-    ensures { (result ≡ length (kept (half_arc (net_of net.now.sheet.now) Original (arcs.start + i)) ++ kept (half_arc (net_of net.now.sheet.now) Complement (arcs.start + i)))) × (result ≤ 2) }
+fn count_halves(bounded: &Bounded, dead: bool, arcs: Segment, i: usize) -> usize
+    requires own_arc { OwnArc (net_of bounded.now.net.now.sheet.now).arcs arcs i }
+    requires dead_value { dead ≡ is_dead (net_of bounded.now.net.now.sheet.now) arcs.mode }
+    ensures { (result ≡ length (kept (half_arc (net_of bounded.now.net.now.sheet.now) Original (arcs.start + i)) ++ kept (half_arc (net_of bounded.now.net.now.sheet.now) Complement (arcs.start + i)))) × (result ≤ 2) }
 {
-    let original = half_arc(net, below, dead, Half::Original, arcs, i);
-    let complement = half_arc(net, below, dead, Half::Complement, arcs, i);
+    let original = half_arc(bounded, dead, Half::Original, arcs, i);
+    let complement = half_arc(bounded, dead, Half::Complement, arcs, i);
     count_kept(original) + count_kept(complement)
 }
 
 // How many arcs a mode has in the complement.
-fn count_mode(net: &OpenNet, below: &[u16; 257], dead: bool, arcs: Segment) -> usize
-    requires below_are { BelowAre (net_of net.now.sheet.now) below.now }
-    requires mode_arcs { ModeArcs (net_of net.now.sheet.now).arcs arcs.mode arcs.start arcs.count }
-    requires dead_value { dead ≡ is_dead (net_of net.now.sheet.now) arcs.mode }
-    ensures { (result ≡ length (row_arcs (net_of net.now.sheet.now) arcs.mode.0)) × (result ≤ 2 * arcs.count) }
+fn count_mode(bounded: &Bounded, dead: bool, arcs: Segment) -> usize
+    requires mode_arcs { ModeArcs (net_of bounded.now.net.now.sheet.now).arcs arcs.mode arcs.start arcs.count }
+    requires dead_value { dead ≡ is_dead (net_of bounded.now.net.now.sheet.now) arcs.mode }
+    ensures { (result ≡ length (row_arcs (net_of bounded.now.net.now.sheet.now) arcs.mode.0)) × (result ≤ 2 * arcs.count) }
 {
     let mut count = 0;
     for i in 0..arcs.count {
-        count += count_halves(net, below, dead, arcs, i);
+        count += count_halves(bounded, dead, arcs, i);
     }
     count
 }
 
-pub(crate) fn count_arcs(
-    net: &OpenNet,
-    starts: &[u16; 257],
-    below: &[u16; 257],
-    dead: &[bool; 256],
-) -> usize
-    requires starts_are { StartsAre (net_of net.now.sheet.now).arcs starts.now }
-    requires below_are { BelowAre (net_of net.now.sheet.now) below.now }
-    requires dead_are { DeadAre (net_of net.now.sheet.now) dead.now }
-    ensures { (result ≡ length (complement (net_of net.now.sheet.now)).arcs) × (result ≤ 4096) }
+pub(crate) fn count_arcs(bounded: &Bounded, starts: &[u16; 257], dead: &[bool; 256]) -> usize
+    requires starts_are { StartsAre (net_of bounded.now.net.now.sheet.now).arcs starts.now }
+    requires dead_are { DeadAre (net_of bounded.now.net.now.sheet.now) dead.now }
+    ensures { (result ≡ length (complement (net_of bounded.now.net.now.sheet.now)).arcs) × (result ≤ 4096) }
 {
     let mut count = 0;
-    for t in 0..net.shape.modes {
-        count += count_mode(net, below, dead[t], arcs_of(net, starts, Mode(t as u16)));
+    for t in 0..bounded.net.shape.modes {
+        count += count_mode(
+            bounded,
+            dead[t],
+            arcs_of(bounded.net, starts, Mode(t as u16)),
+        );
     }
     count
 }

@@ -21,35 +21,47 @@ use Rattle.both_forms.proofs.Steps.{entry-is, alone}
 use Rattle.fields.specs.Numbers.{unbounded, bound}
 use Rattle.fields.proofs.BoundNumbers.{least_bounds}
 use Rattle.sheets.specs.Decoded.{net_arc}
-use Rattle.fire.specs.step.Sums.{Tabled, sums_at, Below, Addable, Added, AddedRow}
+use Rattle.fire.specs.declared.step.tables.Sums.{Sums}
+use Rattle.fire.specs.step.Tabled.{Tabled}
+use Rattle.fire.specs.step.Sums.{sums_at, Below, Addable, Added, AddedRow}
 
-module _ (a : Arc) (pre post low : List ℕ) where
+module _ (a : Arc) (s : Sums) {x : ℕ} (h : a.pair.0 < 256) (e : x ≡ min (get_or s.low a.pair.0 0) a.inhibitor) (g : a.inhibitor ≤ unbounded) where
   abbrev at : ℕ
   at = a.pair.0
 
-  pub arc-added : {x : ℕ} → at < 256 → Tabled pre post low → x ≡ min (get_or low at 0) a.inhibitor → a.inhibitor ≤ unbounded
-      → let pre' = set pre at (get_or pre at 0 + a.pre) in
-      let post' = set post at (get_or post at 0 + a.post) in
-      let low' = set low at x in
-      Tabled pre' post' low' × Added (net_arc a) (sums_at pre post low) (sums_at pre' post' low')
-  arc-added {x} h long e g = (
-    record {
-      pre = length-set pre at _ ∙ long.pre;
-      post = length-set post at _ ∙ long.post;
-      low = length-set low at x ∙ long.low;
-      fits = λ p l. fits p l (eqb p at) refl;
-    },
-    record {
-      at =
-          entry-is (get_or-set_same pre at _ 0 (omega (arith, long))) (get_or-set_same post at _ 0 (omega (arith, long)))
-          (ap bound (get_or-set_same low at x 0 (omega (arith, long)) ∙ e) ∙ least_bounds (get_or low at 0) a.inhibitor (long.fits at h) g);
-      other = λ p n. entry-is (get_or-set_other pre at p _ 0 n) (get_or-set_other post at p _ 0 n) (ap bound (get_or-set_other low at p x 0 n));
-    },
-  )
+  abbrev pre : List ℕ
+  pre = set s.pre at (get_or s.pre at 0 + a.pre)
+
+  abbrev post : List ℕ
+  post = set s.post at (get_or s.post at 0 + a.post)
+
+  long : Tabled s.pre s.post s.low
+  long = s.is_tabled
+
+  pub still-tabled : Tabled pre post (set s.low at x)
+  still-tabled =
+      record {
+        pre = length-set s.pre at _ ∙ long.pre;
+        post = length-set s.post at _ ∙ long.post;
+        low = length-set s.low at x ∙ long.low;
+        fits = λ p l. fits p l (eqb p at) refl;
+      }
     where
-      fits : (p : ℕ) → p < 256 → (t : Bool) → eqb p at ≡ t → get_or (set low at x) p 0 ≤ unbounded
-      fits p l true q = rw (eqb-true p at q, get_or-set_same low at x 0 (omega (arith, long.low))) (omega arith)
-      fits p l false q = rw (get_or-set_other low at p x 0 (eqb-false p at q)) (long.fits p l)
+      fits : (p : ℕ) → p < 256 → (t : Bool) → eqb p at ≡ t → get_or (set s.low at x) p 0 ≤ unbounded
+      fits p l true q = rw (eqb-true p at q, get_or-set_same s.low at x 0 (omega (arith, long.low))) (omega arith)
+      fits p l false q = rw (get_or-set_other s.low at p x 0 (eqb-false p at q)) (long.fits p l)
+
+  abbrev with-arc : Sums
+  with-arc = record { pre = pre; post = post; low = set s.low at x; is_tabled = still-tabled }
+
+  pub arc-added : Added (net_arc a) (sums_at s) (sums_at with-arc)
+  arc-added =
+      record {
+        at =
+            entry-is (get_or-set_same s.pre at _ 0 (omega (arith, long))) (get_or-set_same s.post at _ 0 (omega (arith, long)))
+            (ap bound (get_or-set_same s.low at x 0 (omega (arith, long)) ∙ e) ∙ least_bounds (get_or s.low at 0) a.inhibitor (long.fits at h) g);
+        other = λ p n. entry-is (get_or-set_other s.pre at p _ 0 n) (get_or-set_other s.post at p _ 0 n) (ap bound (get_or-set_other s.low at p x 0 n));
+      }
 
 -- the first i arcs, each at its own pair
 pub record AddedArcs (arc : ℕ → NetArc) (i : ℕ) (old new : Row) : Type 0 where

@@ -40,7 +40,9 @@ use Rattle.leaving.specs.Leaving.{Leaves}
 use Rattle.leaving.proofs.Leaving.{leaves-refused, leaves-written}
 use Rattle.fire.specs.step.Calls.{step_modes}
 use Rattle.fire.specs.step.Parts.{member_absent, members_refusal, Members, sums_refusal}
-use Rattle.fire.specs.step.Sums.{Tabled, sums_at, Below, AddedRow, SumsAre, refusal_of}
+use Rattle.fire.specs.declared.step.tables.Sums.{Sums}
+use Rattle.fire.specs.step.Tabled.{Tabled}
+use Rattle.fire.specs.step.Sums.{sums_at, Below, AddedRow, SumsAre, refusal_of}
 
 -- 4, tested by the length alone
 abbrev outside : List ℕ → Bool
@@ -79,7 +81,13 @@ module _ {s : List ℕ} {net : NetShape} (o : Open s net) where
       (rw (length-map ms mode_no, (sizes o).modes) (first_ext (length ms) _ _ (λ i h. rw (get_or-map mode_no ms i 0))))
 
 -- the tables at first: 0, 0 and unbounded
-pub sums_none : {net : PNet} {ts : List Mode} → pairs net ≤ 256 → SumsAre net ts 0 (sums_at (replicate 256 0) (replicate 256 0) (replicate 256 unbounded))
+pub tabled : Tabled (replicate 256 0) (replicate 256 0) (replicate 256 unbounded)
+tabled = record { pre = refl; post = refl; low = refl; fits = λ p h. rw (get_or-replicate 256 p unbounded 0 h) (omega arith) }
+
+abbrev no-sums : Sums
+no-sums = record { pre = replicate 256 0; post = replicate 256 0; low = replicate 256 unbounded; is_tabled = tabled }
+
+pub sums_none : {net : PNet} {ts : List Mode} → pairs net ≤ 256 → SumsAre net ts 0 (sums_at no-sums)
 unfolding together
 sums_none few =
     record {
@@ -87,9 +95,6 @@ sums_none few =
           let l : p < 256 = omega arith in
           entry-is (get_or-replicate 256 p 0 0 l) (get_or-replicate 256 p 0 0 l) (ap bound (get_or-replicate 256 p unbounded 0 l) ∙ bound-unbounded unbounded refl);
     }
-
-pub tabled : Tabled (replicate 256 0) (replicate 256 0) (replicate 256 unbounded)
-tabled = record { pre = refl; post = refl; low = refl; fits = λ p h. rw (get_or-replicate 256 p unbounded 0 h) (omega arith) }
 
 module _ {net : PNet} (ms : List ℕ) {r : Row} where
   pub sums-more : {i : ℕ} {new : Row} → i < length ms → SumsAre net (step_modes ms) i r → AddedRow (pairs net) (row net (mode_no (get_or ms i 0))) r new

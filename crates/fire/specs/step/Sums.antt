@@ -1,6 +1,6 @@
 -- The sums of a step, in three tables of 32-bit numbers with an entry for each pair: what the private functions of this crate speak of.
 -- A reader of the promises may skip this file.
-use Rattle.std.specs.Prelude.{ℕ, ◌+◌, ◌*◌, ◌≤◌, ◌<◌, ◌≡◌, List, ◌≢◌, length, get_or, take}
+use Rattle.std.specs.Prelude.{ℕ, ◌+◌, ◌*◌, ◌≤◌, ◌<◌, ◌≡◌, List, ◌≢◌, get_or, take}
 use Rattle.std.proofs.Math.Option.{Option}
 use Rattle.model.specs.declared.Arc.{Arc}
 use Rattle.model.specs.declared.Mode.{Mode}
@@ -13,19 +13,13 @@ use Rattle.model.specs.Rows.{Row}
 use Rattle.model.specs.Nets.{NetArc, PNet, pairs, pair_no, count}
 use Rattle.model.specs.Firing.{stops, stopped_by, stopped, lowest_stop, row_refusal, rooms}
 use Rattle.both_forms.specs.Steps.{beside, together}
-use Rattle.fields.specs.Numbers.{unbounded, bound}
+use Rattle.fields.specs.Numbers.{bound}
 use Rattle.sheets.specs.Decoded.{net_arc}
-
--- an entry for each pair that a net may have; those of the least I in 32 bits
-pub record Tabled (a b c : List ℕ) : Type 0 where
-  pub pre : length a ≡ 256
-  pub post : length b ≡ 256
-  pub low : length c ≡ 256
-  pub fits : (p : ℕ) → p < 256 → get_or c p 0 ≤ unbounded
+use Rattle.fire.specs.declared.step.tables.Sums.{Sums}
 
 -- what the tables say of each pair: Pre and Post summed, and the least I
-abbrev pub sums_at : List ℕ → List ℕ → List ℕ → Row
-sums_at pre post low p = record { pre = get_or pre p 0; post = get_or post p 0; inhibitor = bound (get_or low p 0) }
+abbrev pub sums_at : Sums → Row
+sums_at s p = record { pre = get_or s.pre p 0; post = get_or s.post p 0; inhibitor = bound (get_or s.low p 0) }
 
 -- over n pairs, sums of at most so many numbers of a sheet
 pub record Below (many n : ℕ) (r : Row) : Type 0 where

@@ -26,11 +26,14 @@ returns-in_err-marking_answer c =
     (begins-after _ _ (no_refusal _ c.in_ok-whole_movements.ensures)
     (begins-refused _ (answer-refused _ (sym (rw c.in_ok-net.ensures.1 at c.in_err-marking_answer.ensures))) (handed_on c.from_residual-in_err-marking_answer.ensures)))
 
+pub invariant_of-list : goal.invariant_of-list
+unfolding whole_movements
+invariant_of-list c = record { is_listed = left-none _ _ (no_refusal _ c.in_ok-whole_movements.ensures) }
+
 pub run_sheet-requires : goal.run_sheet-requires
 unfolding whole_movements
 run_sheet-requires c =
     record {
-      movements_value = left-none _ _ (no_refusal _ c.in_ok-whole_movements.ensures);
       marking = (marking-test _ _).0 (no_refusal _ c.in_ok-marking_answer.ensures);
     }
 

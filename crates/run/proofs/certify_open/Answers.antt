@@ -7,9 +7,9 @@ use Rattle.run.proofs.certify_open.Goals as goal
 pub returns-in_err-whole_movements : goal.returns-in_err-whole_movements
 returns-in_err-whole_movements c = stops _ _ c.in_err-whole_movements.ensures c.from_residual.ensures
 
-pub certificate_answer-requires : goal.certificate_answer-requires
+pub invariant_of-list : goal.invariant_of-list
 unfolding whole_movements
-certificate_answer-requires c = record { movements_value = left-none _ _ (no_refusal _ c.in_ok-whole_movements.ensures) }
+invariant_of-list c = record { is_listed = left-none _ _ (no_refusal _ c.in_ok-whole_movements.ensures) }
 
 pub returns : goal.returns
 returns c =

@@ -4,7 +4,6 @@ ghost use Rattle.std.proofs.Math.Option.{none};
 ghost use Rattle.model.specs.Markings.{Marking};
 ghost use Rattle.movement.specs.Runs.{run};
 ghost use Rattle.sheets.specs.Decoded.{net_of, movements_of};
-ghost use Rattle.sheets.specs.lists.Movements.{movements_refusal};
 ghost use Rattle.opened.specs.Read.{Read};
 ghost use Rattle.opened.specs.Starts.{StartsAre};
 ghost use Rattle.run.specs.Parts.{RunTells};
@@ -15,6 +14,7 @@ use crate::weigh::changes::write_changes;
 use fire::start::write_start;
 use model::Answer;
 use numbers::write_numbers;
+use opened::list::MovementList;
 use opened::listed::movement;
 use opened::open::OpenNet;
 use opened::starts::starts;
@@ -38,11 +38,15 @@ fn lost(change: i64) -> i64
 
 // The numbers of the arcs (8 KiB) stand on the stack only while the list runs, where the table of changes comes after. `movements::run_list` is the same: one
 // caller each, so that both are inlined there (docs/SPEED.md, 9), and one function for the two would be called.
-fn run_list(net: &OpenNet, starts: &[u16; 257], movements: &[u8], marking: &mut [u32]) -> Ran
+fn run_list(
+    net: &OpenNet,
+    starts: &[u16; 257],
+    movements: &MovementList,
+    marking: &mut [u32],
+) -> Ran
     requires starts_are { StartsAre (net_of net.now.sheet.now).arcs starts.now }
-    requires movements_value { movements_refusal movements.now ≡ none }
     requires marking { Marking (net_of net.now.sheet.now) marking.old }
-    ensures { RunTells (run (net_of net.now.sheet.now) (movements_of movements.now) marking.old) result.accepted result.answer }
+    ensures { RunTells (run (net_of net.now.sheet.now) (movements_of movements.now.sheet.now) marking.old) result.accepted result.answer }
 {
     let mut numbers = [0u32; 2048];
     write_numbers(net, starts, &mut numbers);
@@ -54,14 +58,14 @@ fn weigh_run(
     net: &OpenNet,
     starts: &[u16; 257],
     weights: &[u8],
-    movements: &[u8],
+    movements: &MovementList,
     accepted: usize,
     answer: Answer,
 ) -> Voyage
-    requires read { Read net.now.sheet.now net.now.shape weights.now movements.now }
+    requires read { Read net.now.sheet.now net.now.shape weights.now movements.now.sheet.now }
     requires starts_are { StartsAre (net_of net.now.sheet.now).arcs starts.now }
-    requires run_tells { RunTells (run (net_of net.now.sheet.now) (movements_of movements.now) (net_of net.now.sheet.now).start) accepted answer }
-    ensures { (result ≡ voyage_of (ship net.now.sheet.now weights.now movements.now)) × Light result }
+    requires run_tells { RunTells (run (net_of net.now.sheet.now) (movements_of movements.now.sheet.now) (net_of net.now.sheet.now).start) accepted answer }
+    ensures { (result ≡ voyage_of (ship net.now.sheet.now weights.now movements.now.sheet.now)) × Light result }
 {
     let mut changes = [0i64; 256];
     write_changes(net, starts, weights, &mut changes);
@@ -81,10 +85,10 @@ fn weigh_run(
     }
 }
 
-fn sail(net: &OpenNet, weights: &[u8], movements: &[u8], marking: &mut [u32]) -> Voyage
-    requires read { Read net.now.sheet.now net.now.shape weights.now movements.now }
+fn sail(net: &OpenNet, weights: &[u8], movements: &MovementList, marking: &mut [u32]) -> Voyage
+    requires read { Read net.now.sheet.now net.now.shape weights.now movements.now.sheet.now }
     requires marking_len { length marking.old ≡ net.now.shape.pairs }
-    ensures { (result ≡ voyage_of (ship net.now.sheet.now weights.now movements.now)) × Light result }
+    ensures { (result ≡ voyage_of (ship net.now.sheet.now weights.now movements.now.sheet.now)) × Light result }
 {
     write_start(net, marking);
     let starts = starts(net);
@@ -93,9 +97,9 @@ fn sail(net: &OpenNet, weights: &[u8], movements: &[u8], marking: &mut [u32]) ->
 }
 
 // "a private working marking of 256 counts", filled from the ship's net.
-pub(crate) fn voyage_of(net: &OpenNet, weights: &[u8], movements: &[u8]) -> Voyage
-    requires { Read net.now.sheet.now net.now.shape weights.now movements.now }
-    ensures { (result ≡ voyage_of (ship net.now.sheet.now weights.now movements.now)) × Light result }
+pub(crate) fn voyage_of(net: &OpenNet, weights: &[u8], movements: &MovementList) -> Voyage
+    requires { Read net.now.sheet.now net.now.shape weights.now movements.now.sheet.now }
+    ensures { (result ≡ voyage_of (ship net.now.sheet.now weights.now movements.now.sheet.now)) × Light result }
 {
     let mut counts = [0u32; 256];
     sail(net, weights, movements, &mut counts[..net.shape.pairs])

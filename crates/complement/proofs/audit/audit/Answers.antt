@@ -14,4 +14,4 @@ pub returns : goal.returns
 unfolding auditing_refusal
 returns c =
     finds-same _ (none_then c.in_ok-net.ensures.0 refl)
-    (rw c.in_ok-net.ensures.1 at c.audit_open.ensures)
+    (rw (c.bounded_below.ensures, c.in_ok-net.ensures.1) at c.audit_open.ensures)

@@ -7,7 +7,7 @@ use Rattle.complement.proofs.audit.Answers.{finds-refused, finds-all}
 use Rattle.complement.proofs.audit.audit_open.Goals as goal
 
 pub find-requires : goal.find-requires
-find-requires c = record { below_are = c.bounded_below-below.ensures; one_each = one_each_lem _ _ _ _ (no_refusal _ c.in_ok-audit_answer.ensures) }
+find-requires c = record { one_each = one_each_lem _ _ _ _ (no_refusal _ c.in_ok-audit_answer.ensures) }
 
 pub returns-in_err-audit_answer : goal.returns-in_err-audit_answer
 returns-in_err-audit_answer c = handed_on c.from_residual.ensures ∙ finds-refused _ (answer-refused _ (sym c.in_err-audit_answer.ensures))

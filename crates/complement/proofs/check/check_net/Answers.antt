@@ -5,11 +5,11 @@ use Rattle.complement.proofs.WithoutOutput.{never-short}
 use Rattle.complement.proofs.check.check_net.Goals as goal
 
 pub complement_sizes-most-requires : goal.complement_sizes-most-requires
-complement_sizes-most-requires c = let z = sizes c.args.net.now.is_open in record { below_are = c.requires.below_are; arcs_bound = omega (arith, z.arcs, z.arcs_within) }
+complement_sizes-most-requires c = let z = sizes c.args.bounded.now.net.now.is_open in record { arcs_bound = omega (arith, z.arcs, z.arcs_within) }
 
 pub returns : goal.returns
 returns c =
-    never-short c.args.net.now.is_open c.starts-starts.ensures c.complement_sizes-most.ensures.0 c.complement_sizes-most.ensures.1 c.complement_answer.ensures
+    never-short c.args.bounded.now.net.now.is_open c.starts-starts.ensures c.complement_sizes-most.ensures.0 c.complement_sizes-most.ensures.1 c.complement_answer.ensures
 
-pub overflow_mul-net : goal.overflow_mul-net
-overflow_mul-net c = omega (arith, (sizes c.args.net.now.is_open).arcs, (sizes c.args.net.now.is_open).arcs_within)
+pub overflow_mul-bounded : goal.overflow_mul-bounded
+overflow_mul-bounded c = omega (arith, (sizes c.args.bounded.now.net.now.is_open).arcs, (sizes c.args.bounded.now.net.now.is_open).arcs_within)

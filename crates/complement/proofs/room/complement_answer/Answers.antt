@@ -8,12 +8,12 @@ use Rattle.complement.proofs.room.complement_answer.Goals.{then-not-clear+in_ok-
 
 pub returns-in_err-arcs_answer : goal.returns-in_err-arcs_answer
 returns-in_err-arcs_answer c =
-    stops _ _ c.in_err-arcs_answer.ensures c.from_residual.ensures ∙ ap answer (in_order_lem c.args.net.now.is_open _)
+    stops _ _ c.in_err-arcs_answer.ensures c.from_residual.ensures ∙ ap answer (in_order_lem c.args.bounded.now.net.now.is_open _)
 
 pub returns : goal.returns
 returns c =
-    only_room c.args.net.now.is_open _
+    only_room c.args.bounded.now.net.now.is_open _
     (elim c.if-not-clear.branch [
       | then-not-clear+in_ok-arcs_answer w ↦ no_refusal _ w.in_ok-arcs_answer.ensures
-      | else-not-clear w ↦ clear_none c.args.net.now.sheet.now (sym c.requires.clear_value ∙ w.if-not-clear.false)
+      | else-not-clear w ↦ clear_none c.args.bounded.now.net.now.sheet.now (sym c.requires.clear_value ∙ w.if-not-clear.false)
     ]) c.counted_answer.ensures

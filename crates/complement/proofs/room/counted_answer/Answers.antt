@@ -18,19 +18,19 @@ none_if_ok none e h = refl
 none_if_ok (some r) e h = absurd (false≢true (sym (h ∙ ap is_ok e)))
 
 pub room_answer-requires-clause-transitions_bound : goal.room_answer-requires-clause-transitions_bound
-room_answer-requires-clause-transitions_bound c = let z = sizes c.args.net.now.is_open in (omega (arith, z.transitions, z.well_formed.transitions.many), z.modes_within)
+room_answer-requires-clause-transitions_bound c = let z = sizes c.args.bounded.now.net.now.is_open in (omega (arith, z.transitions, z.well_formed.transitions.many), z.modes_within)
 
 pub returns-then-is_ok : goal.returns-then-is_ok
 returns-then-is_ok c =
     let pre = c.requires in
-    ap answer (sym (still-fits c.args.net.now.is_open _ pre.starts_are pre.sizes_with.0 (none_if_ok _ c.room_answer.ensures (sym c.if-is_ok.true ∙ c.is_ok.ensures.value))))
+    ap answer (sym (still-fits c.args.bounded.now.net.now.is_open _ pre.starts_are pre.sizes_with.0 (none_if_ok _ c.room_answer.ensures (sym c.if-is_ok.true ∙ c.is_ok.ensures.value))))
 
 pub room_answer-requires-2-clause-transitions_bound : goal.room_answer-requires-2-clause-transitions_bound
-room_answer-requires-2-clause-transitions_bound c = let z = sizes c.args.net.now.is_open in (omega (arith, z.transitions, z.well_formed.transitions.many), z.modes_within)
+room_answer-requires-2-clause-transitions_bound c = let z = sizes c.args.bounded.now.net.now.is_open in (omega (arith, z.transitions, z.well_formed.transitions.many), z.modes_within)
 
 pub returns : goal.returns
 returns c =
     let a = c.args in
     let with = c.requires.sizes_with.0 in
     c.room_answer-2.ensures
-    ∙ ap (λ of. answer (sizes_refusal a.net.now.shape of a.room)) (sizes-is (net_of a.net.now.sheet.now) (record { places = with.places; pairs = with.pairs; arcs = c.count_arcs.ensures.0 }))
+    ∙ ap (λ of. answer (sizes_refusal a.bounded.now.net.now.shape of a.room)) (sizes-is (net_of a.bounded.now.net.now.sheet.now) (record { places = with.places; pairs = with.pairs; arcs = c.count_arcs.ensures.0 }))

@@ -7,34 +7,34 @@ use Rattle.complement.proofs.sections.PlaceHalves.{place-count}
 use Rattle.complement.proofs.sheet.complement_sizes.Goals as goal
 
 pub overflow_add-result : goal.overflow_add-result
-overflow_add-result c = let z = sizes c.args.net.now.is_open in omega (arith, z.places, z.well_formed.places.many)
+overflow_add-result c = let z = sizes c.args.bounded.now.net.now.is_open in omega (arith, z.places, z.well_formed.places.many)
 
 pub bounded_between-requires : goal.bounded_between-requires
 bounded_between-requires c =
-    let pre = c.requires in
-    let z = sizes c.args.net.now.is_open in
-    let pairs = c.args.net.now.shape.pairs in
+    let b = c.args.bounded.now in
+    let z = sizes b.net.now.is_open in
+    let pairs = b.net.now.shape.pairs in
     let few = z.well_formed.places.in_total in
-    let last = entry-few c.args.net.now.is_open pre.below_are pairs (omega arith) in
-    (omega arith, omega (arith, z.pairs), entries_rise c.args.net.now.is_open pre.below_are 0 pairs (omega arith) (omega arith), omega (arith, z.pairs))
+    let last = entry-few b.net.now.is_open b.below_are pairs (omega arith) in
+    (omega arith, omega (arith, z.pairs), entries_rise b.net.now.is_open b.below_are 0 pairs (omega arith) (omega arith), omega (arith, z.pairs))
 
 pub overflow_add-result-2 : goal.overflow_add-result-2
 overflow_add-result-2 c =
-    let pre = c.requires in
-    let z = sizes c.args.net.now.is_open in
-    omega (arith, z.pairs_within, c.bounded_between.ensures, entry-few c.args.net.now.is_open pre.below_are c.args.net.now.shape.pairs (omega arith))
+    let b = c.args.bounded.now in
+    let z = sizes b.net.now.is_open in
+    omega (arith, z.pairs_within, c.bounded_between.ensures, entry-few b.net.now.is_open b.below_are b.net.now.shape.pairs (omega arith))
 
 pub returns : goal.returns
 returns c =
-    let pre = c.requires in
-    let z = sizes c.args.net.now.is_open in
+    let b = c.args.bounded.now in
+    let z = sizes b.net.now.is_open in
     let places = c.count_new_places.ensures in
     let new = c.bounded_between.ensures in
-    let last = entry-few c.args.net.now.is_open pre.below_are c.args.net.now.shape.pairs (omega arith) in (
-      record { places = omega (arith, place-count c.args.net.now.is_open, places.0); pairs = pair-count c.args.net.now.is_open pre.below_are new; arcs = refl },
+    let last = entry-few b.net.now.is_open b.below_are b.net.now.shape.pairs (omega arith) in (
+      record { places = omega (arith, place-count b.net.now.is_open, places.0); pairs = pair-count b.net.now.is_open b.below_are new; arcs = refl },
       record {
         places = omega (arith, z.places, z.well_formed.places.many, places.1);
         pairs = omega (arith, z.pairs_within, new, last);
-        arcs = pre.arcs_bound;
+        arcs = c.requires.arcs_bound;
       },
     )

@@ -14,19 +14,19 @@ use Rattle.complement.proofs.sheet.put_counted_arcs.Goals as goal
 pub overflow_add-start : goal.overflow_add-start
 overflow_add-start c =
     let pre = c.requires in
-    let room = rows-room c.args.net.now.is_open pre.room c.total_size.ensures refl in
+    let room = rows-room c.args.bounded.now.net.now.is_open pre.room c.total_size.ensures refl in
     omega (arith, room.fits)
 
 pub put_arcs-end-requires : goal.put_arcs-end-requires
-put_arcs-end-requires c = let pre = c.requires in record { starts_are = pre.starts_are; below_are = pre.below_are; dead_are = pre.dead_are; room = rows-room c.args.net.now.is_open pre.room c.total_size.ensures refl }
+put_arcs-end-requires c = let pre = c.requires in record { starts_are = pre.starts_are; dead_are = pre.dead_are; room = rows-room c.args.bounded.now.net.now.is_open pre.room c.total_size.ensures refl }
 
 pub put_total-requires : goal.put_total-requires
 put_total-requires c = let put = c.put_arcs-end.ensures in
-    let pre = c.requires in record { room = total-room c.args.net.now.is_open pre.room put _; arcs_bound = total-few c.args.net.now.is_open put pre.starts_are }
+    let pre = c.requires in record { room = total-room c.args.bounded.now.net.now.is_open pre.room put _; arcs_bound = total-few c.args.bounded.now.net.now.is_open put pre.starts_are }
 
 pub returns : goal.returns
 returns c =
     let put = c.put_arcs-end.ensures in
-    let o = c.args.net.now.is_open in
+    let o = c.args.bounded.now.net.now.is_open in
     let total = puts_as (total-is o put) c.put_total.ensures in
-    puts_as (sym (arc-parts o)) (put_length (puts-before put (ends_as (omega (arith, c.total_size.ensures, total-length c.args.net.now.shape.version (length (complement (net_of c.args.net.now.sheet.now)).arcs))) total)))
+    puts_as (sym (arc-parts o)) (put_length (puts-before put (ends_as (omega (arith, c.total_size.ensures, total-length c.args.bounded.now.net.now.shape.version (length (complement (net_of c.args.bounded.now.net.now.sheet.now)).arcs))) total)))

@@ -6,7 +6,7 @@ use Rattle.opened.proofs.listed.movement.Goals as goal
 
 pub mode_at-requires : goal.mode_at-requires
 mode_at-requires c =
-    omega (arith, movements-length c.args.s.now, movements_stand _ c.requires.s_value)
+    omega (arith, movements-length c.args.list.now.sheet.now, movements_stand _ c.args.list.now.is_listed)
 
 pub returns : goal.returns
 returns c =

@@ -19,7 +19,7 @@ pub slice_bounds-end_answer-end : goal.slice_bounds-end_answer-end
 slice_bounds-end_answer-end c = sym (length-take-le _ _ (sizes c.args.net.now.is_open).pairs_within)
 
 pub end_answer-requires : goal.end_answer-requires
-end_answer-requires c = let pre = c.requires in record { movements_value = pre.movements_value; claim_len = (c.if-claim-net.false, length-take-le _ _ (sizes c.args.net.now.is_open).pairs_within) }
+end_answer-requires c = let pre = c.requires in record { claim_len = (c.if-claim-net.false, length-take-le _ _ (sizes c.args.net.now.is_open).pairs_within) }
 
 pub returns : goal.returns
 unfolding certificate_refusal

@@ -10,7 +10,6 @@ run_listed-requires c =
     let pre = c.requires in
     record {
       tables = record { numbered = record { opened = c.args.net.now.is_open; numbers_are = λ _. c.write_numbers.ensures }; starts_hold = c.starts-starts.ensures };
-      movements_value = pre.movements_value;
       marking = pre.marking;
     }
 

@@ -24,6 +24,10 @@ returns-in_err-whole_movements c =
     goes_on found _ _ _ (weights-pass c.args.net.now.is_open _ c.in_ok-whole_weights.ensures)
     (stops found _ _ _ (answer-refused _ (sym c.in_err-whole_movements.ensures)) (handed_on c.from_residual-in_err-whole_movements.ensures))
 
+pub invariant_of-list : goal.invariant_of-list
+unfolding whole_movements
+invariant_of-list c = record { is_listed = left-none _ _ (no_refusal _ c.in_ok-whole_movements.ensures) }
+
 pub voyage_of-requires : goal.voyage_of-requires
 unfolding whole_movements
 voyage_of-requires c =

@@ -20,6 +20,10 @@ slice_bounds-counts-end c = (sizes c.args.net.now.is_open).pairs_within
 pub slice_bounds-put_run-end : goal.slice_bounds-put_run-end
 slice_bounds-put_run-end c = sym (length-take-le _ _ (sizes c.args.net.now.is_open).pairs_within)
 
+pub invariant_of-list : goal.invariant_of-list
+unfolding whole_movements
+invariant_of-list c = record { is_listed = left-none _ _ (answer-none _ c.whole_movements-answer.ensures c.in_default.is) }
+
 pub put_run-requires : goal.put_run-requires
 unfolding whole_movements
 put_run-requires c = let pre = c.requires in record { read = record { opened = c.args.net.now.is_open; weighed = pre.weights_value; listed = left-none _ _ (answer-none _ c.whole_movements-answer.ensures c.in_default.is) }; marking_len = length-take-le _ _ (sizes c.args.net.now.is_open).pairs_within; room_in_bounds = pre.room_in_bounds }

@@ -17,7 +17,7 @@ loop-k-init c =
     )
 
 pub movement-mode-requires : goal.movement-mode-requires
-movement-mode-requires c = let pre = c.requires in record { s_value = pre.read.listed; k_in_bounds = omega (arith, c.loop-k-test.true, counted pre.read pre.run_tells) }
+movement-mode-requires c = let pre = c.requires in record { k_in_bounds = omega (arith, c.loop-k-test.true, counted pre.read pre.run_tells) }
 
 pub offset_bounds-changes-mode : goal.offset_bounds-changes-mode
 offset_bounds-changes-mode c =
@@ -49,7 +49,7 @@ loop-k-preserved c =
 pub put_stop-requires : goal.put_stop-requires
 put_stop-requires c =
     let pre = c.requires in
-    record { movements_value = pre.read.listed; accepted_in_bounds = refused-there pre.read pre.run_tells c.in-Err.is; at_in_bounds = along-room pre.read pre.run_tells c.loop-k.invariant.1 c.loop-k.auto.k-end pre.at_in_bounds }
+    record { accepted_in_bounds = refused-there pre.read pre.run_tells c.in-Err.is; at_in_bounds = along-room pre.read pre.run_tells c.loop-k.invariant.1 c.loop-k.auto.k-end pre.at_in_bounds }
 
 pub shape_of-out-in-Err : goal.shape_of-out-in-Err
 shape_of-out-in-Err c = c.put_stop.auto.out ∙ c.loop-k.invariant.0

@@ -7,4 +7,4 @@ use Rattle.statement.proofs.movements.put_movements.Given as goal
 
 abbrev pub invariant-loop-k : goal.invariant-loop-k
 invariant-loop-k l =
-    (length l.out ≡ length l.initial.out) × Along (net_of l.net.sheet.now) (weights_of l.weights) (movements_of l.movements) l.initial.out l.at l.k l.figure l.end l.out
+    (length l.out ≡ length l.initial.out) × Along (net_of l.net.sheet.now) (weights_of l.weights) (movements_of l.movements.sheet.now) l.initial.out l.at l.k l.figure l.end l.out

@@ -8,7 +8,7 @@ use Rattle.statement.proofs.movements.put_stop.Goals as goal
 pub overflow_add-accepted : goal.overflow_add-accepted
 overflow_add-accepted c =
     let pre = c.requires in
-    record { fits = omega (arith, pre.accepted_in_bounds, movements-within _ pre.movements_value) }
+    record { fits = omega (arith, pre.accepted_in_bounds, movements-within _ c.args.movements.now.is_listed) }
 
 pub returns : goal.returns
 returns c =

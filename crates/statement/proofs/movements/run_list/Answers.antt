@@ -9,7 +9,7 @@ write_numbers-requires c = let pre = c.requires in record { starts_are = pre.sta
 pub run_listed-requires : goal.run_listed-requires
 run_listed-requires c =
     let pre = c.requires in
-    record { tables = record { numbered = record { opened = c.args.net.now.is_open; numbers_are = λ _. c.write_numbers.ensures }; starts_hold = pre.starts_are }; movements_value = pre.movements_value; marking = pre.marking }
+    record { tables = record { numbered = record { opened = c.args.net.now.is_open; numbers_are = λ _. c.write_numbers.ensures }; starts_hold = pre.starts_are }; marking = pre.marking }
 
 pub returns : goal.returns
 returns c = run-tells c.run_listed.ensures

@@ -15,30 +15,30 @@ use Rattle.complement.proofs.audit.excess.pair_excess.Goals as goal
 
 pub bounds-marking-p : goal.bounds-marking-p
 bounds-marking-p c =
-    omega (arith, c.requires.p_lt_pairs.0, (sizes c.args.net.now.is_open).pairs, c.requires.one_each.here)
+    omega (arith, c.requires.p_lt_pairs.0, (sizes c.args.bounded.now.net.now.is_open).pairs, c.requires.one_each.here)
 
 pub bounds-beside-p : goal.bounds-beside-p
 bounds-beside-p c =
-    omega (arith, c.requires.p_lt_pairs.0, (sizes c.args.net.now.is_open).pairs, pairs-complement (net_of c.args.net.now.sheet.now), c.requires.one_each.there)
+    omega (arith, c.requires.p_lt_pairs.0, (sizes c.args.bounded.now.net.now.is_open).pairs, pairs-complement (net_of c.args.bounded.now.net.now.sheet.now), c.requires.one_each.there)
 
 pub complement_pair-other-requires : goal.complement_pair-other-requires
 complement_pair-other-requires c =
-    omega (arith, c.requires.p_lt_pairs.0, c.requires.p_lt_pairs.1, entry-few c.args.net.now.is_open c.requires.below_are c.args.p (omega (arith, c.requires.p_lt_pairs.0)))
+    omega (arith, c.requires.p_lt_pairs.0, c.requires.p_lt_pairs.1, entry-few c.args.bounded.now.net.now.is_open c.args.bounded.now.below_are c.args.p (omega (arith, c.requires.p_lt_pairs.0)))
 
 pub bounds-beside-other : goal.bounds-beside-other
 bounds-beside-other c =
-    beside-inside c.args.net.now.is_open c.requires.below_are c.requires.p_lt_pairs.0 c.complement_pair-other.ensures c.capacity-most.result c.args.beside.now c.capacity-most.ensures
+    beside-inside c.args.bounded.now.net.now.is_open c.args.bounded.now.below_are c.requires.p_lt_pairs.0 c.complement_pair-other.ensures c.capacity-most.result c.args.beside.now c.capacity-most.ensures
     (sym c.if-is_finite.ensures) c.requires.one_each.there
 
 pub returns-then-is_finite : goal.returns-then-is_finite
 returns-then-is_finite c =
-    let net = net_of c.args.net.now.sheet.now in
+    let net = net_of c.args.bounded.now.net.now.sheet.now in
     let m = count c.args.marking.now c.args.p in
     let m' = count c.args.beside.now c.args.p in
     to_z-of_z {w = w64} (record { sfits = c.bounded_excess.type_inv }) ∙ c.bounded_excess.ensures
     ∙ finite-excess c.capacity-most.result m m' _ c.capacity-most.ensures (sym c.if-is_finite.ensures)
     ∙ ap (λ q. excess_of (K net c.args.p) m m' (get_or c.args.beside.now q 0))
-    (beside-is c.args.net.now.is_open c.requires.below_are c.requires.p_lt_pairs.0 c.complement_pair-other.ensures)
+    (beside-is c.args.bounded.now.net.now.is_open c.args.bounded.now.below_are c.requires.p_lt_pairs.0 c.complement_pair-other.ensures)
 
 pub returns-else-is_finite : goal.returns-else-is_finite
 returns-else-is_finite c =

@@ -10,14 +10,15 @@ use Rattle.complement.proofs.sections.arcs.half_arc.Goals as goal
 
 pub complement_pair-requires : goal.complement_pair-requires
 complement_pair-requires c =
-    let o = c.args.net.now.is_open in
+    let b = c.args.bounded.now in
+    let o = b.net.now.is_open in
     let z = sizes o in
     let read = c.arc-a.ensures in
-    let few = entry-few o c.requires.below_are c.arc-a.result.pair.0 (omega (arith, read.pair)) in
+    let few = entry-few o b.below_are c.arc-a.result.pair.0 (omega (arith, read.pair)) in
     omega (arith, z.pairs_within, read.pair, few)
 
 pub complement_arc-requires : goal.complement_arc-requires
-complement_arc-requires c = small c.arc-a.ensures c.args.net.now.is_open _ c.capacity.ensures
+complement_arc-requires c = small c.arc-a.ensures c.args.bounded.now.net.now.is_open _ c.capacity.ensures
 
 pub returns-in-Original : goal.returns-in-Original
 returns-in-Original c = rw c.in-Original.is (c.original_arc.ensures ∙ ap on_original c.arc-a.ensures.is)
@@ -25,6 +26,7 @@ returns-in-Original c = rw c.in-Original.is (c.original_arc.ensures ∙ ap on_or
 pub returns-in-Complement : goal.returns-in-Complement
 returns-in-Complement c =
     let read = c.arc-a.ensures in
+    let b = c.args.bounded.now in
     rw c.in-Complement.is
     (c.complement_arc.ensures
-    ∙ complement-is read c.args.net.now.is_open c.requires.below_are _ _ _ (own-dead (net_of c.args.net.now.sheet.now) c.requires.own_arc _ read.is c.requires.dead_value) c.capacity.ensures c.complement_pair.ensures)
+    ∙ complement-is read b.net.now.is_open b.below_are _ _ _ (own-dead (net_of b.net.now.sheet.now) c.requires.own_arc _ read.is c.requires.dead_value) c.capacity.ensures c.complement_pair.ensures)

@@ -10,13 +10,13 @@ use Rattle.complement.proofs.sections.arcs.put_arcs.Goals as goal
 pub put_mode-next-requires : goal.put_mode-next-requires
 put_mode-next-requires c = let l = c.loop-t in
     let segment = c.arcs_of.ensures in
-    let row = ap (λ m. row_bytes (net_of c.args.net.now.sheet.now) c.args.net.now.shape.version m.0) (sym segment.mode) in
-    let room = room-more _ l.t l.invariant _ c.requires.room c.loop-t-test.true in record { below_are = c.requires.below_are; mode_arcs = segment.own; dead_value = entry-dead c.args.net.now.is_open c.requires.dead_are l.t c.loop-t-test.true segment; room = room_as row room }
+    let row = ap (λ m. row_bytes (net_of c.args.bounded.now.net.now.sheet.now) c.args.bounded.now.net.now.shape.version m.0) (sym segment.mode) in
+    let room = room-more _ l.t l.invariant _ c.requires.room c.loop-t-test.true in record { mode_arcs = segment.own; dead_value = entry-dead c.args.bounded.now.net.now.is_open c.requires.dead_are l.t c.loop-t-test.true segment; room = room_as row room }
 
 pub loop-t-preserved : goal.loop-t-preserved
 loop-t-preserved c =
     let l = c.loop-t in
-    let row = ap (λ m. row_bytes (net_of c.args.net.now.sheet.now) c.args.net.now.shape.version m.0) c.arcs_of.ensures.mode in
+    let row = ap (λ m. row_bytes (net_of c.args.bounded.now.net.now.sheet.now) c.args.bounded.now.net.now.shape.version m.0) c.arcs_of.ensures.mode in
     puts-more _ l.t l.invariant (puts_as row c.put_mode-next.ensures)
 
 pub returns : goal.returns
@@ -28,7 +28,7 @@ pub loop-t-init : goal.loop-t-init
 loop-t-init c = puts_none _
 
 pub bounds-dead-t : goal.bounds-dead-t
-bounds-dead-t c = omega (arith, (sizes c.args.net.now.is_open).modes_within)
+bounds-dead-t c = omega (arith, (sizes c.args.bounded.now.net.now.is_open).modes_within)
 
 pub overflow_cast-t : goal.overflow_cast-t
-overflow_cast-t c = omega (arith, (sizes c.args.net.now.is_open).modes_within)
+overflow_cast-t c = omega (arith, (sizes c.args.bounded.now.net.now.is_open).modes_within)

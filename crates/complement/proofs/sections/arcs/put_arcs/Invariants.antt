@@ -6,4 +6,4 @@ use Rattle.complement.specs.sections.Arcs.{row_bytes}
 use Rattle.complement.proofs.sections.arcs.put_arcs.Given as goal
 
 abbrev pub invariant-loop-t : goal.invariant-loop-t
-invariant-loop-t l = Puts l.initial.out l.at (joined l.t (row_bytes (net_of l.net.sheet.now) l.net.shape.version)) l.out l.next
+invariant-loop-t l = Puts l.initial.out l.at (joined l.t (row_bytes (net_of l.bounded.net.now.sheet.now) l.bounded.net.now.shape.version)) l.out l.next

@@ -12,27 +12,26 @@ pub returns-then-is_blank : goal.returns-then-is_blank
 returns-then-is_blank c = puts_as (left_out c.half_arc-found.ensures c.is_blank.ensures _ c.if-is_blank.true) nothing
 
 pub put_original-requires : goal.put_original-requires
-put_original-requires c = let whole = put_whole c.half_arc-found.ensures c.is_blank.ensures c.args.net.now.shape.version c.if-is_blank.false in record { own_arc = c.requires.own_arc; version_in_bounds = arc-fits c.args.net.now.shape.version _ (room_as (sym whole) c.requires.room) }
+put_original-requires c = let whole = put_whole c.half_arc-found.ensures c.is_blank.ensures c.args.bounded.now.net.now.shape.version c.if-is_blank.false in record { own_arc = c.requires.own_arc; version_in_bounds = arc-fits c.args.bounded.now.net.now.shape.version _ (room_as (sym whole) c.requires.room) }
 
 pub put_new-requires : goal.put_new-requires
 put_new-requires c =
     let found = c.half_arc-found.ensures in
-    let whole = put_whole found c.is_blank.ensures c.args.net.now.shape.version c.if-is_blank.false in
-    let new = ap (λ half. half_arc (net_of c.args.net.now.sheet.now) half (c.args.arcs.start + c.args.i)) c.in-Complement.is in
+    let whole = put_whole found c.is_blank.ensures c.args.bounded.now.net.now.shape.version c.if-is_blank.false in
+    let new = ap (λ half. half_arc (net_of c.args.bounded.now.net.now.sheet.now) half (c.args.arcs.start + c.args.i)) c.in-Complement.is in
     record {
-      below_are = c.requires.below_are;
       own_arc = c.requires.own_arc;
       value = found ∙ new;
-      version_in_bounds = arc-fits c.args.net.now.shape.version _ (room_as (sym whole) c.requires.room);
+      version_in_bounds = arc-fits c.args.bounded.now.net.now.shape.version _ (room_as (sym whole) c.requires.room);
     }
 
 pub returns-in-Original : goal.returns-in-Original
 returns-in-Original c =
-    let whole = put_whole c.half_arc-found.ensures c.is_blank.ensures c.args.net.now.shape.version c.if-is_blank.false in
-    let original = ap (λ half. arc_bytes c.args.net.now.shape.version (half_arc (net_of c.args.net.now.sheet.now) half (c.args.arcs.start + c.args.i))) c.in-Original.is in
+    let whole = put_whole c.half_arc-found.ensures c.is_blank.ensures c.args.bounded.now.net.now.shape.version c.if-is_blank.false in
+    let original = ap (λ half. arc_bytes c.args.bounded.now.net.now.shape.version (half_arc (net_of c.args.bounded.now.net.now.sheet.now) half (c.args.arcs.start + c.args.i))) c.in-Original.is in
     puts_as (sym original ∙ whole) (put_length c.put_original.ensures)
 
 pub returns-in-Complement : goal.returns-in-Complement
 returns-in-Complement c =
     let found = c.half_arc-found.ensures in
-    puts_as (ap (arc_bytes c.args.net.now.shape.version) found ∙ put_whole found c.is_blank.ensures c.args.net.now.shape.version c.if-is_blank.false) (put_length c.put_new.ensures)
+    puts_as (ap (arc_bytes c.args.bounded.now.net.now.shape.version) found ∙ put_whole found c.is_blank.ensures c.args.bounded.now.net.now.shape.version c.if-is_blank.false) (put_length c.put_new.ensures)

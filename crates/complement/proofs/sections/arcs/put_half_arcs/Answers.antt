@@ -7,7 +7,7 @@ loop-i-init c = puts_none _
 
 pub put_half_arc-next-requires : goal.put_half_arc-next-requires
 put_half_arc-next-requires c = let l = c.loop-i in
-    let pre = c.requires in record { below_are = pre.below_are; own_arc = search rules; dead_value = search rules; room = room-more _ l.i l.invariant _ pre.room c.loop-i-test.true }
+    let pre = c.requires in record { own_arc = search rules; dead_value = search rules; room = room-more _ l.i l.invariant _ pre.room c.loop-i-test.true }
 
 pub loop-i-preserved : goal.loop-i-preserved
 loop-i-preserved c = let l = c.loop-i in puts-more _ l.i l.invariant c.put_half_arc-next.ensures

@@ -6,7 +6,7 @@ use Rattle.complement.proofs.sections.arcs.put_halves.Goals as goal
 pub put_half_arcs-next-requires : goal.put_half_arcs-next-requires
 put_half_arcs-next-requires c = let l = c.loop-half in
     let pre = c.requires in
-    let room = room-more _ l.half-index l.invariant 2 (room_as (mode-part c.args.net.now.is_open _ _ _ pre.mode_arcs _) pre.room) c.loop-half-test.true in record { below_are = pre.below_are; mode_arcs = pre.mode_arcs; dead_value = pre.dead_value; room = room }
+    let room = room-more _ l.half-index l.invariant 2 (room_as (mode-part c.args.bounded.now.net.now.is_open _ _ _ pre.mode_arcs _) pre.room) c.loop-half-test.true in record { mode_arcs = pre.mode_arcs; dead_value = pre.dead_value; room = room }
 
 pub loop-half-init : goal.loop-half-init
 loop-half-init c = puts_none _
@@ -18,4 +18,4 @@ pub returns : goal.returns
 returns c =
     let l = c.loop-half in
     let pre = c.requires in
-    puts_as (sym (mode-part c.args.net.now.is_open _ _ _ pre.mode_arcs _)) (puts-end _ l.half-index l.invariant 2 l.auto.half-index-end c.loop-half-test.false)
+    puts_as (sym (mode-part c.args.bounded.now.net.now.is_open _ _ _ pre.mode_arcs _)) (puts-end _ l.half-index l.invariant 2 l.auto.half-index-end c.loop-half-test.false)

@@ -8,14 +8,15 @@ use Rattle.complement.proofs.sections.arcs.put_new.Goals as goal
 
 pub complement_pair-pair-requires : goal.complement_pair-pair-requires
 complement_pair-pair-requires c =
-    let z = sizes c.args.net.now.is_open in
+    let b = c.args.bounded.now in
+    let z = sizes b.net.now.is_open in
     let arc = c.arc-a in
-    let few = entry-few c.args.net.now.is_open c.requires.below_are arc.result.pair.0 (omega (arith, arc.ensures.pair)) in
+    let few = entry-few b.net.now.is_open b.below_are arc.result.pair.0 (omega (arith, arc.ensures.pair)) in
     omega (arith, z.pairs_within, arc.ensures.pair, few)
 
 pub returns : goal.returns
 returns c =
     let a = c.args in
-    let number = complement-pair-is c.arc-a.ensures c.args.net.now.is_open c.requires.below_are _ c.complement_pair-pair.ensures a.new c.requires.value in
-    new_put a.net.now.shape.version a.new number c.mode_size.ensures c.put32-to_post.ensures c.put32-to_inhibitor.ensures c.put32-end.ensures
+    let number = complement-pair-is c.arc-a.ensures c.args.bounded.now.net.now.is_open c.args.bounded.now.below_are _ c.complement_pair-pair.ensures a.new c.requires.value in
+    new_put a.bounded.now.net.now.shape.version a.new number c.mode_size.ensures c.put32-to_post.ensures c.put32-to_inhibitor.ensures c.put32-end.ensures
     c.put_names.ensures

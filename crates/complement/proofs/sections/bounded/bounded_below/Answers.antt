@@ -20,11 +20,11 @@ overflow_add-count c =
     let more = one_more_lem k l.p l.invariant.1 c.one_if_bounded-count.ensures in
     omega (arith, more, below-at-most k (l.p + 1), z.pairs_within)
 
-pub offset_bounds-table-p : goal.offset_bounds-table-p
-offset_bounds-table-p c = let z = sizes c.args.net.now.is_open in omega (arith, z.pairs_within)
+pub offset_bounds-below-p : goal.offset_bounds-below-p
+offset_bounds-below-p c = let z = sizes c.args.net.now.is_open in omega (arith, z.pairs_within)
 
-pub bounds-table-p : goal.bounds-table-p
-bounds-table-p c = let z = sizes c.args.net.now.is_open in omega (arith, z.pairs_within)
+pub bounds-below-p : goal.bounds-below-p
+bounds-below-p c = let z = sizes c.args.net.now.is_open in omega (arith, z.pairs_within)
 
 pub loop-p-preserved : goal.loop-p-preserved
 loop-p-preserved c =
@@ -32,9 +32,9 @@ loop-p-preserved c =
     let l = c.loop-p in
     let k = K (net_of c.args.net.now.sheet.now) in
     let more = one_more_lem k l.p l.invariant.1 c.one_if_bounded-count.ensures in
-    (length-set l.table _ _ ∙ l.invariant.0, more, filled k l.table l.p (omega (arith, z.pairs_within)) l.invariant.2 more)
+    (length-set l.below _ _ ∙ l.invariant.0, more, filled k l.below l.p (omega (arith, z.pairs_within)) l.invariant.2 more)
 
-pub returns : goal.returns
-returns c =
+pub invariant_of-result : goal.invariant_of-result
+invariant_of-result c =
     let z = sizes c.args.net.now.is_open in
-    record { each = λ p h. c.loop-p.invariant.2 p (omega (arith, z.pairs)) }
+    record { below_are = record { each = λ p h. c.loop-p.invariant.2 p (omega (arith, z.pairs)) } }

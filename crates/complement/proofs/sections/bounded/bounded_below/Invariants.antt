@@ -9,4 +9,4 @@ use Rattle.complement.proofs.sections.bounded.bounded_below.Given as goal
 
 abbrev pub invariant-loop-p : goal.invariant-loop-p
 invariant-loop-p l =
-    (length l.table ≡ 257) × (l.count ≡ bounded_below (K (net_of l.net.sheet.now)) l.p) × UpTo (K (net_of l.net.sheet.now)) l.table l.p
+    (length l.below ≡ 257) × (l.count ≡ bounded_below (K (net_of l.net.sheet.now)) l.p) × UpTo (K (net_of l.net.sheet.now)) l.below l.p

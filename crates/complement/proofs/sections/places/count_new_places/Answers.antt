@@ -17,7 +17,7 @@ loop-place-init c = (refl, count_none _, search rules)
 pub overflow_add-end : goal.overflow_add-end
 overflow_add-end c =
     let l = c.loop-place in
-    let o = c.args.net.now.is_open in
+    let o = c.args.bounded.now.net.now.is_open in
     let z = sizes o in
     let next = next-first o l.place c.loop-place-test.true l.invariant.0 c.colours_of.ensures.0 in
     omega (arith, z.pairs_within)
@@ -25,13 +25,13 @@ overflow_add-end c =
 pub half_colours-requires : goal.half_colours-requires
 half_colours-requires c = let l = c.loop-place in
     let pre = c.requires in
-    let next = next-first c.args.net.now.is_open l.place c.loop-place-test.true l.invariant.0 c.colours_of.ensures.0 in record { below_are = pre.below_are; first_le_end = (omega arith, next.1) }
+    let next = next-first c.args.bounded.now.net.now.is_open l.place c.loop-place-test.true l.invariant.0 c.colours_of.ensures.0 in record { first_le_end = (omega arith, next.1) }
 
 pub loop-place-preserved : goal.loop-place-preserved
 loop-place-preserved c =
     let l = c.loop-place in
-    let o = c.args.net.now.is_open in
-    let net = net_of c.args.net.now.sheet.now in
+    let o = c.args.bounded.now.net.now.is_open in
+    let net = net_of c.args.bounded.now.net.now.sheet.now in
     let next = next-first o l.place c.loop-place-test.true l.invariant.0 c.colours_of.ensures.0 in
     let one = c.count_place-count.ensures.0 ∙ ap length (half_place_lem net Complement l.place l.invariant.0 next.0 c.half_colours.ensures.0) in
     (rw add-one next.0, count-more (half_place net Complement) l.place l.invariant.1 one, search rules)
@@ -39,6 +39,6 @@ loop-place-preserved c =
 pub returns : goal.returns
 returns c =
     let l = c.loop-place in
-    let z = sizes c.args.net.now.is_open in
-    let e : l.place ≡ c.args.net.now.shape.places = omega arith in
+    let z = sizes c.args.bounded.now.net.now.is_open in
+    let e : l.place ≡ c.args.bounded.now.net.now.shape.places = omega arith in
     (rw e at l.invariant.1, omega (arith, z.places, z.well_formed.places.many))

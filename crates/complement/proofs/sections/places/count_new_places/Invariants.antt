@@ -11,4 +11,4 @@ use Rattle.complement.proofs.sections.places.count_new_places.Given as goal
 
 abbrev pub invariant-loop-place : goal.invariant-loop-place
 invariant-loop-place l =
-    (l.first ≡ first_pair_of (net_of l.net.sheet.now) l.place) × (l.count ≡ length (joined l.place (half_place (net_of l.net.sheet.now) Complement))) × (l.count ≤ l.place)
+    (l.first ≡ first_pair_of (net_of l.bounded.net.now.sheet.now) l.place) × (l.count ≡ length (joined l.place (half_place (net_of l.bounded.net.now.sheet.now) Complement))) × (l.count ≤ l.place)

@@ -9,4 +9,4 @@ use Rattle.complement.proofs.sections.places.put_half_places.Given as goal
 
 abbrev pub invariant-loop-place : goal.invariant-loop-place
 invariant-loop-place l =
-    (l.first ≡ first_pair_of (net_of l.net.sheet.now) l.place) × Puts l.initial.out l.at (joined l.place (place_bytes (net_of l.net.sheet.now) l.half)) l.out l.next
+    (l.first ≡ first_pair_of (net_of l.bounded.net.now.sheet.now) l.place) × Puts l.initial.out l.at (joined l.place (place_bytes (net_of l.bounded.net.now.sheet.now) l.half)) l.out l.next

@@ -5,10 +5,10 @@ use Rattle.sheets.proofs.written.Puts.{room_as, puts_as, room-first, room_next, 
 use Rattle.complement.proofs.sections.places.put_places.Goals as goal
 
 pub put_half_places-next-requires : goal.put_half_places-next-requires
-put_half_places-next-requires c = let pre = c.requires in record { below_are = pre.below_are; room = room-first _ _ (room_as (place-parts c.args.net.now.is_open) pre.room) }
+put_half_places-next-requires c = let pre = c.requires in record { room = room-first _ _ (room_as (place-parts c.args.bounded.now.net.now.is_open) pre.room) }
 
 pub put_half_places-requires : goal.put_half_places-requires
-put_half_places-requires c = let pre = c.requires in record { below_are = pre.below_are; room = room_next _ _ (room_as (place-parts c.args.net.now.is_open) pre.room) c.put_half_places-next.ensures }
+put_half_places-requires c = let pre = c.requires in record { room = room_next _ _ (room_as (place-parts c.args.bounded.now.net.now.is_open) pre.room) c.put_half_places-next.ensures }
 
 pub returns : goal.returns
-returns c = puts_as (sym (place-parts c.args.net.now.is_open)) (puts-both c.put_half_places-next.ensures c.put_half_places.ensures)
+returns c = puts_as (sym (place-parts c.args.bounded.now.net.now.is_open)) (puts-both c.put_half_places-next.ensures c.put_half_places.ensures)

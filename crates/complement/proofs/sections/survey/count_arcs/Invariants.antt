@@ -7,4 +7,4 @@ use Rattle.complement.specs.sections.Arcs.{row_arcs}
 use Rattle.complement.proofs.sections.survey.count_arcs.Given as goal
 
 abbrev pub invariant-loop-t : goal.invariant-loop-t
-invariant-loop-t l = (l.count ≡ length (joined l.t (row_arcs (net_of l.net.sheet.now))))
+invariant-loop-t l = (l.count ≡ length (joined l.t (row_arcs (net_of l.bounded.net.now.sheet.now))))

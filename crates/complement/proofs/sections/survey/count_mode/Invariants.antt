@@ -8,4 +8,4 @@ use Rattle.complement.proofs.sections.ModeHalves.{both_halves}
 use Rattle.complement.proofs.sections.survey.count_mode.Given as goal
 
 abbrev pub invariant-loop-i : goal.invariant-loop-i
-invariant-loop-i l = (l.count ≡ length (joined l.i (λ k. both_halves (net_of l.net.sheet.now) (l.arcs.start + k)))) × (l.count ≤ 2 * l.i)
+invariant-loop-i l = (l.count ≡ length (joined l.i (λ k. both_halves (net_of l.bounded.net.now.sheet.now) (l.arcs.start + k)))) × (l.count ≤ 2 * l.i)

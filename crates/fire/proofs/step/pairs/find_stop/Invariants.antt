@@ -8,4 +8,4 @@ use Rattle.fire.specs.step.Sums.{sums_at, stop_at}
 use Rattle.fire.proofs.step.pairs.find_stop.Given as goal
 
 abbrev pub invariant-loop-p : goal.invariant-loop-p
-invariant-loop-p l = (first l.p (stop_at l.why (net_of l.net.sheet.now) (sums_at l.pre l.post l.low) l.marking) ≡ none)
+invariant-loop-p l = (first l.p (stop_at l.why (net_of l.net.sheet.now) (sums_at l.sums) l.marking) ≡ none)

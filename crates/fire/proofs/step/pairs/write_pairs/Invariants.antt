@@ -7,4 +7,4 @@ use Rattle.fire.proofs.step.AtPairs.{Moved}
 use Rattle.fire.proofs.step.pairs.write_pairs.Given as goal
 
 abbrev pub invariant-loop-p : goal.invariant-loop-p
-invariant-loop-p l = Moved (sums_at l.pre l.post l.low) l.p l.initial.marking l.marking
+invariant-loop-p l = Moved (sums_at l.sums) l.p l.initial.marking l.marking

@@ -2,10 +2,10 @@
 use Prim.Native.Nat.{◌+◌, ◌≤◌, ◌-◌}
 use Rattle.model.specs.Nets.{arc_no}
 use Rattle.sheets.specs.Decoded.{net_of}
-use Rattle.fire.specs.step.Sums.{Tabled, sums_at}
+use Rattle.fire.specs.step.Sums.{sums_at}
 use Rattle.fire.proofs.step.Adding.{AddedArcs}
 use Rattle.fire.proofs.step.sums.add_arcs.Given as goal
 
 abbrev pub invariant-loop-i : goal.invariant-loop-i
 invariant-loop-i l =
-    Tabled l.pre l.post l.low × AddedArcs (λ k. arc_no (net_of l.net.sheet.now).arcs (l.arcs.start + k)) l.i (sums_at l.initial.pre l.initial.post l.initial.low) (sums_at l.pre l.post l.low)
+    AddedArcs (λ k. arc_no (net_of l.net.sheet.now).arcs (l.arcs.start + k)) l.i (sums_at l.initial.sums) (sums_at l.sums)

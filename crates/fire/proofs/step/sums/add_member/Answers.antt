@@ -9,7 +9,7 @@ arcs_of-requires c =
 pub add_arcs-requires : goal.add_arcs-requires
 add_arcs-requires c =
     let pre = c.requires in
-    record { mode_arcs = c.arcs_of.ensures.own; below = pre.below; tabled = pre.tabled }
+    record { mode_arcs = c.arcs_of.ensures.own; below = pre.below }
 
 pub returns : goal.returns
 returns c = rw c.arcs_of.ensures.mode at c.add_arcs.ensures

@@ -11,7 +11,7 @@ pub loop-k-init : goal.loop-k-init
 loop-k-init c = along-none _ _ _
 
 pub movement-mode-requires : goal.movement-mode-requires
-movement-mode-requires c = let pre = c.requires in record { s_value = pre.read.listed; k_in_bounds = omega (arith, c.loop-k-test.true, counted pre.read pre.run_tells) }
+movement-mode-requires c = let pre = c.requires in record { k_in_bounds = omega (arith, c.loop-k-test.true, counted pre.read pre.run_tells) }
 
 pub offset_bounds-changes-mode : goal.offset_bounds-changes-mode
 offset_bounds-changes-mode c =
