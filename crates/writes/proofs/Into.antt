@@ -35,10 +35,10 @@ module _ (out : List ℕ) (at : ℕ) (bytes : List ℕ) where
       (λ (l : length out < at + length bytes). rw (into_beyond l))
       (le_or_lt (at + length bytes) (length out))
 
-  -- the part of the slice that was copied over
-  pub into_copied : {now : List ℕ} → at + length bytes ≤ length out → now ≡ bytes
-      → take at out ++ (now ++ drop (at + length bytes - at) (drop at out)) ≡ put_into out at bytes
-  into_copied h e = let n : at + (at + length bytes - at) ≡ at + length bytes = omega arith in rw (into_within h, e, drop-drop, n) (sym (append_assoc (take at out) bytes _))
+  -- a part of the slice that was copied over, which is the run from `at` on
+  pub into_copied : {now : List ℕ} {from count : ℕ} → at + length bytes ≤ length out → from ≡ at → count ≡ length bytes → now ≡ bytes
+      → take from out ++ (now ++ drop count (drop from out)) ≡ put_into out at bytes
+  into_copied h f n e = rw (into_within h, f, n, e, drop-drop) (sym (append_assoc (take at out) bytes _))
 
 drop_past : (xs ys : List ℕ) (n k : ℕ) → length xs ≡ n → drop (n + k) (xs ++ ys) ≡ drop k ys
 drop_past xs ys n k e = rw (← e) (drop-append-add xs ys k)

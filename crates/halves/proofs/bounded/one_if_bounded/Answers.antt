@@ -15,4 +15,4 @@ pub overflow_cast-p : goal.overflow_cast-p
 overflow_cast-p c = let z = sizes c.args.net.now.is_open in omega (arith, z.pairs_within)
 
 pub returns : goal.returns
-returns c = c.from.ensures ∙ from-is _ ∙ ap (λ b. cond b 1 0) (c.is_finite.ensures ∙ ap finite c.capacity.ensures)
+returns c = let one = c.from.ensures ∙ from-is _ ∙ ap (λ b. cond b 1 0) (c.is_finite.ensures ∙ ap finite c.capacity.ensures) in omega (arith, one)
