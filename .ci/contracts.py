@@ -11,8 +11,11 @@
 4. Every `..Allows` of a specs/Allowed.antt is the contract of a public call and has its field in Uniqueness, in ConstantAnswers and, where it answers with a
    number of document 01, in CallTables (a field may serve two calls: the comment above it names them); a call for C in UniqueForC and ConstantAnswersForC.
 5. A shared part says something of its result, and of every slice that it is lent to write: an equation whose other side does not speak of it, or a
-   definition or record that some specs/ declares and that is not empty; of a result by `MatchResult`, in both cases.
-6. Every must-fail edit begins with a line that quotes the fact that fails.
+   definition or record that some specs/ declares and that is not empty; of a result by `MatchResult`, in both cases. What the ghost fields of a struct that it
+   makes say of the struct is said of its result.
+6. A `pub fn` in the `impl` of a type is held as any other, under the name `Type::name`. Every function in the `impl` of a trait says something of its result: by
+   its own clauses, or by the law of the trait that the `impl` gives, as `from_gives`.
+7. Every must-fail edit begins with a line that quotes the fact that fails.
 
 `contracts.py --selftest` tries the rules on samples that break them.
 """
@@ -77,11 +80,13 @@ CLAUSE = re.compile(r'\s*(requires|ensures)(?: \*)?(?: \w+)? \{')
 
 
 class Function:
-    """A `pub fn` or `pub(crate) fn`: the crate or module that it belongs to, its parameters, its result, and its clauses.
-    The head begins at the parameters, and what comes after the clauses is not read."""
+    """A `pub fn` or `pub(crate) fn`, or one of a trait's `impl`: the crate or module that it belongs to, its parameters, its result, and its clauses.
+    The head begins at the parameters, and what comes after the clauses is not read. `laws` are what the trait's `impl` says of it, each under its λ;
+    `fields` are the names of the fields of the struct that it makes, with what the struct's ghost fields say of them."""
 
-    def __init__(self, crate, path, head, inner=False, exported=False):
+    def __init__(self, crate, path, head, inner=False, exported=False, trait=False, laws=(), structs=None):
         self.crate, self.path, self.name, self.inner, self.exported = crate, path, path.split('::')[-1], inner, exported
+        self.trait, self.laws = trait, laws
         head = head[head.index('('):]
         end = enclosed(head, 0)
         # (a clause begins a line, and so does the body, but where there is no clause)
@@ -95,6 +100,7 @@ class Function:
         while found := CLAUSE.match(head, at):
             at = enclosed(head, found.end() - 1) + 1
             (self.requires if found.group(1) == 'requires' else self.ensures).append(' '.join(head[found.end():at - 1].split()))
+        self.fields, self.kept = (structs or {}).get(self.result_type.removeprefix('-> '), ((), ()))
 
     def lent(self):
         return [name for name, kind in self.parameters if kind == '&mut ']
@@ -117,6 +123,38 @@ def listed():
     return set(re.findall(r'^\| `([\w:]+)` \|', (top / 'docs/ARCHITECTURE.md').read_text().split('\n\nIn each crate ')[0], re.M))
 
 
+def blocks(text):
+    """Each `impl` of a file: the trait, if it is of one, the type, and what stands between its braces."""
+    for found in re.finditer(r'^impl(?:<[^{]*?>)? (?:([^{]+?) for )?([^{]+?) \{$', text, re.M):
+        yield found.group(1), found.group(2), text[found.end():enclosed(text, found.end() - 1)]
+
+
+def structs_of(text):
+    """What each struct with ghost fields has: the names of its fields, and what the ghost fields say."""
+    out = {}
+    for found in re.finditer(r'^(?:pub(?:\(crate\))? )?struct (\w+)[^{;]*\{$', text, re.M):
+        body = text[found.end():enclosed(text, found.end() - 1)]
+        kept = [body[at.end():enclosed(body, at.end() - 1)].split() for at in re.finditer(r'ghost \w+: \{', body)]
+        names = re.findall(r'^    (?:pub(?:\(crate\))? )?(\w+): ', body, re.M)
+        if kept:
+            out[found.group(1)] = names, [' '.join(said) for said in kept]
+    return out
+
+
+def functions_of(crate, way, text):
+    """The functions of a file that are held to something: the public ones and those of a crate or an `impl`, and every one of a trait's `impl`."""
+    structs = structs_of(text)
+    for found in re.finditer(r'^(#\[unsafe\(no_mangle\)\]\n)?pub(\(crate\))? (extern "C" )?fn (\w+)', text, re.M):
+        exported = bool(found.group(1) and found.group(3))
+        yield Function(crate, '::'.join(way + [found.group(4)]), text[found.end():], bool(found.group(2)), exported, structs=structs)
+    for trait, kind, body in blocks(text):
+        laws = [' '.join(body[at.end():enclosed(body, at.end() - 1)].split()) for at in re.finditer(r'^    ghost \w+ = \{', body, re.M)]
+        for found in re.finditer(r'^    (pub(\(crate\))? )?fn (\w+)', body, re.M):
+            if trait or found.group(1):
+                own = f'<{kind} as {trait}>' if trait else kind
+                yield Function(crate, '::'.join(way + [own, found.group(3)]), body[found.end():], bool(found.group(2)), False, bool(trait), laws if trait else (), structs)
+
+
 def functions():
     parts = listed()
     for file in sorted(top.glob('crates/*/src/**/*.rt')):
@@ -125,10 +163,7 @@ def functions():
         way = [file.relative_to(top).parts[1], *file.relative_to(top).with_suffix('').parts[3:]]
         way = way[:-1] if way[-1] == 'lib' else way
         own = 2 if '::'.join(way[:2]) in parts else 1
-        text = file.read_text()
-        for found in re.finditer(r'^(#\[unsafe\(no_mangle\)\]\n)?pub(\(crate\))? (extern "C" )?fn (\w+)', text, re.M):
-            exported = bool(found.group(1) and found.group(3))
-            yield Function('::'.join(way[:own]), '::'.join(way[own:] + [found.group(4)]), text[found.end():], bool(found.group(2)), exported)
+        yield from functions_of('::'.join(way[:own]), way[own:], file.read_text())
 
 
 def contracts_of(crate):
@@ -202,7 +237,21 @@ def shared_part(f, declared):
     if not subjects:
         return [f'{where} has no result and is lent nothing: there is nothing that it could say']
     return [f'{where} says nothing of {what}' for subject, what in subjects
-            if not any(says(words(e), subject, declared) for e in f.ensures)]
+            if not any(says(words(e), subject, declared) for e in f.ensures) and not (what == 'its result' and made(f, declared))]
+
+
+def made(f, declared):
+    """Whether the struct that a function makes says something of itself, by a ghost field."""
+    return any(says(words(said), rf'(?<!\S){field}(?!\S)', declared) for said in f.kept for field in f.fields)
+
+
+def of_a_trait(f, declared):
+    """The faults of a function in a trait's `impl`: its law binds what it is given, and what it gives last."""
+    said = [case for case in map(bare, map(words, f.laws)) if case[0] == 'λ']
+    laws = [(case[at + 1:], case[at].rstrip('.')) for case in said for at in [next(i for i, word in enumerate(case) if word.endswith('.'))]]
+    if any(says(law, rf'(?<!\S){re.escape(given)}(?:\.\S+)?(?!\S)', declared) for law, given in laws):
+        return []
+    return shared_part(f, declared)
 
 
 def public_call(f, contracts):
@@ -302,6 +351,9 @@ def check_functions(page, faults):
         if f.crate == 'abi_c':
             continue
         count += not f.inner
+        if f.trait:
+            faults += of_a_trait(f, declared)
+            continue
         row = next((line.split('|')[2] for line in parts.split('\n') if line.startswith(f'| `{f.crate}` |')), '')
         if re.search(r'`(?:\w+::)*' + f.name + '`', row):
             faults += shared_part(f, declared)
@@ -391,7 +443,19 @@ PartAllows s out o = o ≡ put s out
         (call % right, call % '⊤', 'pnet_fire_on', True, 1), (call % right, other % right, 'pnet_fire_on', True, 1),
         (call % right, (call % right).replace('    ensures', '    requires { x }\n    ensures'), 'pnet_fire_on', True, 1),
     ]
-    wrong = [f'{head!r}: {found} for {faults}' for head, faults in parts
+    law = 'impl From<Answer> for Told {\n    ghost from_gives = { %s };\n\n    fn from(answer: Answer) -> Told {\n        tell(answer)\n    }\n}\n'
+    table = 'pub struct Table {\n    pub digits: [u8; 2],\n    pub ghost digits_are: { %s },\n}\n\nimpl Table {\n    pub fn new() -> Table {\n        Table { digits }\n    }\n\n    fn own() -> u64 {\n        0\n    }\n}\n'
+    method = 'impl Table {\n    pub fn size(&self) -> u64\n        ensures { %s }\n    {\n        0\n    }\n}\n'
+    impls = [
+        (law % 'λ answer told. told ≡ told_of answer', 0), (law % 'λ answer told. ⊤', 1), (law % 'λ answer told. told ≡ told', 1), (law % 'λ answer told. told_of answer ≡ 0', 1),
+        (law % 'λ answer told. (told.number ≡ number answer) × Rises answer told', 0), (law % 'λ answer told. Empty told', 1), (law.replace('    ghost from_gives = { %s };\n\n', ''), 1),
+        (law.replace('    ghost from_gives = { %s };\n\n', '').replace('-> Told {', '-> Told\n        ensures { result ≡ told_of answer }\n    {'), 0),
+        (table % 'Rises 2 digits', 0), (table % '⊤', 1), (table % 'digits ≡ digits', 1), (table % 'Rises 2 other', 1), (table.replace('    pub ghost digits_are: { %s },\n', ''), 1),
+        (method % 'result ≡ 2', 0), (method % '⊤', 1),
+    ]
+    wrong = [f'{text!r}: {found} for {faults}' for text, faults in impls
+             for found in [[fault for f in functions_of('sample', [], text) for fault in (of_a_trait if f.trait else shared_part)(f, declared)]] if len(found) != faults]
+    wrong += [f'{head!r}: {found} for {faults}' for head, faults in parts
              for found in [shared_part(Function('sample', 'part', head), declared)] if len(found) != faults]
     wrong += [f'{head!r}: {found} for {faults}' for head, contracts, faults in calls
               for found in [public_call(Function('sample', 'fire_on', head), contracts)] if len(found) != faults]
@@ -401,7 +465,7 @@ PartAllows s out o = o ≡ put s out
               for found in [exports([Function('abi', 'moving::pnet_fire_on', one)], [Function('abi_c', f'moving::{name}', two, exported=exported)])] if len(found) != faults]
     for text in wrong:
         print('selftest: ' + text, file=sys.stderr)
-    print(f'contracts: {len(parts) + len(calls) + len(records) + len(for_c)} samples, {len(wrong)} taken wrongly')
+    print(f'contracts: {len(parts) + len(impls) + len(calls) + len(records) + len(for_c)} samples, {len(wrong)} taken wrongly')
     return 1 if wrong else 0
 
 

@@ -157,9 +157,9 @@ impl From<Result<i64, Refusal>> for Weighed {
 
     fn from(figured: Result<i64, Refusal>) -> Weighed {
         match figured {
-            Ok(value) => Weighed {
+            Ok(kilograms) => Weighed {
                 answer: accepted(),
-                value,
+                value: kilograms,
             },
             Err(refusal) => Weighed {
                 answer: refused(refusal),
@@ -174,9 +174,9 @@ impl From<Result<bool, Refusal>> for Decided {
 
     fn from(deadness: Result<bool, Refusal>) -> Decided {
         match deadness {
-            Ok(value) => Decided {
+            Ok(dead) => Decided {
                 answer: accepted(),
-                value,
+                value: dead,
             },
             Err(refusal) => Decided {
                 answer: refused(refusal),

@@ -1,0 +1,5 @@
+-- The report is told as it is.
+use Rattle.answers.proofs.ReportedFromResultReportRefusal.from.Goals as goal
+
+pub returns-in-Ok : goal.returns-in-Ok
+returns-in-Ok c = rw (c.in-Ok.is, c.accepted.ensures, c.into.ensures)
