@@ -13,5 +13,4 @@ pub mod RoundTrip
 mod Accepts
 mod NetAccepts
 pub mod Puts
-pub mod Copies
 pub mod Largest

@@ -38,8 +38,11 @@ pub fn put_part(s: &[u8], start: usize, n: usize, out: &mut [u8], at: usize) -> 
     requires room { Room out.old at (part_of s.now start n) }
     ensures { Puts out.old at (part_of s.now start n) out.new result }
 {
-    out[at..at + n].copy_from_slice(&s[start..start + n]);
-    at + n
+    let mut next = at;
+    for i in 0..n {
+        next = put_byte(out, next, s[start + i]);
+    }
+    next
 }
 
 // A count of 2 bytes.

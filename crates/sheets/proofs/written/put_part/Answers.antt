@@ -1,9 +1,18 @@
-use native.Mathlib.Omega.{arith}
-use Rattle.sheets.proofs.written.Copies.{part_length, copy-puts}
+use Rattle.sheets.proofs.written.Puts.{puts_none, room-more, puts-more, puts-end}
 use Rattle.sheets.proofs.written.put_part.Goals as goal
 
-pub slice_bounds-copy_from_slice-end : goal.slice_bounds-copy_from_slice-end
-slice_bounds-copy_from_slice-end c = omega (arith, c.requires.room.fits, part_length c.args.s.now c.args.start c.args.n)
+pub loop-i-init : goal.loop-i-init
+loop-i-init c = puts_none _
+
+pub put_byte-next-requires : goal.put_byte-next-requires
+put_byte-next-requires c =
+    let l = c.loop-i in
+    (room-more _ l.i l.invariant _ c.requires.room c.loop-i-test.true).fits
+
+pub loop-i-preserved : goal.loop-i-preserved
+loop-i-preserved c =
+    let l = c.loop-i in
+    puts-more _ l.i l.invariant c.put_byte-next.ensures
 
 pub returns : goal.returns
-returns c = copy-puts c.args.s.now c.args.start c.args.n c.args.at c.requires.n_in_bounds c.requires.room c.copy_from_slice.ensures.after
+returns c = let l = c.loop-i in puts-end _ l.i l.invariant _ l.auto.i-end c.loop-i-test.false
