@@ -99,6 +99,8 @@ fn put_weight(twos: &Twos, out: &mut [u8], at: usize, weight: u32) -> usize
 }
 
 // Pre, from the place to the transition, or Post, from the transition to the place: the arc's name, where it goes from and to, and its weight.
+// Inlined, so that each side's words are constants where they are copied (docs/SPEED.md).
+#[inline(always)]
 pub(crate) fn put_line(twos: &Twos, out: &mut [u8], at: usize, side: Side, a: Arc) -> usize
     requires mode_bound { (a.mode.0 < 256) × (a.pair.0 < 256) × (side_weight side a ≤ limit) }
     requires at_in_bounds { at + 108 ≤ length out.old }

@@ -34,6 +34,7 @@ fn put_places(net: &OpenNet, twos: &Twos, out: &mut [u8], at: usize) -> usize
 }
 
 // "A weight must be positive": where Pre or Post is 0 there is no such arc.
+#[inline(always)]
 fn put_side(twos: &Twos, out: &mut [u8], at: usize, side: Side, a: Arc) -> usize
     requires mode_bound { (a.mode.0 < 256) × (a.pair.0 < 256) × (side_weight side a ≤ limit) }
     requires room_for { RoomFor out.old at (side_text side a) }
