@@ -1,5 +1,6 @@
 #!/usr/bin/env python3
-"""Holds to the crates what docs/CONTRACTS.md says is trusted, by what `rt ci` printed when it passed: `claims.py FILE`, with the program built (`tools/build`).
+"""Holds to the crates what docs/CONTRACTS.md says is trusted, by what `rt ci` printed when it passed: `claims.py FILE`, with the program and the library for C
+built (`tools/build`).
 
 1. The kit is one that .ci/kit names, a line each, and every crate was proved by its logic.
 2. No crate's verdict rests on an axiom; a program's rests on the contracts of the C library's `read` and `write`, by way of the kit's `libc`, and of the
@@ -7,6 +8,7 @@
 3. The program calls nothing else of the C library but what starts it and what fills, copies and compares memory.
 4. No crate declares C functions of its own, in an `extern` block.
 5. Every call of include/pnet.h has a row in tests/stack.c.
+6. The library for C needs `memcpy` and `memset` of whoever links it, and nothing else, so that it links where there is no C library.
 
 Of a crate that is kept `rt ci` prints no verdict: an earlier run on this machine, with the same kit, proved the same files over the same libraries. Rules 1 and 2 then
 hold what that run printed, and here no more than that the crate is named. `claims.py --selftest` tries the rules on samples that break them.
@@ -17,6 +19,7 @@ top = pathlib.Path(__file__).resolve().parent.parent
 LIBC = {'libc::read', 'libc::write', 'os::c::rattle_errno'}
 # (the last two groups are what the linker adds to start a program, and what LLVM writes for a loop over memory)
 CALLS = re.compile(r'read|(__)?write|__errno_location|__libc_start_main|__cxa_finalize|__gmon_start__|_ITM_\w+|__sysv_signal|__x86_get_cpuid_feature_leaf|mem(set|cpy|move|cmp)|bcmp')
+ASKED = {'memcpy', 'memset'}
 VERDICT = re.compile(r'logic=proved functions=\d+(?: axioms=\d+)?(?: target=\S+)?(?: cpu=\S+)? sum=(\w+) native=nat,char,string logic-built=trusted'
                      r' libraries-built=trusted statements=trusted')
 
@@ -56,6 +59,12 @@ def reached(program, listed):
     return ([] if names else [f'{program}: no list of what it calls']) + ([f'{program} calls {", ".join(sorted(others))} of the C library'] if others else [])
 
 
+def asked(listed):
+    """What the library for C needs from outside, as `nm -u` lists it."""
+    names = {line.split()[-1] for line in listed.splitlines() if re.match(r'\s+[Uwv] ', line)}
+    return ([] if names else ['no list of what the library for C needs']) + ([f'the library for C needs {", ".join(sorted(names - ASKED))} of whoever links it'] if names - ASKED else [])
+
+
 def foreign(path, source):
     found = re.search(r'\bextern\s*("[^"]*"\s*)?\{', re.sub(r'//.*', '', source))
     return [f'{path} has an `extern` block'] if found else []
@@ -87,6 +96,7 @@ def selftest():
         (verdict('one', True, both, '0a'), 0), (verdict('one', True, both.replace('=3', '=2'), '0a'), 1), (verdict('one', True, rests % 'libc::open', '0a'), 1),
         (verdict('one', True, rests % 'other::write', '0a'), 1), (verdict('one', True, (rests % 'libc::write').replace('axioms libc', 'note libc'), '0a'), 1),
         (reached('one', calls), 0), (reached('one', calls + '                 U fork@GLIBC_2.2.5\n'), 1), (reached('one', ''), 1), (reached('one', calls.replace('read', 'pread')), 1),
+        (asked('\nabi_c.o:\n                 U memcpy\n                 U memset\n'), 0), (asked('\nabi_c.o:\n                 U memcpy\n                 U memmove\n'), 1), (asked(''), 1),
         (foreign('lib.rt', 'extern "C" { fn add(); }'), 1), (foreign('lib.rt', 'pub extern "C" fn add() {'), 0), (foreign('lib.rt', 'extern\n{ fn add(); }'), 1),
         (unmeasured('struct pnet_answer pnet_fire(int net);', '{"pnet_fire", fire, 0, 4096}'), 0), (unmeasured('int pnet_fire(int net);', '{"pnet_fired", 0}'), 1),
     ]
@@ -114,6 +124,7 @@ def main():
             faults += reached(crate, subprocess.run(['nm', '-D', top / 'target/bin' / crate], capture_output=True, text=True).stdout)
     for source in sorted(top.glob('crates/*/src/**/*.rt')):
         faults += foreign(source.relative_to(top), source.read_text())
+    faults += asked(subprocess.run(['nm', '-u', top / 'target/staticlib/libabi.a'], capture_output=True, text=True).stdout)
     faults += unmeasured((top / 'include/pnet.h').read_text(), (top / 'tests/stack.c').read_text())
     for text in faults:
         print(text, file=sys.stderr)

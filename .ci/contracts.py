@@ -14,7 +14,7 @@
    definition or record that some specs/ declares and that is not empty; of a result by `MatchResult`, in both cases. What the ghost fields of a struct that it
    makes say of the struct is said of its result.
 6. A `pub fn` in the `impl` of a type is held as any other, under the name `Type::name`. Every function in the `impl` of a trait says something of its result: by
-   its own clauses, or by the law of the trait that the `impl` gives, as `from_gives`.
+   its own clauses, or by the law that the `impl` gives of it: of `from` that is `from_gives`.
 7. Every must-fail edit begins with a line that quotes the fact that fails.
 
 `contracts.py --selftest` tries the rules on samples that break them.
@@ -148,11 +148,11 @@ def functions_of(crate, way, text):
         exported = bool(found.group(1) and found.group(3))
         yield Function(crate, '::'.join(way + [found.group(4)]), text[found.end():], bool(found.group(2)), exported, structs=structs)
     for trait, kind, body in blocks(text):
-        laws = [' '.join(body[at.end():enclosed(body, at.end() - 1)].split()) for at in re.finditer(r'^    ghost \w+ = \{', body, re.M)]
         for found in re.finditer(r'^    (pub(\(crate\))? )?fn (\w+)', body, re.M):
             if trait or found.group(1):
-                own = f'<{kind} as {trait}>' if trait else kind
-                yield Function(crate, '::'.join(way + [own, found.group(3)]), body[found.end():], bool(found.group(2)), False, bool(trait), laws if trait else (), structs)
+                own, name = f'<{kind} as {trait}>' if trait else kind, found.group(3)
+                laws = [' '.join(body[at.end():enclosed(body, at.end() - 1)].split()) for at in re.finditer(rf'^    ghost {name}_gives = \{{', body, re.M)]
+                yield Function(crate, '::'.join(way + [own, name]), body[found.end():], bool(found.group(2)), False, bool(trait), laws if trait else (), structs)
 
 
 def functions():
@@ -449,6 +449,7 @@ PartAllows s out o = o ≡ put s out
     impls = [
         (law % 'λ answer told. told ≡ told_of answer', 0), (law % 'λ answer told. ⊤', 1), (law % 'λ answer told. told ≡ told', 1), (law % 'λ answer told. told_of answer ≡ 0', 1),
         (law % 'λ answer told. (told.number ≡ number answer) × Rises answer told', 0), (law % 'λ answer told. Empty told', 1), (law.replace('    ghost from_gives = { %s };\n\n', ''), 1),
+        (law.replace('from_gives', 'into_gives') % 'λ answer told. told ≡ told_of answer', 1),
         (law.replace('    ghost from_gives = { %s };\n\n', '').replace('-> Told {', '-> Told\n        ensures { result ≡ told_of answer }\n    {'), 0),
         (table % 'Rises 2 digits', 0), (table % '⊤', 1), (table % 'digits ≡ digits', 1), (table % 'Rises 2 other', 1), (table.replace('    pub ghost digits_are: { %s },\n', ''), 1),
         (method % 'result ≡ 2', 0), (method % '⊤', 1),

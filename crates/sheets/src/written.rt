@@ -38,6 +38,7 @@ pub fn put_part(s: &[u8], start: usize, n: usize, out: &mut [u8], at: usize) -> 
     requires room { Room out.old at (part_of s.now start n) }
     ensures { Puts out.old at (part_of s.now start n) out.new result }
 {
+    // Byte by byte: the library's copy would need `memmove` of whoever links the archive for C.
     let mut next = at;
     for i in 0..n {
         next = put_byte(out, next, s[start + i]);
