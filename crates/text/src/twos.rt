@@ -10,7 +10,7 @@ use crate::digits::write_decimal;
 use writes::write_byte;
 
 // "00" to "99".
-#[derive(Drop)]
+#[derive(Clone, Copy)]
 pub struct Twos {
     pub digits: [u8; 200],
     pub ghost digits_are: { TwosAre 100 digits },
