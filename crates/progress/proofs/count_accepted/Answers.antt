@@ -18,13 +18,13 @@ try_movement-requires c = record { numbered = c.requires.tables.numbered; tries 
 
 pub returns-then-not-try_movement : goal.returns-then-not-try_movement
 returns-then-not-try_movement c =
-    along-stops c.loop-k.invariant c.loop-k-test.true c.mode_at.ensures c.tried_arcs-arcs.ensures c.try_movement.ensures (omega arith) (omega arith) c.if-not-try_movement.true
+    along-stops c.loop-k.invariant (omega (arith, c.loop-k-test.true)) c.mode_at.ensures c.tried_arcs-arcs.ensures c.try_movement.ensures (omega arith) (omega arith) c.if-not-try_movement.true
 
 pub loop-k-preserved : goal.loop-k-preserved
 loop-k-preserved c =
-    along-more c.loop-k.invariant c.loop-k-test.true c.mode_at.ensures c.tried_arcs-arcs.ensures c.try_movement.ensures (omega arith) c.if-not-try_movement.false
+    along-more c.loop-k.invariant (omega (arith, c.loop-k-test.true)) c.mode_at.ensures c.tried_arcs-arcs.ensures c.try_movement.ensures (omega arith) c.if-not-try_movement.false
 
 pub returns : goal.returns
 returns c =
     let e : c.loop-k.k ≡ c.args.count = omega arith in
-    rw e at (along-ends c.loop-k.invariant c.loop-k-test.false)
+    rw e at (along-ends c.loop-k.invariant (omega (arith, c.loop-k-test.false)))
