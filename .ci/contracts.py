@@ -76,17 +76,24 @@ def enclosed(text, at):
     return len(text) - 1
 
 
+def source(text):
+    """The text of a file without comments, and with no bracket in a string or a character: what is left has its brackets in pairs."""
+    def blank(found):
+        return '' if found.group(0).startswith('//') else re.sub(r'[][(){}]', ' ', found.group(0))
+    return re.sub(r'"(?:\\.|[^"\\])*"|\'(?:\\.|[^\'\\\n])\'|//[^\n]*', blank, text)
+
+
 CLAUSE = re.compile(r'\s*(requires|ensures)(?: \*)?(?: \w+)? \{')
 
 
 class Function:
     """A `pub fn` or `pub(crate) fn`, or one of a trait's `impl`: the crate or module that it belongs to, its parameters, its result, and its clauses.
     The head begins at the parameters, and what comes after the clauses is not read. `laws` are what the trait's `impl` says of it, each under its λ;
-    `fields` are the names of the fields of the struct that it makes, with what the struct's ghost fields say of them."""
+    `fields` are the names of the fields of the struct that it makes, and `kept` is what the struct's ghost fields say. `label` is how a page names it."""
 
-    def __init__(self, crate, path, head, inner=False, exported=False, trait=False, laws=(), structs=None):
+    def __init__(self, crate, path, head, inner=False, exported=False, kind='', trait=False, laws=(), structs=None):
         self.crate, self.path, self.name, self.inner, self.exported = crate, path, path.split('::')[-1], inner, exported
-        self.trait, self.laws = trait, laws
+        self.label, self.trait, self.laws = f'{kind}::{self.name}' if kind else self.name, trait, laws
         head = head[head.index('('):]
         end = enclosed(head, 0)
         # (a clause begins a line, and so does the body, but where there is no clause)
@@ -94,7 +101,8 @@ class Function:
         self.result_type = head[end + 1:after.start() if after else len(head)].strip()
         # (a long head has its parameters on lines of their own)
         self.signature = re.sub(r'\( | (?=\))|, ?(?=\))', lambda m: m.group(0).strip(', '), ' '.join((head[:end + 1] + ' ' + self.result_type).split()))
-        self.parameters = re.findall(r'(\w+): (&mut |&\[|&)?', head[1:end])
+        self.parameters = re.findall(r'^\s*()(&mut )(?=self\b)', head[1:end]) + re.findall(r'(\w+): (&mut |&\[|&)?', head[1:end])
+        self.parameters = [(name or 'self', kind) for name, kind in self.parameters]
         self.returns = self.result_type.startswith('->')
         self.requires, self.ensures, at = [], [], end + 1 + len(head[end + 1:after.start()]) if after else len(head)
         while found := CLAUSE.match(head, at):
@@ -125,14 +133,23 @@ def listed():
 
 def blocks(text):
     """Each `impl` of a file: the trait, if it is of one, the type, and what stands between its braces."""
-    for found in re.finditer(r'^impl(?:<[^{]*?>)? (?:([^{]+?) for )?([^{]+?) \{$', text, re.M):
-        yield found.group(1), found.group(2), text[found.end():enclosed(text, found.end() - 1)]
+    for found in re.finditer(r'^(?:unsafe )?impl\b([^{]*)\{', text, re.M):
+        head = ' '.join(found.group(1).split())
+        if head.startswith('<'):
+            depth = 0
+            for at, sign in enumerate(head):
+                depth += (sign == '<') - (sign == '>' and head[at - 1] != '-')
+                if depth == 0:
+                    break
+            head = head[at + 1:].strip()
+        parts = re.split(r' where\b', head)[0].split(' for ')
+        yield parts[0] if len(parts) == 2 else None, parts[-1].strip(), text[found.end():enclosed(text, found.end() - 1)]
 
 
 def structs_of(text):
     """What each struct with ghost fields has: the names of its fields, and what the ghost fields say."""
     out = {}
-    for found in re.finditer(r'^(?:pub(?:\(crate\))? )?struct (\w+)[^{;]*\{$', text, re.M):
+    for found in re.finditer(r'^(?:pub(?:\(crate\))? )?struct (\w+)[^{;(]*\{', text, re.M):
         body = text[found.end():enclosed(text, found.end() - 1)]
         kept = [body[at.end():enclosed(body, at.end() - 1)].split() for at in re.finditer(r'ghost \w+: \{', body)]
         names = re.findall(r'^    (?:pub(?:\(crate\))? )?(\w+): ', body, re.M)
@@ -143,16 +160,17 @@ def structs_of(text):
 
 def functions_of(crate, way, text):
     """The functions of a file that are held to something: the public ones and those of a crate or an `impl`, and every one of a trait's `impl`."""
+    text = source(text)
     structs = structs_of(text)
-    for found in re.finditer(r'^(#\[unsafe\(no_mangle\)\]\n)?pub(\(crate\))? (extern "C" )?fn (\w+)', text, re.M):
+    for found in re.finditer(r'^(#\[unsafe\(no_mangle\)\]\n)?pub(\(crate\))? (?:const )?(?:unsafe )?(extern "C" )?fn (\w+)', text, re.M):
         exported = bool(found.group(1) and found.group(3))
         yield Function(crate, '::'.join(way + [found.group(4)]), text[found.end():], bool(found.group(2)), exported, structs=structs)
     for trait, kind, body in blocks(text):
-        for found in re.finditer(r'^    (pub(\(crate\))? )?fn (\w+)', body, re.M):
+        for found in re.finditer(r'^    (pub(\(crate\))? )?(?:const )?(?:unsafe )?fn (\w+)', body, re.M):
             if trait or found.group(1):
-                own, name = f'<{kind} as {trait}>' if trait else kind, found.group(3)
+                own, name = f'<{kind} as {trait}>' if trait else kind.split('<')[0], found.group(3)
                 laws = [' '.join(body[at.end():enclosed(body, at.end() - 1)].split()) for at in re.finditer(rf'^    ghost {name}_gives = \{{', body, re.M)]
-                yield Function(crate, '::'.join(way + [own, name]), body[found.end():], bool(found.group(2)), False, bool(trait), laws if trait else (), structs)
+                yield Function(crate, '::'.join(way + [own, name]), body[found.end():], bool(found.group(2)), False, own, bool(trait), laws if trait else (), structs)
 
 
 def functions():
@@ -245,12 +263,20 @@ def made(f, declared):
     return any(says(words(said), rf'(?<!\S){field}(?!\S)', declared) for said in f.kept for field in f.fields)
 
 
+def under(law):
+    """What a law says, and the last name that its λ, or those one after another, bind."""
+    given = ''
+    while (law := bare(law)) and law[0] == 'λ':
+        at = next((i for i, word in enumerate(law) if word.endswith('.')), len(law) - 1)
+        given, law = law[at].rstrip('.'), law[at + 1:]
+    return law, given
+
+
 def of_a_trait(f, declared):
     """The faults of a function in a trait's `impl`: its law binds what it is given, and what it gives last."""
-    said = [case for case in map(bare, map(words, f.laws)) if case[0] == 'λ']
-    laws = [(case[at + 1:], case[at].rstrip('.')) for case in said for at in [next(i for i, word in enumerate(case) if word.endswith('.'))]]
-    if any(says(law, rf'(?<!\S){re.escape(given)}(?:\.\S+)?(?!\S)', declared) for law, given in laws):
-        return []
+    for law, given in map(under, map(words, f.laws)):
+        if given and says(law, rf'(?<!\S){re.escape(given)}(?:\.\S+)?(?!\S)', declared):
+            return []
     return shared_part(f, declared)
 
 
@@ -355,7 +381,7 @@ def check_functions(page, faults):
             faults += of_a_trait(f, declared)
             continue
         row = next((line.split('|')[2] for line in parts.split('\n') if line.startswith(f'| `{f.crate}` |')), '')
-        if re.search(r'`(?:\w+::)*' + f.name + '`', row):
+        if re.search(r'`(?:[a-z_]\w*::)*' + re.escape(f.label) + '`', row):
             faults += shared_part(f, declared)
             continue
         if f.inner:
@@ -452,7 +478,10 @@ PartAllows s out o = o ≡ put s out
         (law.replace('from_gives', 'into_gives') % 'λ answer told. told ≡ told_of answer', 1),
         (law.replace('    ghost from_gives = { %s };\n\n', '').replace('-> Told {', '-> Told\n        ensures { result ≡ told_of answer }\n    {'), 0),
         (table % 'Rises 2 digits', 0), (table % '⊤', 1), (table % 'digits ≡ digits', 1), (table % 'Rises 2 other', 1), (table.replace('    pub ghost digits_are: { %s },\n', ''), 1),
-        (method % 'result ≡ 2', 0), (method % '⊤', 1),
+        (method % 'result ≡ 2', 0), (method % '⊤', 1), (method.replace('pub fn', 'pub const fn') % '⊤', 1), (method.replace('&self', '&mut self') % 'result ≡ 2', 1),
+        (method.replace('&self', '&mut self') % '(result ≡ 2) × (self.new ≡ grown self.old)', 0), ((method % '⊤').replace('Table {', 'Table { // a comment {'), 1),
+        ((method % '⊤').replace('    pub', "    fn close() -> u8 {\n        b'}'\n    }\n\n    pub"), 1), ((method % '⊤').replace('impl Table {', 'impl<T> Table<T>\nwhere\n    T: Copy,\n{'), 1),
+        ((law % '⊤').replace('impl From', 'unsafe impl<T> From'), 1), (law % 'λ answer. λ told. told ≡ told_of answer', 0), (law % 'λ answer. λ told. number_of answer ≡ 1', 1),
     ]
     wrong = [f'{text!r}: {found} for {faults}' for text, faults in impls
              for found in [[fault for f in functions_of('sample', [], text) for fault in (of_a_trait if f.trait else shared_part)(f, declared)]] if len(found) != faults]
